@@ -1,0 +1,16 @@
+// What a public call answers beside the buffers that it was lent.
+
+// A call that writes a table: the number of 01 and the length of the answer in bytes.
+pub struct Wrote {
+    pub number: u8,
+    pub length: usize,
+}
+
+// A run: the number of 01, and what "A run answers outcome, steps, trace length and the variables" names.
+pub struct Ran {
+    pub number: u8,
+    pub outcome: u8,
+    pub steps: u16,
+    pub traced: u16,
+    pub variables: [u16; 16],
+}

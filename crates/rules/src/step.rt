@@ -1,0 +1,11 @@
+// What a step answers, and so what a run ends with (01, "Outcomes"). specs/Step.antt lists the number of each.
+pub enum Step {
+    // The run goes on at this row or line; a run that ends so has spent its budget.
+    Went(u16),
+    Finished,
+    Alarm,
+    // So many functions are open already.
+    TooManyOpen(u16),
+    // The place of the jump is beyond this last place of the running function.
+    Beyond(u16),
+}
