@@ -1,24 +1,10 @@
 -- The listing and the ten cases of 01 hold of the definitions, by computation. Assumes nothing.
-use mathlib.Core.Path.{_≡_, refl}
-use Rattle.rules.specs.Bytes.{same, first}
-use Rattle.rules.specs.Row.{kindOf, kindByte, rowIn, rowsFrom, tableOf, rowBytes, tableBytes, fieldsFit}
-use Rattle.rules.specs.Scan.{regions, openAt, endOf, elseOf, functions, functionRow}
-use Rattle.rules.specs.Refusal.{refusalNumber, numberOf}
-use Rattle.rules.specs.Check.{misplacedIn, oneTooMany, rowVerdict, rowsVerdict, callsVerdict, tableVerdict, verdictOf}
-use Rattle.rules.specs.Value.{taken, base, value}
-use Rattle.rules.specs.Line.{lineBytes, linesBytes, lineIn, linesFrom, linesIn}
-use Rattle.rules.specs.Harden.{lineOf, testOf, endValue, rowLines, hardenTo, hardenedBytes}
-use Rattle.rules.specs.Function.{functionAt, startOf}
-use Rattle.rules.specs.ReadBack.{rowFor, unreadTo, sourceBytes, isHardened}
-use Rattle.rules.specs.Variables.{doneOn, holdsOn}
-use Rattle.rules.specs.Run.{outcomeOf, run}
-use Rattle.rules.specs.Source.{falseRow, rowStep, sourceStep}
-use Rattle.rules.specs.Hardened.{lineStep, hardenedStep}
-use Rattle.rules.specs.Calls.{writing, hardenCall, readBackCall, running, runSourceCall, zeros, countersAfter, hardenedVerdict, runHardenedCall}
-use Rattle.rules.specs.Cases.{rows, lines, words, Cases}
+use mathlib.Core.Path.{refl}
+use Rattle.rules.specs.Cases.{rows, lines, Cases}
+use Rattle.rules.proofs.Compute.{compute}
 
 pub cases : Cases
-unfolding rows lines words same first kindOf kindByte rowIn rowsFrom tableOf rowBytes tableBytes fieldsFit regions openAt endOf elseOf functions functionRow refusalNumber numberOf misplacedIn oneTooMany rowVerdict rowsVerdict callsVerdict tableVerdict verdictOf taken base value lineBytes linesBytes lineIn linesFrom linesIn lineOf testOf endValue rowLines hardenTo hardenedBytes functionAt startOf rowFor unreadTo sourceBytes isHardened doneOn holdsOn outcomeOf run falseRow rowStep sourceStep lineStep hardenedStep writing hardenCall readBackCall running runSourceCall zeros countersAfter hardenedVerdict runHardenedCall
+unfolding rows lines compute
 cases =
     record {
       listing = refl;

@@ -2,7 +2,7 @@
 -- variables, and what every lent buffer holds afterwards (01, "What turns a call away" and "Running").
 use Prim.Native.Nat.{ℕ}
 use mathlib.Core.Bool.{Bool, _||_, not}
-use mathlib.Core.List.{List, [], _++_}
+use mathlib.Core.List.{List, _++_}
 use lib.Dec.{ltb}
 use lib.ListN.{length, drop, replicate}
 use Rattle.rules.specs.declared.answer.Wrote.{Wrote}
@@ -19,7 +19,7 @@ use Rattle.rules.specs.Line.{linesIn}
 use Rattle.rules.specs.ReadBack.{sourceBytes, isHardened}
 use Rattle.rules.specs.Run.{Answer, outcomeOf}
 use Rattle.rules.specs.Source.{sourceRun}
-use Rattle.rules.specs.Hardened.{Counters, strikeBy, hardenedRun}
+use Rattle.rules.specs.Hardened.{strikeBy, hardenedRun}
 
 -- "bytes and slots beyond the answer unchanged": a buffer that held this, with the answer at its front
 abbrev pub over : (answer held : List ℕ) → List ℕ

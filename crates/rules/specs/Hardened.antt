@@ -1,6 +1,6 @@
 -- The hardened machine: a run of a hardened table, line by line, over its lines alone (01, "The hardened lines" and "Running").
 use Prim.Native.Nat.{ℕ, suc, _+_}
-use mathlib.Core.Bool.{Bool, true, false, cond, not, _&&_}
+use mathlib.Core.Bool.{Bool, true, false, cond, _&&_}
 use mathlib.Core.List.{List, [], _∷_}
 use lib.Dec.{eqb, ltb, leb}
 use Rattle.rules.specs.declared.step.Step.the-variants.{Finished, Alarm, TooManyOpen, Beyond}

@@ -15,4 +15,10 @@ pub mod Run
 pub mod Source
 pub mod Hardened
 pub mod Calls
+pub mod Listing
 pub mod Cases
+pub mod Report
+pub mod Refusals
+pub mod Arithmetic
+pub mod Match
+pub mod Demands

@@ -51,7 +51,7 @@ unfoldable pub lineIn : List ℕ → ℕ → Line
 lineIn bs k =
     let kind = getD bs k 0 in
     let o : Operands =
-        record { op = getD bs (k + 1) 0; p = getD bs (k + 2) 0; q = getD bs (k + 3) 0; n = wordAt bs (k + 4) } in
+    record { op = getD bs (k + 1) 0; p = getD bs (k + 2) 0; q = getD bs (k + 3) 0; n = wordAt bs (k + 4) } in
     let r = getD bs (k + 6) 0 in
     let s = getD bs (k + 7) 0 in
     let t = getD bs (k + 8) 0 in

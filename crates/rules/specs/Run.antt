@@ -1,6 +1,6 @@
 -- Steps, budget and outcome: what every run shares, whichever machine steps (01, "Running").
 use Prim.Native.Nat.{ℕ, zero, suc, _+_}
-use mathlib.Core.Bool.{Bool, true, false, cond}
+use mathlib.Core.Bool.{Bool, cond}
 use Rattle.rules.specs.declared.step.Step.{Step}
 use Rattle.rules.specs.declared.step.Step.the-variants.{Went, Finished, Alarm, TooManyOpen, Beyond}
 use Rattle.rules.specs.State.{State}

@@ -1,0 +1,130 @@
+-- The customer's demand 3, in words and then as a type. proofs/ proves it.
+--
+-- Take any bytes that are a hardened table, any first values of the variables, any budget and any jump. Then, of the whole run
+-- from line 0 of function 0 to wherever it stops:
+--
+-- Unstruck. Without the jump the run stops with the outcome, trace, variables and open functions of its source's run whose
+-- budget is the matching step; that source run takes exactly the matching step; the outcome is never an alarm.
+--
+-- Finishing. Where the source's run finishes in n steps with t dos and c calls, the hardened run finishes in n + t + c steps,
+-- if the budget holds them.
+--
+-- Not struck. A jump that comes at or past the run's end, or at a step that the budget does not hold, changes nothing.
+--
+-- Beyond. A jump that strikes and goes beyond place m ends the run with outcome 4 after k steps, with nothing more done.
+--
+-- Caught. After a jump that strikes and is wide, the alarm comes in step k if the place is before a guard, or is m with one
+-- function open, and else in step k + 1; a budget that ends before that step gives outcome 0. Trace and variables are what the
+-- first k steps left, with the do at that place, if one stands there, done on them once.
+--
+-- The "source's run" is that of the table which the bytes are read back to.
+use Prim.Native.Nat.{ℕ, suc, _+_, _≤_, _<_}
+use mathlib.Core.Logic.{_≢_}
+use mathlib.Core.Path.{_≡_}
+use mathlib.Core.Bool.{Bool, true, false, cond, not, _&&_}
+use mathlib.Core.List.{List}
+use lib.Dec.{eqb, ltb}
+use Rattle.rules.specs.declared.step.Step.the-variants.{Beyond}
+use Rattle.rules.specs.Limits.{noStep}
+use Rattle.rules.specs.Row.{Table, tableOf}
+use Rattle.rules.specs.Line.{Line, doLine, tickLine, testLine, leaveLine, outLine, callLine, backLine, retLine, lineAt, isGuard, linesIn}
+use Rattle.rules.specs.Function.{lastPlace}
+use Rattle.rules.specs.ReadBack.{sourceBytes, isHardened}
+use Rattle.rules.specs.State.{did, depth}
+use Rattle.rules.specs.Run.{Answer, outcomeOf}
+use Rattle.rules.specs.Source.{sourceRun}
+use Rattle.rules.specs.Hardened.{Counters, Hardened, none, strikeBy, placeLine, hardenedRun}
+use Rattle.rules.specs.Match.{shown, matching, dosIn, callsIn, guardBetween}
+
+-- ---- unstruck
+pub record Unstruck (ls : List Line) (t : Table) (vs : List ℕ) (b : ℕ) : Type 0 where
+  pub as-source : shown (hardenedRun ls none b vs) ≡ shown (sourceRun t (matching ls b vs) vs)
+  pub at-matching : (sourceRun t (matching ls b vs) vs) .steps ≡ matching ls b vs
+  pub no-alarm : outcomeOf ((hardenedRun ls none b vs) .step) ≢ 2
+
+-- the source's run of budget b finishes, and the hardened run has the budget c for it
+pub record Finishing (ls : List Line) (t : Table) (vs : List ℕ) (b c : ℕ) : Type 0 where
+  pub finishes : outcomeOf ((sourceRun t b vs) .step) ≡ 1 → (sourceRun t b vs) .steps + dosIn t b vs + callsIn t b vs ≤ c
+      → outcomeOf ((hardenedRun ls none c vs) .step) ≡ 1
+  pub in-steps : outcomeOf ((sourceRun t b vs) .step) ≡ 1 → (sourceRun t b vs) .steps + dosIn t b vs + callsIn t b vs ≤ c
+      → (hardenedRun ls none c vs) .steps ≡ (sourceRun t b vs) .steps + dosIn t b vs + callsIn t b vs
+
+-- ---- a jump before step k
+-- what the first k steps of the unstruck run come to
+abbrev pub before : List Line → (vs : List ℕ) → (k : ℕ) → Answer Counters
+before ls vs k = hardenedRun ls none k vs
+
+-- "a run that ends before k, or whose budget is k, is not struck"; "k = 65,535 is no jump"
+abbrev pub strikes : List Line → (vs : List ℕ) → (b k : ℕ) → Bool
+strikes ls vs b k = not (eqb k noStep) && ltb k b && eqb (outcomeOf ((before ls vs k) .step)) 0
+
+-- "in step k if the place is before a guard, or is m with one function open; in step k + 1 if it is before a do .. or is m with
+-- more open"
+unfoldable pub alarmStep : List Line → (place k : ℕ) → Hardened → ℕ
+alarmStep ls p k s =
+    cond (eqb p (lastPlace ls (s .running .function))) (cond (eqb (depth s) 1) k (suc k))
+    (cond (isGuard (lineAt ls (placeLine ls p s))) k (suc k))
+
+-- "with the do at that place, if one stands there, done on them once"
+abbrev pub doneBy : Line → Hardened → Hardened
+doneBy (doLine o e) s = did o e s
+doneBy (tickLine r e a) s = s
+doneBy (testLine o r s t e a b c go) now = now
+doneBy (leaveLine r s e a b go) now = now
+doneBy (outLine r s t e a go) now = now
+doneBy (callLine r e a b go) s = s
+doneBy (backLine r e a b) s = s
+doneBy (retLine e a) s = s
+
+unfoldable pub doneAt : List Line → (place : ℕ) → Hardened → Hardened
+doneAt ls p s =
+    cond (eqb p (lastPlace ls (s .running .function))) s (doneBy (lineAt ls (placeLine ls p s)) s)
+
+-- what 01 says of a struck run
+pub record Struck : Type 0 where
+  pub outcome : ℕ
+  pub steps : ℕ
+  pub trace : List ℕ
+  pub variables : List ℕ
+
+abbrev pub struckShown : Answer Counters → Struck
+struckShown a =
+    record { outcome = outcomeOf (a .step); steps = a .steps; trace = a .state .trace; variables = a .state .vars }
+
+-- the alarm in step x where the budget b holds that step, else the budget spent; s has what is left
+abbrev pub alarmIn : (x b : ℕ) → Hardened → Struck
+alarmIn x b s =
+    record {
+      outcome = cond (ltb x b) 2 0;
+      steps = cond (ltb x b) (suc x) b;
+      trace = s .trace;
+      variables = s .vars;
+    }
+
+-- "After a wide jump out of an unstruck run"
+unfoldable pub caughtFrom : List Line → (b k place : ℕ) → Hardened → Struck
+caughtFrom ls b k p s = alarmIn (alarmStep ls p k s) b (doneAt ls p s)
+
+pub record Jumped (ls : List Line) (vs : List ℕ) (b k p : ℕ) : Type 0 where
+  pub not-struck : strikes ls vs b k ≡ false → hardenedRun ls (strikeBy k p) b vs ≡ hardenedRun ls none b vs
+  pub beyond : strikes ls vs b k ≡ true → lastPlace ls ((before ls vs k) .state .running .function) < p
+      → hardenedRun ls (strikeBy k p) b vs
+      ≡ record {
+        step = Beyond (lastPlace ls ((before ls vs k) .state .running .function));
+        steps = k;
+        state = (before ls vs k) .state;
+      }
+  pub caught : strikes ls vs b k ≡ true → p ≤ lastPlace ls ((before ls vs k) .state .running .function)
+      → guardBetween ls ((before ls vs k) .state .running .at) (placeLine ls p ((before ls vs k) .state)) ≡ true
+      → struckShown (hardenedRun ls (strikeBy k p) b vs) ≡ caughtFrom ls b k p ((before ls vs k) .state)
+
+-- ---- demand 3, of one hardened table, one set of first values, one budget and one jump
+pub record Demand3 (lines vars : List ℕ) (budget k place : ℕ) : Type 0 where
+  pub unstruck : Unstruck (linesIn lines) (tableOf (sourceBytes lines)) vars budget
+  pub finishing : (c : ℕ) → Finishing (linesIn lines) (tableOf (sourceBytes lines)) vars budget c
+  pub jumped : Jumped (linesIn lines) vars budget k place
+
+-- of all of them
+abbrev pub Theorem : Type 0
+Theorem =
+    (lines vars : List ℕ) (budget k place : ℕ) → isHardened lines ≡ true → Demand3 lines vars budget k place
