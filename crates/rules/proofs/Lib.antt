@@ -1,3 +1,12 @@
+pub mod Logic
+pub mod Search
+pub mod Scan
+pub mod Value
+pub mod Accepted
+pub mod Close
+pub mod Harden
+pub mod Function
+pub mod Place
 pub mod Compute
 pub mod Cases
 pub mod Report

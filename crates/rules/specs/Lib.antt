@@ -22,3 +22,5 @@ pub mod Refusals
 pub mod Arithmetic
 pub mod Match
 pub mod Demands
+pub mod Reading
+pub mod Bounds

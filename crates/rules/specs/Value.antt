@@ -34,14 +34,14 @@ takes Call p = 2
 takes Unknown p = 0
 
 -- "Inside its own region": what a row of this kind takes in region g, where the parts fs are open
-abbrev pub takesIn : (g : ℕ) → Kind → List Open → ℕ
-takesIn g k [] = 0
-takesIn g k (f ∷ fs) = cond (eqb (f .region) g) (takes k (f .part)) 0
+abbrev pub takesIn : Kind → (g : ℕ) → List Open → ℕ
+takesIn k g [] = 0
+takesIn k g (f ∷ fs) = cond (eqb (f .region) g) (takes k (f .part)) 0
 
 -- what the rows before row i take in region g
 unfoldable pub taken : Table → (g i : ℕ) → ℕ
 taken t g zero = zero
-taken t g (suc i) = taken t g i + takesIn g (kindAt t i) (openAt t i)
+taken t g (suc i) = taken t g i + takesIn (kindAt t i) g (openAt t i)
 
 -- "A region's size is 1 plus what its direct rows take."
 abbrev pub size : Table → (g : ℕ) → ℕ
