@@ -14,12 +14,13 @@ use Rattle.rules.specs.declared.kind.Kind.{Kind}
 use Rattle.rules.specs.declared.kind.Kind.the-variants.{Function, Do, If, Else, Loop, End, Break, Continue, Call, Unknown}
 use Rattle.rules.specs.Row.{Table, kindAt, operandsAt, fieldsFit}
 use Rattle.rules.specs.Scan.{Part, body, thenPart, elsePart, loopBody, Open, shapeOf, turned, openAfter, regions, openAt, bodyRegion, isFunction, functions, functionCount, functionRow, endOf}
+use Rattle.rules.specs.Value.{past, takes}
 use Rattle.rules.specs.Check.{isThen, misplacedIn, isCall, noSuchFunction}
 use Rattle.rules.proofs.Logic.{clash, and-left, and-right, not-true, not-false}
 use Rattle.rules.proofs.Search.{Found, hit, miss, found, first-now}
 use Rattle.rules.proofs.Accepted.{Proper, ProperRow, outside-nil}
-use Rattle.rules.proofs.Scan.{NotIn, Gone, gone-later, gone-after, by-close, not-closing, open-next}
-use Rattle.rules.proofs.Value.{Silent, a-function, no-kind}
+use Rattle.rules.proofs.Scan.{origin, NotIn, Gone, gone-later, gone-after, by-close, not-closing, open-next}
+use Rattle.rules.proofs.Value.{Silent, a-function, no-kind, Held, takes-past}
 use Rattle.rules.proofs.Close.{end-is, closed-is}
 
 -- ---- the function's body is the last of the open parts, and no other part is a body
@@ -28,6 +29,16 @@ isBody body = true
 isBody thenPart = false
 isBody elsePart = false
 isBody loopBody = false
+
+origin-body : (p : Part) → isBody (origin p) ≡ isBody p
+origin-body body = refl
+origin-body thenPart = refl
+origin-body elsePart = refl
+origin-body loopBody = refl
+
+-- what opened a part that is no body was an if or a loop
+pub held-takes : (t : Table) (j : ℕ) (f : Open) (fs : List Open) (p : Part) → Held t j f fs → isBody (f .part) ≡ false → takes (kindAt t (f .opener)) p ≡ past
+held-takes t j f fs p m b = takes-past (kindAt t (f .opener)) (origin (f .part)) p (m .by) (λ e. clash (ap isBody e) (origin-body (f .part) ∙ b))
 
 abbrev pub Formed : Table → List Open → Type 0
 Formed t [] = Unit {0}

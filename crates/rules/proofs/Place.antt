@@ -56,12 +56,12 @@ occupied : List Open → ℕ
 occupied [] = 0
 occupied (f ∷ fs) = 1
 
-test-no-ret : (t : Table) (i : ℕ) (fs : List Open) (b : Bool) → isRet (testOf t i fs b) ≡ false
+pub test-no-ret : (t : Table) (i : ℕ) (fs : List Open) (b : Bool) → isRet (testOf t i fs b) ≡ false
 unfolding testOf
 test-no-ret t i fs true = refl
 test-no-ret t i fs false = refl
 
-end-ret : (t : Table) (i : ℕ) (fs : List Open) (p : Part) → isRet (endLine t i fs p) ≡ isBody p
+pub end-ret : (t : Table) (i : ℕ) (fs : List Open) (p : Part) → isRet (endLine t i fs p) ≡ isBody p
 end-ret t i fs body = refl
 end-ret t i fs thenPart = refl
 end-ret t i fs elsePart = refl

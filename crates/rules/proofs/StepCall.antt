@@ -1,0 +1,216 @@
+-- The two runs side by side at a call and at a function's end, and the hardened run alone at a tick and a back.
+-- Assumes that the table is accepted.
+use mathlib.Core.Logic.{_⊎_, inl, inr}
+use mathlib.Core.Path.{_≡_, refl, sym, ap, _∙_}
+use mathlib.Core.Bool.{Bool, true, false, cond}
+use mathlib.Core.List.{List, [], _∷_}
+use Prim.Native.Nat.{ℕ, suc, _+_, _-_, _≤_, _<_}
+use native.Mathlib.Nat.{le-refl, add-zero}
+use native.Mathlib.Omega.{arith}
+use lib.ListN.{length}
+use lib.Dec.{eqb, ltb}
+use borrow.Author.Tests.{eq-eqb}
+use Rattle.rules.specs.declared.kind.Kind.{Kind}
+use Rattle.rules.specs.declared.kind.Kind.the-variants.{Do, End, Call}
+use Rattle.rules.specs.declared.step.Step.{Step}
+use Rattle.rules.specs.declared.step.Step.the-variants.{Went, Finished, Alarm, TooManyOpen, Beyond}
+use Rattle.rules.specs.Limits.{maxOpen}
+use Rattle.rules.specs.Row.{Table, kindAt, operandsAt}
+use Rattle.rules.specs.Scan.{body, Open, regions, openAt, bodyRegion, functionCount, functionRow, endOf}
+use Rattle.rules.specs.Value.{base, value, valueIn}
+use Rattle.rules.specs.Line.{Line, tickLine, callLine, backLine, retLine, lineAt}
+use Rattle.rules.specs.Harden.{lineCount, lineOf, ownRegion, endLine, callOf, backOf, endValue, rowLines, harden}
+use Rattle.rules.specs.Function.{functionAt, retValue}
+use Rattle.rules.specs.State.{Frame, State, frame, goTo, depth, opening}
+use Rattle.rules.specs.Run.{Turn, on, ends}
+use Rattle.rules.specs.Source.{returnRow, endRow, callRow, rowStep, sourceStep}
+use Rattle.rules.specs.Hardened.{Counters, Hardened, clear, put, must, leaves, lineStep, hardenedStep}
+use Rattle.rules.proofs.Accepted.{Proper}
+use Rattle.rules.proofs.Scan.{open-next}
+use Rattle.rules.proofs.Value.{value-next, fresh-value}
+use Rattle.rules.proofs.Harden.{line-suc}
+use Rattle.rules.proofs.Function.{InFunction, move-to, entry, body-is, end-same, callee-known}
+use Rattle.rules.proofs.Place.{callee, ret-value}
+use Rattle.rules.proofs.Counters.{counters, counterOf, counter-top, put-top, put-body}
+use Rattle.rules.proofs.Relation.{Back, waiting, sourceBacks, lineBacks, backs-length, src, hard, here, Linked, Caller, ready, backing, Related, Both, both-on, both-end, owing, source-step, line-step, body-below, checked, ready-at}
+
+-- ---- call
+call-line : (ls : List Line) (n k : ℕ) (c : Counters) (rest : List (Frame Counters)) (l : Counters) (vs tr : List ℕ) (r e a b go : ℕ) → eqb (c r) e ≡ true
+    → (y : Bool) → ltb (suc (length rest)) maxOpen ≡ y → lineStep ls k (callLine r e a b go) (hard n k c rest l vs tr)
+    ≡ cond y (on (hard (functionAt ls go) go (put 0 b clear) (frame n (suc k) (put r a c) ∷ rest) l vs tr)) (ends (TooManyOpen maxOpen) (hard n k c rest l vs tr))
+unfolding lineStep
+call-line ls n k c rest l vs tr r e a b go h y z = rw (h, z)
+
+not-finished : TooManyOpen maxOpen ≡ Finished → {d : ℕ} → d ≡ 0
+not-finished e {d} = absurd (let z : _≡_ {A = ℕ} 0 1 = ap number e in omega arith)
+  where
+    number : Step → ℕ
+    number (Went k) = 0
+    number Finished = 1
+    number Alarm = 0
+    number (TooManyOpen k) = 0
+    number (Beyond k) = 0
+
+module _ (t : Table) (ok : Proper t) (n i : ℕ) (f : Open) (fs : List Open) (m : InFunction t n i f fs) (rest : List Back) (lk : Linked t n rest) (l : Counters) (vs tr : List ℕ) (e : kindAt t i ≡ Call) where
+  abbrev called : ℕ
+  called = operandsAt t i .n
+
+  abbrev entryPart : Open
+  entryPart = record { part = body; opener = functionRow t called; region = regions t (functionRow t called) }
+
+  known : called < functionCount t
+  known = callee-known t ok i (m .within) e
+
+  -- the caller waits
+  abbrev left : Counters
+  left = put (f .region - bodyRegion (f ∷ fs)) (value t (f .region) i + 1) (counters t (bodyRegion (f ∷ fs)) (f ∷ fs) (value t (f .region) i))
+
+  waits : left ≡ waiting t i
+  waits = put-top t _ f fs _ _ (body-below t m) ∙ ap (λ s. counters t (bodyRegion s) s (valueIn t i s + 1)) (sym (m .open-is))
+
+  opened : Related t (suc (length rest)) (src called (suc (functionRow t called)) (record { function = n; row = i } ∷ rest) vs tr)
+      (hard (functionAt (harden t) (lineOf t (suc (functionRow t called)))) (lineOf t (suc (functionRow t called))) (put 0 (base t (regions t (functionRow t called))) clear)
+      (frame n (suc (lineOf t i)) left ∷ lineBacks t rest) l vs tr)
+  unfolding known
+  opened =
+      record {
+        n = called;
+        i = suc (functionRow t called);
+        j = suc (functionRow t called);
+        k = lineOf t (suc (functionRow t called));
+        w = base t (regions t (functionRow t called));
+        l = l;
+        rest = record { function = n; row = i } ∷ rest;
+        vs = vs;
+        tr = tr;
+        f = entryPart;
+        fs = [];
+        s-is = refl;
+        h-is = ap (λ x. hard x (lineOf t (suc (functionRow t called))) (put 0 (base t (regions t (functionRow t called))) clear) (frame n (suc (lineOf t i)) left ∷ lineBacks t rest) l vs tr) (callee t ok called known)
+            ∙ ap (λ x. hard called (lineOf t (suc (functionRow t called))) (put 0 (base t (regions t (functionRow t called))) clear) (frame n (suc (lineOf t i)) x ∷ lineBacks t rest) l vs tr) waits
+            ∙ ap (λ x. hard called (lineOf t (suc (functionRow t called))) x (lineBacks t (record { function = n; row = i } ∷ rest)) l vs tr) (put-body t entryPart (base t (regions t (functionRow t called))));
+        in-function = entry t ok called known;
+        linked = (record { calls = e; callee = refl; top = f; others = fs; in-function = m }, lk);
+        mode = ready refl refl (sym (fresh-value t (functionRow t called)));
+        owes = omega arith;
+      }
+
+  pub step-call : Both t (length rest + 1) (sourceStep t (src n i rest vs tr)) (hardenedStep (harden t) (here t n i f fs rest l vs tr))
+  unfolding rowStep rowLines
+  step-call = by (ltb (suc (length (sourceBacks rest))) maxOpen) refl
+    where
+      row-is : (y : Bool) → ltb (suc (length (sourceBacks rest))) maxOpen ≡ y
+          → sourceStep t (src n i rest vs tr) ≡ cond y (on (src called (suc (functionRow t called)) (record { function = n; row = i } ∷ rest) vs tr)) (ends (TooManyOpen maxOpen) (src n i rest vs tr))
+      row-is y ey = source-step t n i rest vs tr e (m .open-is)
+          ∙ ap (λ y. cond y (on (src called (suc (functionRow t called)) (record { function = n; row = i } ∷ rest) vs tr)) (ends (TooManyOpen maxOpen) (src n i rest vs tr))) ey
+
+      line-is : hardenedStep (harden t) (here t n i f fs rest l vs tr) ≡ lineStep (harden t) (lineOf t i) (callOf t i (f ∷ fs) called) (here t n i f fs rest l vs tr)
+      line-is = line-step t ok m (lineOf t i) 0 _ (omega arith) (rw e (omega arith)) (rw e) _ _ l vs tr
+
+      room : (y : Bool) → ltb (suc (length (sourceBacks rest))) maxOpen ≡ y → ltb (suc (length (lineBacks t rest))) maxOpen ≡ y
+      room y ey = ap (λ x. ltb (suc x) maxOpen) (backs-length t rest) ∙ ey
+
+      by : (y : Bool) → ltb (suc (length (sourceBacks rest))) maxOpen ≡ y → Both t (length rest + 1) (sourceStep t (src n i rest vs tr)) (hardenedStep (harden t) (here t n i f fs rest l vs tr))
+      by true ey = owing (omega arith) (both-on _ _ (row-is true ey)
+          (line-is ∙ call-line (harden t) n _ _ (lineBacks t rest) l vs tr _ _ _ _ _ (checked t _ f fs _ (body-below t m)) true (room true ey)) opened)
+      by false ey = both-end (TooManyOpen maxOpen) _ _ (row-is false ey)
+          (line-is ∙ call-line (harden t) n _ _ (lineBacks t rest) l vs tr _ _ _ _ _ (checked t _ f fs _ (body-below t m)) false (room false ey))
+          (record { n = n; i = i; k = lineOf t i; l = l; rest = rest; c = counters t (bodyRegion (f ∷ fs)) (f ∷ fs) (value t (f .region) i); vs = vs; tr = tr; s-is = refl; h-is = refl })
+          (inr refl) (λ x. not-finished x)
+
+-- ---- a function's end
+ret-line : (ls : List Line) (n k : ℕ) (c : Counters) (rest : List (Frame Counters)) (l : Counters) (vs tr : List ℕ) (e a : ℕ) → eqb (c 0) e ≡ true
+    → lineStep ls k (retLine e a) (hard n k c rest l vs tr) ≡ leaves ls (hard n k (put 0 a c) rest l vs tr) rest
+unfolding lineStep
+ret-line ls n k c rest l vs tr e a h = rw h
+
+pub end-value : (t : Table) → Proper t → {n i : ℕ} {f : Open} → InFunction t n i f [] → kindAt t i ≡ End → value t (f .region) i + 1 ≡ endValue t n
+unfolding endValue
+end-value t ok {n} {i} {f} m e = ap (λ x. value t x i + 1) (body-is t ok m) ∙ ap (λ x. value t (regions t (functionRow t n)) x + 1) (end-same t ok m e)
+
+module _ (t : Table) (ok : Proper t) (n i : ℕ) (f : Open) (m : InFunction t n i f []) (l : Counters) (vs tr : List ℕ) (e : kindAt t i ≡ End) (w : f .part ≡ body) where
+  abbrev atEnd : Counters
+  atEnd = counters t (f .region) (f ∷ []) (value t (f .region) i)
+
+  abbrev ended : Counters
+  ended = put 0 (value t (f .region) i + 1) atEnd
+
+  holds-zero : eqb (atEnd 0) (value t (f .region) i) ≡ true
+  holds-zero = eq-eqb _ _ (ap (counterOf t (f ∷ []) (value t (f .region) i)) (add-zero (f .region)) ∙ counter-top t f [] _)
+
+  ends-at : ended 0 ≡ endValue t n
+  ends-at = end-value t ok m e
+
+  line-is : (rest : List Back) → hardenedStep (harden t) (here t n i f [] rest l vs tr) ≡ leaves (harden t) (hard n (lineOf t i) ended (lineBacks t rest) l vs tr) (lineBacks t rest)
+  unfolding rowLines
+  line-is rest = line-step t ok m (lineOf t i) 0 (endLine t i (f ∷ []) body) (omega arith) (rw e (omega arith)) (rw (e, w)) _ _ l vs tr
+      ∙ ret-line (harden t) n _ _ (lineBacks t rest) l vs tr _ _ holds-zero
+
+  row-is : (rest : List Back) → sourceStep t (src n i rest vs tr) ≡ returnRow (src n i rest vs tr) (sourceBacks rest)
+  unfolding rowStep
+  row-is rest = source-step t n i rest vs tr e (m .open-is) ∙ ap (λ y. endRow i (f ∷ []) y (src n i rest vs tr)) w
+
+  pub step-return : (rest : List Back) → Linked t n rest → Both t (length rest) (sourceStep t (src n i rest vs tr)) (hardenedStep (harden t) (here t n i f [] rest l vs tr))
+  step-return [] lk = both-end Finished _ _ (row-is [])
+      (line-is [] ∙ ap (λ y. must y (hard n (lineOf t i) ended [] l vs tr) (ends Finished (hard n (lineOf t i) ended [] l vs tr)))
+      (eq-eqb (ended 0) (retValue (harden t) 0) (ends-at ∙ ap (endValue t) lk ∙ sym (ret-value t ok 0 (zero-known lk)))))
+      (record { n = n; i = i; k = lineOf t i; l = l; rest = []; c = ended; vs = vs; tr = tr; s-is = refl; h-is = refl }) (inl refl) (λ x. refl)
+    where
+      zero-known : n ≡ 0 → 0 < functionCount t
+      zero-known q = omega (arith, m .known)
+  step-return (b ∷ bs) lk = both-on _ _ (row-is (b ∷ bs)) (line-is (b ∷ bs))
+      (record {
+        n = b .function;
+        i = b .row;
+        j = suc (b .row);
+        k = suc (lineOf t (b .row));
+        w = value t (lk .0 .top .region) (b .row) + 1;
+        l = ended;
+        rest = bs;
+        vs = vs;
+        tr = tr;
+        f = lk .0 .top;
+        fs = lk .0 .others;
+        s-is = refl;
+        h-is = ap (λ s. hard (b .function) (suc (lineOf t (b .row))) (counters t (bodyRegion s) s (valueIn t (b .row) s + 1)) (lineBacks t bs) ended vs tr) (lk .0 .in-function .open-is);
+        in-function = lk .0 .in-function;
+        linked = lk .1;
+        mode = backing (lk .0 .calls) refl refl refl (ends-at ∙ ap (endValue t) (sym (lk .0 .callee)));
+        owes = omega arith;
+      })
+
+-- ---- ticks and backs
+tick-line : (ls : List Line) (n k : ℕ) (c : Counters) (rest : List (Frame Counters)) (l : Counters) (vs tr : List ℕ) (r e a : ℕ) → eqb (c r) e ≡ true
+    → lineStep ls k (tickLine r e a) (hard n k c rest l vs tr) ≡ on (hard n (suc k) (put r a c) rest l vs tr)
+unfolding lineStep
+tick-line ls n k c rest l vs tr r e a h = rw h
+
+back-line : (ls : List Line) (n k : ℕ) (c : Counters) (rest : List (Frame Counters)) (l : Counters) (vs tr : List ℕ) (r e a b : ℕ) → eqb (c r) e ≡ true → eqb (l 0) b ≡ true
+    → lineStep ls k (backLine r e a b) (hard n k c rest l vs tr) ≡ on (hard n (suc k) (put r a c) rest l vs tr)
+unfolding lineStep
+back-line ls n k c rest l vs tr r e a b h q = rw (h, q)
+
+module _ (t : Table) (ok : Proper t) (n i : ℕ) (f : Open) (fs : List Open) (m : InFunction t n i f fs) (rest : List Back) (lk : Linked t n rest) (l : Counters) (vs tr : List ℕ) where
+  pub step-tick : kindAt t i ≡ Do
+      → (h : Hardened) × (hardenedStep (harden t) (hard n (suc (lineOf t i)) (counters t (bodyRegion (f ∷ fs)) (f ∷ fs) (value t (f .region) i)) (lineBacks t rest) l vs tr) ≡ on h)
+      × Related t (length rest) (src n (suc i) rest vs tr) h
+  unfolding rowLines
+  step-tick e = (
+    _,
+    line-step t ok m (suc (lineOf t i)) 1 (tickLine (ownRegion (f ∷ fs)) (value t (f .region) i) (value t (f .region) i + 1)) (omega arith) (rw e (omega arith)) (rw e) _ _ l vs tr
+        ∙ tick-line (harden t) n _ _ _ l vs tr _ _ _ (checked t _ f fs _ (body-below t m)),
+    ready-at t (move-to t ok m (suc i) (m .within) (open-next t i e (m .open-is)) refl) rest lk (omega (arith, line-suc t i e)) (sym (value-next t i e (m .open-is))) l vs tr _
+        (put-top t _ f fs _ _ (body-below t m)),
+  )
+
+  pub step-back : kindAt t i ≡ Call → l 0 ≡ endValue t (operandsAt t i .n)
+      → (h : Hardened) × (hardenedStep (harden t) (hard n (suc (lineOf t i)) (counters t (bodyRegion (f ∷ fs)) (f ∷ fs) (value t (f .region) i + 1)) (lineBacks t rest) l vs tr) ≡ on h)
+      × Related t (length rest) (src n (suc i) rest vs tr) h
+  unfolding rowLines
+  step-back e q = (
+    _,
+    line-step t ok m (suc (lineOf t i)) 1 (backOf t i (f ∷ fs) (operandsAt t i .n)) (omega arith) (rw e (omega arith)) (rw e) _ _ l vs tr
+        ∙ back-line (harden t) n _ _ _ l vs tr _ _ _ _ (checked t _ f fs _ (body-below t m)) (eq-eqb (l 0) (endValue t (operandsAt t i .n)) q),
+    ready-at t (move-to t ok m (suc i) (m .within) (open-next t i e (m .open-is)) refl) rest lk (omega (arith, line-suc t i e)) (sym (value-next t i e (m .open-is))) l vs tr _
+        (put-top t _ f fs _ _ (body-below t m)),
+  )

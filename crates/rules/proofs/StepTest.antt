@@ -1,0 +1,146 @@
+-- The two runs side by side at a do, an if and a loop. Assumes that the table is accepted.
+use mathlib.Core.Path.{_≡_, refl, sym, ap, _∙_, subst}
+use mathlib.Core.Bool.{Bool, true, false, cond}
+use mathlib.Core.List.{List, [], _∷_, _++_}
+use Prim.Native.Nat.{ℕ, suc, _+_, _-_, _≤_, _<_}
+use native.Mathlib.Omega.{arith}
+use lib.ListN.{length}
+use lib.Dec.{eqb}
+use borrow.Author.Tests.{ltb-true}
+use Rattle.rules.specs.declared.kind.Kind.{Kind}
+use Rattle.rules.specs.declared.kind.Kind.the-variants.{Do, If, Loop}
+use Rattle.rules.specs.Row.{Operands, Table, kindAt, operandsAt}
+use Rattle.rules.specs.Scan.{Part, thenPart, loopBody, Open, pushes, shapeOf, openAfter, regions, openAt, bodyRegion, endOf, elseOf, hasElse}
+use Rattle.rules.specs.Value.{past, takes, base, value}
+use Rattle.rules.specs.Line.{Line, doLine, testLine, lineAt}
+use Rattle.rules.specs.Harden.{lineCount, lineOf, testOf, rowLines, harden}
+use Rattle.rules.specs.Variables.{doneOn, holdsOn}
+use Rattle.rules.specs.State.{Frame}
+use Rattle.rules.specs.Run.{Turn, on}
+use Rattle.rules.specs.Source.{falseRow, rowStep, sourceStep}
+use Rattle.rules.specs.Hardened.{Counters, put, lineStep, hardenedStep}
+use Rattle.rules.proofs.Accepted.{Proper}
+use Rattle.rules.proofs.Scan.{Chain, chain, open-next}
+use Rattle.rules.proofs.Value.{fresh-value}
+use Rattle.rules.proofs.Close.{end-is, closed-is, Turned, else-is}
+use Rattle.rules.proofs.Harden.{line-suc}
+use Rattle.rules.proofs.Function.{InFunction, move-to}
+use Rattle.rules.proofs.Counters.{counters, put-top, put-new}
+use Rattle.rules.proofs.Relation.{Back, lineBacks, src, hard, here, Linked, ticking, Related, Both, both-on, source-step, line-step, body-below, checked, ready-at}
+
+test-line : (ls : List Line) (n k : ℕ) (c : Counters) (rest : List (Frame Counters)) (l : Counters) (vs tr : List ℕ) (o : Operands) (r s t e a b d go : ℕ) → eqb (c r) e ≡ true
+    → (y : Bool) → holdsOn o vs ≡ y → lineStep ls k (testLine o r s t e a b d go) (hard n k c rest l vs tr)
+    ≡ cond y (on (hard n (suc k) (put s b (put r a c)) rest l vs tr)) (on (hard n go (put t d (put r a c)) rest l vs tr))
+unfolding lineStep
+test-line ls n k c rest l vs tr o r s t e a b d go h y z = rw (h, z)
+
+module _ (t : Table) (ok : Proper t) (n i : ℕ) (f : Open) (fs : List Open) (m : InFunction t n i f fs) (rest : List Back) (lk : Linked t n rest) (l : Counters) (vs tr : List ℕ) where
+  abbrev Step : ℕ → Type 0
+  Step d = Both t d (sourceStep t (src n i rest vs tr)) (hardenedStep (harden t) (here t n i f fs rest l vs tr))
+
+  pub step-do : kindAt t i ≡ Do → Step (length rest + 1)
+  unfolding rowStep lineStep rowLines
+  step-do e = both-on _ _ (source-step t n i rest vs tr e (m .open-is))
+      (line-step t ok m (lineOf t i) 0 (doLine (operandsAt t i) i) (omega arith) (rw e (omega arith)) (rw e) _ _ l vs tr)
+      (record {
+        n = n;
+        i = i;
+        j = suc i;
+        k = suc (lineOf t i);
+        w = value t (f .region) i;
+        l = l;
+        rest = rest;
+        vs = doneOn (operandsAt t i) vs;
+        tr = tr ++ (i ∷ []);
+        f = f;
+        fs = fs;
+        s-is = refl;
+        h-is = refl;
+        in-function = m;
+        linked = lk;
+        mode = ticking e refl refl refl;
+        owes = refl;
+      })
+
+  above : Chain (regions t i) (f ∷ fs)
+  above = subst (Chain (regions t i)) (m .open-is) (chain t i)
+
+  -- the counters once the test's row has moved its own region on
+  abbrev tested : Counters
+  tested = put (f .region - bodyRegion (f ∷ fs)) (value t (f .region) i + 1) (counters t (bodyRegion (f ∷ fs)) (f ∷ fs) (value t (f .region) i))
+
+  -- true: a part opens at the next row
+  test-true : (k : Kind) (p : Part) → kindAt t i ≡ k → shapeOf k ≡ pushes p → lineCount k ≡ 1
+      → Related t (length rest) (src n (suc i) rest vs tr) (hard n (suc (lineOf t i)) (put (regions t i - bodyRegion (f ∷ fs)) (base t (regions t i)) tested) (lineBacks t rest) l vs tr)
+  unfolding above
+  test-true k p e sh one =
+      let q : openAt t (suc i) ≡ record { part = p; opener = i; region = regions t i } ∷ f ∷ fs = open-next t i e (m .open-is) ∙ ap (λ x. openAfter x i (regions t i) (f ∷ fs)) sh in
+      ready-at t (move-to t ok m (suc i) (m .within) q refl) rest lk (omega (arith, line-suc t i e)) (sym (fresh-value t i)) l vs tr _
+      (ap (put (regions t i - bodyRegion (f ∷ fs)) (base t (regions t i))) (put-top t _ f fs _ _ (body-below t m))
+      ∙ put-new t _ (record { part = p; opener = i; region = regions t i }) (f ∷ fs) _ _ (omega (arith, above .0, body-below t m)) refl)
+
+  -- false: past the end of what this row opens
+  test-past : (k : Kind) (p : Part) → kindAt t i ≡ k → shapeOf k ≡ pushes p → takes k (f .part) ≡ past
+      → Related t (length rest) (src n (suc (endOf t i)) rest vs tr) (hard n (lineOf t (suc (endOf t i))) (put (f .region - bodyRegion (f ∷ fs)) (value t (f .region) i + past) tested) (lineBacks t rest) l vs tr)
+  test-past k p e sh tp =
+      let en = end-is t i p ok (m .within) (ap shapeOf e ∙ sh) in
+      let cl = closed-is t i (endOf t i) (en .ends) in
+      let v : value t (f .region) (suc (endOf t i)) ≡ value t (f .region) i + past
+      = cl .moved-on f fs (m .open-is) ∙ ap (λ x. value t (f .region) i + takes x (f .part)) e ∙ ap (λ x. value t (f .region) i + x) tp in
+      ready-at t (move-to t ok m (suc (endOf t i)) (en .inside) (cl .open-after ∙ m .open-is) refl) rest lk refl (sym v) l vs tr _
+      (ap (put (f .region - bodyRegion (f ∷ fs)) (value t (f .region) i + past)) (put-top t _ f fs _ _ (body-below t m)) ∙ put-top t _ f fs _ _ (body-below t m))
+
+  -- false: to the else part
+  test-else : hasElse t i ≡ true
+      → Related t (length rest) (src n (suc (elseOf t i)) rest vs tr)
+      (hard n (lineOf t (suc (elseOf t i))) (put (regions t (elseOf t i) - bodyRegion (f ∷ fs)) (base t (regions t (elseOf t i))) tested) (lineBacks t rest) l vs tr)
+  test-else x =
+      let tu = else-is t i (m .within) x in
+      let lt = ltb-true (elseOf t i) (length t) x in
+      let q : openAt t (suc (elseOf t i)) ≡ record { part = tu .part; opener = i; region = regions t (elseOf t i) } ∷ f ∷ fs
+      = tu .open-after ∙ ap (λ y. record { part = tu .part; opener = i; region = regions t (elseOf t i) } ∷ y) (m .open-is) in
+      let ch = subst (Chain (regions t (suc (elseOf t i)))) q (chain t (suc (elseOf t i))) in
+      ready-at t (move-to t ok m (suc (elseOf t i)) lt q refl) rest lk refl (sym (fresh-value t (elseOf t i))) l vs tr _
+      (ap (put (regions t (elseOf t i) - bodyRegion (f ∷ fs)) (base t (regions t (elseOf t i)))) (put-top t _ f fs _ _ (body-below t m))
+      ∙ put-new t _ (record { part = tu .part; opener = i; region = regions t (elseOf t i) }) (f ∷ fs) _ _ (omega (arith, ch .1 .0, body-below t m)) refl)
+
+  at-test : (k : Kind) (b : Bool) → kindAt t i ≡ k → lineCount k ≡ 1 → lineAt (rowLines t i (f ∷ fs) k) 0 ≡ testOf t i (f ∷ fs) b
+      → hardenedStep (harden t) (here t n i f fs rest l vs tr) ≡ lineStep (harden t) (lineOf t i) (testOf t i (f ∷ fs) b) (here t n i f fs rest l vs tr)
+  at-test k b e one q = line-step t ok m (lineOf t i) 0 (testOf t i (f ∷ fs) b) (omega arith) (rw e (omega arith)) (ap (λ x. lineAt (rowLines t i (f ∷ fs) x) 0) e ∙ q) _ _ l vs tr
+
+  pub step-if : kindAt t i ≡ If → Step (length rest)
+  unfolding rowStep rowLines testOf falseRow
+  step-if e = by (hasElse t i) refl (holdsOn (operandsAt t i) vs) refl
+    where
+      row-is : (y : Bool) → holdsOn (operandsAt t i) vs ≡ y → sourceStep t (src n i rest vs tr) ≡ on (src n (cond y (suc i) (falseRow t i)) rest vs tr)
+      row-is y ey = source-step t n i rest vs tr e (m .open-is) ∙ ap (λ y. on (src n (cond y (suc i) (falseRow t i)) rest vs tr)) ey
+
+      line-is : (x y : Bool) → hasElse t i ≡ x → holdsOn (operandsAt t i) vs ≡ y
+          → hardenedStep (harden t) (here t n i f fs rest l vs tr) ≡ lineStep (harden t) (lineOf t i) (testOf t i (f ∷ fs) x) (here t n i f fs rest l vs tr)
+      line-is x y ex ey = at-test If x e refl (ap (testOf t i (f ∷ fs)) ex)
+
+      by : (x : Bool) → hasElse t i ≡ x → (y : Bool) → holdsOn (operandsAt t i) vs ≡ y → Step (length rest)
+      by true ex true ey = both-on _ _ (row-is true ey)
+          (line-is true true ex ey ∙ test-line (harden t) n _ _ _ l vs tr _ _ _ _ _ _ _ _ _ (checked t _ f fs _ (body-below t m)) true ey)
+          (test-true If thenPart e refl refl)
+      by true ex false ey = both-on _ _ (row-is false ey ∙ ap (λ x. on (src n (cond x (suc (elseOf t i)) (suc (endOf t i))) rest vs tr)) ex)
+          (line-is true false ex ey ∙ test-line (harden t) n _ _ _ l vs tr _ _ _ _ _ _ _ _ _ (checked t _ f fs _ (body-below t m)) false ey)
+          (test-else ex)
+      by false ex true ey = both-on _ _ (row-is true ey)
+          (line-is false true ex ey ∙ test-line (harden t) n _ _ _ l vs tr _ _ _ _ _ _ _ _ _ (checked t _ f fs _ (body-below t m)) true ey)
+          (test-true If thenPart e refl refl)
+      by false ex false ey = both-on _ _ (row-is false ey ∙ ap (λ x. on (src n (cond x (suc (elseOf t i)) (suc (endOf t i))) rest vs tr)) ex)
+          (line-is false false ex ey ∙ test-line (harden t) n _ _ _ l vs tr _ _ _ _ _ _ _ _ _ (checked t _ f fs _ (body-below t m)) false ey)
+          (test-past If thenPart e refl refl)
+
+  pub step-loop : kindAt t i ≡ Loop → Step (length rest)
+  unfolding rowStep rowLines testOf
+  step-loop e = by (holdsOn (operandsAt t i) vs) refl
+    where
+      by : (y : Bool) → holdsOn (operandsAt t i) vs ≡ y → Step (length rest)
+      by true ey = both-on _ _ (source-step t n i rest vs tr e (m .open-is) ∙ ap (λ y. on (src n (cond y (suc i) (suc (endOf t i))) rest vs tr)) ey)
+          (at-test Loop false e refl refl ∙ test-line (harden t) n _ _ _ l vs tr _ _ _ _ _ _ _ _ _ (checked t _ f fs _ (body-below t m)) true ey)
+          (test-true Loop loopBody e refl refl)
+      by false ey = both-on _ _ (source-step t n i rest vs tr e (m .open-is) ∙ ap (λ y. on (src n (cond y (suc i) (suc (endOf t i))) rest vs tr)) ey)
+          (at-test Loop false e refl refl ∙ test-line (harden t) n _ _ _ l vs tr _ _ _ _ _ _ _ _ _ (checked t _ f fs _ (body-below t m)) false ey)
+          (test-past Loop loopBody e refl refl)
