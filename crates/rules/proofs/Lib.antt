@@ -16,6 +16,13 @@ pub mod StepOut
 pub mod StepCall
 pub mod Simulate
 pub mod Unstruck
+pub mod Finish
+pub mod ValueBound
+pub mod RegionBound
+pub mod FunctionLine
+pub mod FieldBound
+pub mod LineBound
+pub mod Bounds
 pub mod Encode
 pub mod ReadRow
 pub mod ReadBack

@@ -107,12 +107,12 @@ pub function-outside : (t : Table) → Proper t → (i : ℕ) → i ≤ length t
 unfolding occupied
 function-outside t ok i h q = rets-before t i h ∙ omega (arith, counts t ok i h, ap occupied q)
 
-function-inside : (t : Table) → Proper t → (i : ℕ) {f : Open} {fs : List Open} → i ≤ length t → openAt t i ≡ f ∷ fs → suc (functionAt (harden t) (lineOf t i)) ≡ functions t i
+pub function-inside : (t : Table) → Proper t → (i : ℕ) {f : Open} {fs : List Open} → i ≤ length t → openAt t i ≡ f ∷ fs → suc (functionAt (harden t) (lineOf t i)) ≡ functions t i
 unfolding occupied
 function-inside t ok i h q = ap suc (rets-before t i h) ∙ omega (arith, counts t ok i h, ap occupied q)
 
 -- ---- functions t i, in terms of the function that row i stands in
-functions-next : (t : Table) (i : ℕ) {k : Kind} → kindAt t i ≡ k → functions t (suc i) ≡ cond (isFunction k) (suc (functions t i)) (functions t i)
+pub functions-next : (t : Table) (i : ℕ) {k : Kind} → kindAt t i ≡ k → functions t (suc i) ≡ cond (isFunction k) (suc (functions t i)) (functions t i)
 unfolding functions
 functions-next t i e = ap (λ x. cond (isFunction x) (suc (functions t i)) (functions t i)) e
 
@@ -155,11 +155,11 @@ locate t (suc m) k h = by (decLt k (lineOf t m)) (λ l. locate t m k l)
         record { row = s .row; ph = s .ph; row-lt = omega (arith, s .row-lt); ph-lt = s .ph-lt; is = s .is }
     by (no l) ih = record { row = m; ph = k - lineOf t m; row-lt = le-refl _; ph-lt = omega arith; is = omega arith }
 
-function-at-mono : (ls : List Line) {k : ℕ} (m : ℕ) → k ≤ m → m ≤ length ls → functionAt ls k ≤ functionAt ls m
+pub function-at-mono : (ls : List Line) {k : ℕ} (m : ℕ) → k ≤ m → m ≤ length ls → functionAt ls k ≤ functionAt ls m
 function-at-mono ls {k} m h = le-ind (λ x. x ≤ length ls → functionAt ls k ≤ functionAt ls x) (λ b. le-refl _)
     (λ x l ih b. omega (arith, ih (omega arith), function-at-next ls x b)) m h
 
-lines-all : (t : Table) → length (harden t) ≡ lineOf t (length t)
+pub lines-all : (t : Table) → length (harden t) ≡ lineOf t (length t)
 lines-all t = harden-length t (length t)
 
 -- ---- a line of a row before row o belongs to a function opened before it
