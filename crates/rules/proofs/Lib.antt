@@ -17,6 +17,9 @@ pub mod StepCall
 pub mod Simulate
 pub mod Unstruck
 pub mod Finish
+pub mod Guard
+pub mod Wide
+pub mod Alarm
 pub mod ValueBound
 pub mod RegionBound
 pub mod FunctionLine
