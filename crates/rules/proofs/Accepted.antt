@@ -1,23 +1,21 @@
 -- What "this table is accepted" says of each of its rows. Assumes nothing.
 use mathlib.Core.Logic.{_⊎_, inl, inr, _≢_}
 use mathlib.Core.Path.{_≡_, refl, sym, ap, _∙_}
-use mathlib.Core.Bool.{Bool, true, false, not}
+use mathlib.Core.Bool.{Bool, true, false}
 use mathlib.Core.List.{List, [], _∷_}
 use Prim.Native.Nat.{ℕ, zero, suc, _*_, _/_, _%_, _≤_, _<_}
 use native.Mathlib.Nat.{eq-or-lt-of-le, not-suc-le-zero}
 use native.Mathlib.Omega.{arith}
 use lib.ListN.{length}
-use lib.Dec.{eqb, ltb, leb}
+use lib.Dec.{eqb}
 use borrow.Author.Tests.{eqb-true, eqb-false, ltb-false}
-use Rattle.rules.specs.declared.kind.Kind.{Kind}
-use Rattle.rules.specs.declared.kind.Kind.the-variants.{Function, Do, If, Else, Loop, End, Break, Continue, Call, Unknown}
 use Rattle.rules.specs.declared.refusal.Refusal.{Refusal}
 use Rattle.rules.specs.declared.refusal.Refusal.the-variants.{NoWholeRows, TooManyRows, WrongField, Misplaced, TooManyFunctions, TooManyParts, NoSuchFunction}
 use Rattle.rules.specs.declared.refusal.Verdict.{Verdict}
 use Rattle.rules.specs.declared.refusal.Verdict.the-variants.{Accepted, Refused}
 use Rattle.rules.specs.Limits.{maxRows}
 use Rattle.rules.specs.Row.{Table, tableOf, rowsFrom, rowWidth, kindAt, operandsAt, fieldsFit}
-use Rattle.rules.specs.Scan.{Open, openAt, functionCount}
+use Rattle.rules.specs.Scan.{Open, openAt}
 use Rattle.rules.specs.Refusal.{refuseIf, andThen, isAccepted}
 use Rattle.rules.specs.Check.{noWholeRows, tooManyRows, wrongField, isOutside, misplacedIn, misplaced, leftOpen, tooManyFunctions, tooManyParts, noSuchFunction, rowVerdict, rowsVerdict, callsVerdict, tableVerdict, verdictOf}
 use Rattle.rules.proofs.Logic.{clash, or-left, or-right, not-false}

@@ -2,9 +2,9 @@
 -- later before a do and at place m with more open. Assumes that the table is accepted.
 use mathlib.Core.Logic.{_⊎_, inl, inr}
 use mathlib.Core.Path.{_≡_, refl, sym, ap, _∙_, subst}
-use mathlib.Core.Bool.{Bool, true, false, cond}
+use mathlib.Core.Bool.{Bool, true, false}
 use mathlib.Core.List.{List, [], _∷_, _++_}
-use Prim.Native.Nat.{ℕ, suc, _+_, _-_, _≤_, _<_}
+use Prim.Native.Nat.{ℕ, suc, _+_, _≤_, _<_}
 use native.Mathlib.Nat.{eq-or-lt-of-le}
 use native.Mathlib.Omega.{arith}
 use lib.ListN.{length}
@@ -13,26 +13,26 @@ use borrow.Author.Tests.{eq-eqb, ne-eqb}
 use Rattle.rules.specs.declared.kind.Kind.the-variants.{Do}
 use Rattle.rules.specs.declared.step.Step.the-variants.{Finished, Alarm}
 use Rattle.rules.specs.Row.{Table, kindAt, operandsAt}
-use Rattle.rules.specs.Scan.{Open, bodyRegion, functionCount}
+use Rattle.rules.specs.Scan.{Open, bodyRegion}
 use Rattle.rules.specs.Value.{value}
 use Rattle.rules.specs.Line.{Line, doLine, tickLine, backLine, lineAt, isGuard}
-use Rattle.rules.specs.Harden.{lineCount, lineOf, ownRegion, backOf, endValue, rowLines, harden}
+use Rattle.rules.specs.Harden.{lineCount, lineOf, ownRegion, backOf, rowLines, harden}
 use Rattle.rules.specs.Function.{startOf, finishOf, lastPlace, retValue}
 use Rattle.rules.specs.Variables.{doneOn}
-use Rattle.rules.specs.State.{Frame, goTo, depth}
-use Rattle.rules.specs.Run.{Turn, on, ends}
+use Rattle.rules.specs.State.{Frame, goTo}
+use Rattle.rules.specs.Run.{on, ends}
 use Rattle.rules.specs.Source.{Source}
-use Rattle.rules.specs.Hardened.{Counters, Hardened, put, moved, must, leaves, lineStep, hardenedStep, placeLine}
+use Rattle.rules.specs.Hardened.{Counters, Hardened, must, leaves, lineStep, hardenedStep, placeLine}
 use Rattle.rules.specs.Match.{guardBetween}
 use Rattle.rules.specs.Demands.{alarmStep, doneBy, doneAt}
 use Rattle.rules.proofs.Logic.{clash}
 use Rattle.rules.proofs.Accepted.{Proper}
 use Rattle.rules.proofs.Harden.{line-at}
 use Rattle.rules.proofs.Function.{InFunction, formed-here}
-use Rattle.rules.proofs.Place.{start-is, finish-is, start-finish, ret-value, before-finish, line-of}
+use Rattle.rules.proofs.Place.{start-finish, ret-value, before-finish, line-of}
 use Rattle.rules.proofs.Counters.{counters}
-use Rattle.rules.proofs.Relation.{Back, waiting, lineBacks, hard, Linked, Caller, Related, line-step}
-use Rattle.rules.proofs.Guard.{checksAt, checksFor, check-fails, Guards, Sort, a-do, a-guard, sort, tick-guards}
+use Rattle.rules.proofs.Relation.{Back, waiting, lineBacks, hard, Linked, Related, line-step}
+use Rattle.rules.proofs.Guard.{check-fails, Guards, Sort, a-do, a-guard, sort, tick-guards}
 use Rattle.rules.proofs.Wide.{Between, between, Stands, stands, own-guard, own-tick, refused, not-ended}
 
 -- the run at the place that it is struck to

@@ -4,7 +4,7 @@ use mathlib.Core.Logic.{_⊎_, inl, inr}
 use mathlib.Core.Path.{_≡_, refl, sym, ap, _∙_, subst}
 use mathlib.Core.Bool.{Bool, true, false, _&&_}
 use mathlib.Core.List.{List, [], _∷_}
-use Prim.Native.Nat.{ℕ, zero, suc, _+_, _-_, _≤_, _<_}
+use Prim.Native.Nat.{ℕ, suc, _+_, _-_, _≤_, _<_}
 use native.Mathlib.Nat.{le-refl, eq-or-lt-of-le}
 use native.Mathlib.Decide.{le-ind}
 use native.Mathlib.Omega.{arith}
@@ -19,7 +19,7 @@ use Rattle.rules.proofs.Logic.{clash, and-left, and-right}
 use Rattle.rules.proofs.Search.{Found, hit, miss, found}
 use Rattle.rules.proofs.Accepted.{Proper}
 use Rattle.rules.proofs.Scan.{open-next}
-use Rattle.rules.proofs.Value.{Held, AllHeld, held, Moved, moved-after, moved-value}
+use Rattle.rules.proofs.Value.{AllHeld, held, Moved, moved-after, moved-value}
 
 -- ---- the end row of an opener exists
 abbrev Has : ℕ → List Open → Type 0

@@ -10,7 +10,7 @@ use lib.Dec.{eqb, leb}
 use borrow.Author.Tests.{eqb-true, eqb-false, eq-eqb, ne-eqb, leb-true, leb-false, le-leb, lt-leb}
 use Rattle.rules.specs.Row.{Table}
 use Rattle.rules.specs.Scan.{Open, regionOf, openerOf, around, isLoopBody, fromLoop}
-use Rattle.rules.specs.Value.{inside, value, valueIn}
+use Rattle.rules.specs.Value.{inside, valueIn}
 use Rattle.rules.specs.Hardened.{Counters, clear, put, clearFrom}
 use Rattle.rules.proofs.Logic.{clash}
 use Rattle.rules.proofs.Scan.{Chain, NotIn, chain-not-in}

@@ -1,22 +1,22 @@
 -- Demand 3, finishing: a source run that finishes in n steps with t dos and c calls finishes hardened in n + t + c steps.
 -- Assumes that the table is accepted.
-use mathlib.Core.Logic.{_⊎_, inl, inr}
-use mathlib.Core.Path.{_≡_, refl, sym, ap, _∙_, subst}
-use mathlib.Core.Bool.{Bool, true, false, cond}
+use mathlib.Core.Logic.{inl, inr}
+use mathlib.Core.Path.{_≡_, refl, ap, _∙_, subst}
+use mathlib.Core.Bool.{cond}
 use mathlib.Core.List.{List}
 use Prim.Native.Nat.{ℕ, zero, suc, _+_, _-_, _≤_}
 use native.Mathlib.Omega.{arith}
 use Rattle.rules.specs.declared.kind.Kind.{Kind}
 use Rattle.rules.specs.declared.kind.Kind.the-variants.{Function, Do, If, Else, Loop, End, Break, Continue, Call, Unknown}
 use Rattle.rules.specs.declared.step.Step.{Step}
-use Rattle.rules.specs.declared.step.Step.the-variants.{Finished, TooManyOpen}
+use Rattle.rules.specs.declared.step.Step.the-variants.{TooManyOpen}
 use Rattle.rules.specs.Limits.{maxOpen}
 use Rattle.rules.specs.Row.{Table, kindAt}
 use Rattle.rules.specs.Check.{isCall}
 use Rattle.rules.specs.Harden.{harden}
-use Rattle.rules.specs.Run.{on, ends, Answer, run, tally, outcomeOf}
+use Rattle.rules.specs.Run.{run, tally, outcomeOf}
 use Rattle.rules.specs.Source.{Source, sourceStep, sourceStart, sourceRun}
-use Rattle.rules.specs.Hardened.{Counters, Hardened, hardenedStep, hardenedStart, hardenedRun}
+use Rattle.rules.specs.Hardened.{Hardened, hardenedStep, hardenedStart, hardenedRun}
 use Rattle.rules.specs.Match.{isDo, dosIn, callsIn}
 use Rattle.rules.specs.Demands.{Finishing}
 use Rattle.rules.proofs.Accepted.{Proper}

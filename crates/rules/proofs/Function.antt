@@ -15,11 +15,11 @@ use Rattle.rules.specs.declared.kind.Kind.the-variants.{Function, Do, If
 use Rattle.rules.specs.Row.{Table, kindAt, operandsAt, fieldsFit}
 use Rattle.rules.specs.Scan.{Part, body, thenPart, elsePart, loopBody, Open, shapeOf, turned, openAfter, regions, openAt, bodyRegion, isFunction, functions, functionCount, functionRow, endOf}
 use Rattle.rules.specs.Value.{past, takes}
-use Rattle.rules.specs.Check.{isThen, misplacedIn, isCall, noSuchFunction}
-use Rattle.rules.proofs.Logic.{clash, and-left, and-right, not-true, not-false}
+use Rattle.rules.specs.Check.{isThen, misplacedIn, isCall}
+use Rattle.rules.proofs.Logic.{clash, and-left, and-right, not-false}
 use Rattle.rules.proofs.Search.{Found, hit, miss, found, first-now}
-use Rattle.rules.proofs.Accepted.{Proper, ProperRow, outside-nil}
-use Rattle.rules.proofs.Scan.{origin, NotIn, Gone, gone-later, gone-after, by-close, not-closing, open-next}
+use Rattle.rules.proofs.Accepted.{Proper, outside-nil}
+use Rattle.rules.proofs.Scan.{origin, NotIn, gone-later, gone-after, by-close, not-closing, open-next}
 use Rattle.rules.proofs.Value.{Silent, a-function, no-kind, Held, takes-past}
 use Rattle.rules.proofs.Close.{end-is, closed-is}
 

@@ -20,6 +20,7 @@ pub mod Finish
 pub mod Guard
 pub mod Wide
 pub mod Alarm
+pub mod Jump
 pub mod ValueBound
 pub mod RegionBound
 pub mod FunctionLine
@@ -30,8 +31,11 @@ pub mod Encode
 pub mod ReadRow
 pub mod ReadBack
 pub mod Reading
+pub mod Demand3
+pub mod Instance
 pub mod Compute
 pub mod Cases
 pub mod Report
 pub mod Refusals
 pub mod Arithmetic
+pub mod Checks

@@ -1,7 +1,7 @@
 -- Where functions begin and end among the lines of the hardened table of an accepted table, and which row a line belongs to.
-use mathlib.Core.Logic.{_≢_, _⊎_, inl, inr}
+use mathlib.Core.Logic.{_⊎_, inl, inr}
 use mathlib.Core.Path.{_≡_, refl, sym, ap, _∙_, subst}
-use mathlib.Core.Bool.{Bool, true, false, not, cond, _&&_}
+use mathlib.Core.Bool.{Bool, true, false, cond}
 use mathlib.Core.List.{List, [], _∷_, _++_}
 use Prim.Native.Nat.{ℕ, zero, suc, _+_, _-_, _≤_, _<_}
 use native.Mathlib.Nat.{le-refl, eq-or-lt-of-le, not-suc-le-zero, add-zero}
@@ -12,20 +12,20 @@ use lib.Dec.{eqb}
 use borrow.Author.Tests.{eq-eqb, ne-eqb}
 use Rattle.rules.specs.declared.kind.Kind.{Kind}
 use Rattle.rules.specs.declared.kind.Kind.the-variants.{Function, Do, If, Else, Loop, End, Break, Continue, Call, Unknown}
-use Rattle.rules.specs.Row.{Table, kindAt, operandsAt}
+use Rattle.rules.specs.Row.{Table, kindAt}
 use Rattle.rules.specs.Scan.{Part, body, thenPart, elsePart, loopBody, Open, stays, shapeOf, openAfter, regions, openAt, partOf, hasElse, isFunction, functions, functionCount, functionRow, endOf}
-use Rattle.rules.specs.Check.{misplacedIn, isOutside, isThen}
+use Rattle.rules.specs.Check.{misplacedIn}
 use Rattle.rules.specs.Value.{value}
-use Rattle.rules.specs.Line.{Line, retLine, lineAt, isRet}
+use Rattle.rules.specs.Line.{Line, lineAt, isRet}
 use Rattle.rules.specs.Harden.{lineCount, lineOf, testOf, endLine, endValue, rowLines, linesOf, hardenTo, harden}
-use Rattle.rules.specs.Function.{functionAt, startOf, finishOf, lastPlace, aOfRet, retValue}
+use Rattle.rules.specs.Function.{functionAt, startOf, finishOf, aOfRet, retValue}
 use Rattle.rules.proofs.Logic.{clash}
 use Rattle.rules.proofs.Search.{first-is}
-use Rattle.rules.proofs.Accepted.{Proper, ProperRow}
+use Rattle.rules.proofs.Accepted.{Proper}
 use Rattle.rules.proofs.Scan.{open-next}
 use Rattle.rules.proofs.Value.{Silent, a-function}
 use Rattle.rules.proofs.Harden.{line-mono, line-suc, line-next, line-at, harden-length, harden-split}
-use Rattle.rules.proofs.Function.{isBody, Formed, formed, home, FunctionAt, function-at, function-zero, functions-mono, opens-function, InFunction, FunctionEnd, function-end, not-past-end, not-silent, not-unknown, after-it, Somewhere, somewhere}
+use Rattle.rules.proofs.Function.{isBody, Formed, formed, FunctionAt, function-at, functions-mono, opens-function, InFunction, function-end, not-past-end, not-silent, after-it, Somewhere, somewhere}
 
 -- ---- the rets of some lines
 abbrev one-if : Bool → ℕ

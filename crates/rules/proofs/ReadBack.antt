@@ -10,10 +10,10 @@ use lib.Seq.{take-suc, take-length}
 use Rattle.rules.specs.declared.kind.Kind.{Kind}
 use Rattle.rules.specs.declared.kind.Kind.the-variants.{Function, Do, If, Else, Loop, End, Break, Continue, Call, Unknown}
 use Rattle.rules.specs.Row.{Row, Table, noRow, rowAt, kindAt, fieldsFit}
-use Rattle.rules.specs.Scan.{Part, body, thenPart, elsePart, loopBody, Open, shapeOf, openAfter, regions, openAt, partOf, hasElse}
+use Rattle.rules.specs.Scan.{Open, shapeOf, openAfter, regions, openAt, partOf, hasElse}
 use Rattle.rules.specs.Check.{isOutside, misplacedIn}
 use Rattle.rules.specs.Line.{lineAt, isRet}
-use Rattle.rules.specs.Harden.{lineCount, lineOf, testOf, endLine, rowLines, harden}
+use Rattle.rules.specs.Harden.{lineCount, lineOf, rowLines, harden}
 use Rattle.rules.specs.ReadBack.{rowFor, begins, functionRowIf, unreadTo, unread}
 use Rattle.rules.proofs.Logic.{clash, append-nil}
 use Rattle.rules.proofs.Accepted.{Proper}

@@ -1,8 +1,8 @@
 -- How an unstruck hardened run stands to its source's run: the same function, variables and trace; the line of the source's row, or
 -- the tick or back that follows; the counters that the open parts settle. Assumes that the table is accepted, where it says so.
 use mathlib.Core.Logic.{_⊎_}
-use mathlib.Core.Path.{_≡_, refl, sym, ap, _∙_, subst}
-use mathlib.Core.Bool.{Bool, true, false, cond}
+use mathlib.Core.Path.{_≡_, refl, ap, _∙_, subst}
+use mathlib.Core.Bool.{true}
 use mathlib.Core.List.{List, [], _∷_}
 use Prim.Native.Nat.{ℕ, suc, _+_, _-_, _≤_, _<_}
 use native.Mathlib.Omega.{arith}
@@ -18,9 +18,9 @@ use Rattle.rules.specs.Row.{Table, kindAt, operandsAt}
 use Rattle.rules.specs.Scan.{Open, regions, openAt, bodyRegion}
 use Rattle.rules.specs.Value.{value, valueIn}
 use Rattle.rules.specs.Line.{Line, lineAt}
-use Rattle.rules.specs.Harden.{lineCount, lineOf, rowLines, linesOf, endValue, harden}
+use Rattle.rules.specs.Harden.{lineCount, lineOf, rowLines, endValue, harden}
 use Rattle.rules.specs.Function.{finishOf}
-use Rattle.rules.specs.State.{Frame, State, frame}
+use Rattle.rules.specs.State.{Frame, frame}
 use Rattle.rules.specs.Run.{Turn, on, ends}
 use Rattle.rules.specs.Source.{Source, rowStep, sourceStep}
 use Rattle.rules.specs.Hardened.{Counters, Hardened, lineStep, hardenedStep}

@@ -1,7 +1,7 @@
 -- One step of an unstruck hardened run: it is a step of its source's run, or a tick or back that the source has no step for; and the
 -- start. Assumes that the table is accepted.
 use mathlib.Core.Path.{_≡_, refl, sym, ap, _∙_, subst}
-use mathlib.Core.Bool.{Bool, true, false, not, _&&_}
+use mathlib.Core.Bool.{Bool, true, false, not}
 use mathlib.Core.List.{List, [], _∷_}
 use Prim.Native.Nat.{ℕ, suc, _+_, _<_}
 use native.Mathlib.Nat.{add-zero}
@@ -10,12 +10,12 @@ use lib.ListN.{length}
 use borrow.Author.Tests.{ne-eqb}
 use Rattle.rules.specs.declared.kind.Kind.{Kind}
 use Rattle.rules.specs.declared.kind.Kind.the-variants.{Function, Do, If, Else, Loop, End, Break, Continue, Call, Unknown}
-use Rattle.rules.specs.Row.{Table, kindAt, operandsAt}
-use Rattle.rules.specs.Scan.{Part, body, thenPart, elsePart, loopBody, Open, regions, openAt, bodyRegion, hasElse, functionRow}
+use Rattle.rules.specs.Row.{Table, kindAt}
+use Rattle.rules.specs.Scan.{Part, body, thenPart, elsePart, loopBody, Open, regions, bodyRegion, hasElse, functionRow}
 use Rattle.rules.specs.Check.{isThen, misplacedIn}
 use Rattle.rules.specs.Value.{base, value}
-use Rattle.rules.specs.Line.{Line, lineAt}
-use Rattle.rules.specs.Harden.{lineCount, lineOf, testOf, endLine, endValue, rowLines, harden}
+use Rattle.rules.specs.Line.{lineAt}
+use Rattle.rules.specs.Harden.{lineCount, lineOf, testOf, endLine, rowLines, harden}
 use Rattle.rules.specs.Function.{finishOf}
 use Rattle.rules.specs.State.{Frame}
 use Rattle.rules.specs.Run.{on}
@@ -25,7 +25,7 @@ use Rattle.rules.specs.Match.{isQuiet, quietAt}
 use Rattle.rules.proofs.Logic.{clash}
 use Rattle.rules.proofs.Accepted.{Proper}
 use Rattle.rules.proofs.Value.{Silent, a-function, fresh-value}
-use Rattle.rules.proofs.Harden.{line-at, line-suc}
+use Rattle.rules.proofs.Harden.{line-at}
 use Rattle.rules.proofs.Function.{InFunction, entry, formed-here, placed-in, not-silent, not-unknown, function-zero, row-zero, some-function}
 use Rattle.rules.proofs.Place.{before-finish}
 use Rattle.rules.proofs.Counters.{counters, put-body}

@@ -1,29 +1,28 @@
 -- The two runs side by side at a call and at a function's end, and the hardened run alone at a tick and a back.
 -- Assumes that the table is accepted.
-use mathlib.Core.Logic.{_⊎_, inl, inr}
+use mathlib.Core.Logic.{inl, inr}
 use mathlib.Core.Path.{_≡_, refl, sym, ap, _∙_}
 use mathlib.Core.Bool.{Bool, true, false, cond}
 use mathlib.Core.List.{List, [], _∷_}
-use Prim.Native.Nat.{ℕ, suc, _+_, _-_, _≤_, _<_}
-use native.Mathlib.Nat.{le-refl, add-zero}
+use Prim.Native.Nat.{ℕ, suc, _+_, _-_, _<_}
+use native.Mathlib.Nat.{add-zero}
 use native.Mathlib.Omega.{arith}
 use lib.ListN.{length}
 use lib.Dec.{eqb, ltb}
 use borrow.Author.Tests.{eq-eqb}
-use Rattle.rules.specs.declared.kind.Kind.{Kind}
 use Rattle.rules.specs.declared.kind.Kind.the-variants.{Do, End, Call}
 use Rattle.rules.specs.declared.step.Step.{Step}
 use Rattle.rules.specs.declared.step.Step.the-variants.{Went, Finished, Alarm, TooManyOpen, Beyond}
 use Rattle.rules.specs.Limits.{maxOpen}
 use Rattle.rules.specs.Row.{Table, kindAt, operandsAt}
-use Rattle.rules.specs.Scan.{body, Open, regions, openAt, bodyRegion, functionCount, functionRow, endOf}
+use Rattle.rules.specs.Scan.{body, Open, regions, bodyRegion, functionCount, functionRow}
 use Rattle.rules.specs.Value.{base, value, valueIn}
-use Rattle.rules.specs.Line.{Line, tickLine, callLine, backLine, retLine, lineAt}
-use Rattle.rules.specs.Harden.{lineCount, lineOf, ownRegion, endLine, callOf, backOf, endValue, rowLines, harden}
+use Rattle.rules.specs.Line.{Line, tickLine, callLine, backLine, retLine}
+use Rattle.rules.specs.Harden.{lineOf, ownRegion, endLine, callOf, backOf, endValue, rowLines, harden}
 use Rattle.rules.specs.Function.{functionAt, retValue}
-use Rattle.rules.specs.State.{Frame, State, frame, goTo, depth, opening}
-use Rattle.rules.specs.Run.{Turn, on, ends}
-use Rattle.rules.specs.Source.{returnRow, endRow, callRow, rowStep, sourceStep}
+use Rattle.rules.specs.State.{Frame, frame}
+use Rattle.rules.specs.Run.{on, ends}
+use Rattle.rules.specs.Source.{returnRow, endRow, rowStep, sourceStep}
 use Rattle.rules.specs.Hardened.{Counters, Hardened, clear, put, must, leaves, lineStep, hardenedStep}
 use Rattle.rules.proofs.Accepted.{Proper}
 use Rattle.rules.proofs.Scan.{open-next}
@@ -32,7 +31,7 @@ use Rattle.rules.proofs.Harden.{line-suc}
 use Rattle.rules.proofs.Function.{InFunction, move-to, entry, body-is, end-same, callee-known}
 use Rattle.rules.proofs.Place.{callee, ret-value}
 use Rattle.rules.proofs.Counters.{counters, counterOf, counter-top, put-top, put-body}
-use Rattle.rules.proofs.Relation.{Back, waiting, sourceBacks, lineBacks, backs-length, src, hard, here, Linked, Caller, ready, backing, Related, Both, both-on, both-end, owing, source-step, line-step, body-below, checked, ready-at}
+use Rattle.rules.proofs.Relation.{Back, waiting, sourceBacks, lineBacks, backs-length, src, hard, here, Linked, ready, backing, Related, Both, both-on, both-end, owing, source-step, line-step, body-below, checked, ready-at}
 
 -- ---- call
 call-line : (ls : List Line) (n k : ℕ) (c : Counters) (rest : List (Frame Counters)) (l : Counters) (vs tr : List ℕ) (r e a b go : ℕ) → eqb (c r) e ≡ true

@@ -1,7 +1,7 @@
 -- The two runs side by side where a part closes: an else, and the end of an if or a loop. Assumes that the table is accepted.
 use mathlib.Core.Path.{_≡_, refl, sym, ap, _∙_, subst}
-use mathlib.Core.Bool.{Bool, true, false, cond}
-use mathlib.Core.List.{List, [], _∷_}
+use mathlib.Core.Bool.{true, false, cond}
+use mathlib.Core.List.{List, _∷_}
 use Prim.Native.Nat.{ℕ, suc, _+_, _-_, _≤_, _<_}
 use native.Mathlib.Omega.{arith}
 use lib.ListN.{length}
@@ -26,7 +26,7 @@ use Rattle.rules.proofs.Close.{end-is, closed-is}
 use Rattle.rules.proofs.Function.{isBody, InFunction, move-to}
 use Rattle.rules.proofs.Counters.{counters, holding, at-region, counter-top, counter-under, put-leave}
 use Rattle.rules.proofs.Unique.{part-takes}
-use Rattle.rules.proofs.Relation.{Back, lineBacks, src, hard, here, Linked, Both, both-on, source-step, line-step, body-below, checked, ready-at}
+use Rattle.rules.proofs.Relation.{Back, src, hard, here, Linked, Both, both-on, source-step, line-step, body-below, checked, ready-at}
 
 leave-line : (ls : List Line) (n k : ℕ) (c : Counters) (rest : List (Frame Counters)) (l : Counters) (vs tr : List ℕ) (r s e a b go : ℕ) → eqb (c r) e ≡ true → eqb (put r 0 c s) b ≡ true
     → lineStep ls k (leaveLine r s e a b go) (hard n k c rest l vs tr) ≡ on (hard n go (put s a (put r 0 c)) rest l vs tr)

@@ -2,7 +2,7 @@
 use mathlib.Core.Path.{_≡_, refl, sym, ap, _∙_, subst}
 use mathlib.Core.Bool.{Bool, true, false, cond}
 use mathlib.Core.List.{List, [], _∷_}
-use Prim.Native.Nat.{ℕ, suc, _+_, _-_, _≤_, _<_}
+use Prim.Native.Nat.{ℕ, suc, _+_, _-_, _≤_}
 use native.Mathlib.Omega.{arith}
 use lib.ListN.{length}
 use lib.Dec.{eqb}
@@ -11,7 +11,7 @@ use Rattle.rules.specs.declared.kind.Kind.the-variants.{Break, Continue}
 use Rattle.rules.specs.Row.{Table, kindAt}
 use Rattle.rules.specs.Scan.{Open, regions, openAt, partOf, openerOf, regionOf, around, bodyRegion, isLoopBody, fromLoop, endOf}
 use Rattle.rules.specs.Check.{isOutside, misplacedIn}
-use Rattle.rules.specs.Value.{past, takes, value, valueIn}
+use Rattle.rules.specs.Value.{past, takes, value}
 use Rattle.rules.specs.Line.{Line, outLine, lineAt}
 use Rattle.rules.specs.Harden.{lineCount, lineOf, ownRegion, openerValue, rowLines, harden}
 use Rattle.rules.specs.State.{Frame}
@@ -21,11 +21,11 @@ use Rattle.rules.specs.Hardened.{Counters, put, clearFrom, lineStep, har
 use Rattle.rules.proofs.Logic.{clash}
 use Rattle.rules.proofs.Accepted.{Proper}
 use Rattle.rules.proofs.Scan.{Chain, chain, body-least, origin}
-use Rattle.rules.proofs.Value.{AllHeld, held, Held}
+use Rattle.rules.proofs.Value.{AllHeld, held}
 use Rattle.rules.proofs.Close.{end-is, closed-is}
 use Rattle.rules.proofs.Function.{held-takes, Formed, home, InFunction, move-to, formed-here, placed-in}
 use Rattle.rules.proofs.Counters.{counters, loop-in, put-out}
-use Rattle.rules.proofs.Relation.{Back, lineBacks, src, hard, here, Linked, Both, both-on, source-step, line-step, body-below, checked, ready-at}
+use Rattle.rules.proofs.Relation.{Back, src, hard, here, Linked, Both, both-on, source-step, line-step, body-below, checked, ready-at}
 
 out-line : (ls : List Line) (n k : ℕ) (c : Counters) (rest : List (Frame Counters)) (l : Counters) (vs tr : List ℕ) (r s t e a go : ℕ) → eqb (c r) e ≡ true
     → lineStep ls k (outLine r s t e a go) (hard n k c rest l vs tr) ≡ on (hard n go (put s a (clearFrom t r c)) rest l vs tr)

@@ -2,7 +2,7 @@
 use mathlib.Core.Path.{_≡_, refl, sym, ap, _∙_, subst}
 use mathlib.Core.Bool.{Bool, true, false, cond}
 use mathlib.Core.List.{List, [], _∷_, _++_}
-use Prim.Native.Nat.{ℕ, suc, _+_, _-_, _≤_, _<_}
+use Prim.Native.Nat.{ℕ, suc, _+_, _-_}
 use native.Mathlib.Omega.{arith}
 use lib.ListN.{length}
 use lib.Dec.{eqb}
@@ -16,13 +16,13 @@ use Rattle.rules.specs.Line.{Line, doLine, testLine, lineAt}
 use Rattle.rules.specs.Harden.{lineCount, lineOf, testOf, rowLines, harden}
 use Rattle.rules.specs.Variables.{doneOn, holdsOn}
 use Rattle.rules.specs.State.{Frame}
-use Rattle.rules.specs.Run.{Turn, on}
+use Rattle.rules.specs.Run.{on}
 use Rattle.rules.specs.Source.{falseRow, rowStep, sourceStep}
 use Rattle.rules.specs.Hardened.{Counters, put, lineStep, hardenedStep}
 use Rattle.rules.proofs.Accepted.{Proper}
 use Rattle.rules.proofs.Scan.{Chain, chain, open-next}
 use Rattle.rules.proofs.Value.{fresh-value}
-use Rattle.rules.proofs.Close.{end-is, closed-is, Turned, else-is}
+use Rattle.rules.proofs.Close.{end-is, closed-is, else-is}
 use Rattle.rules.proofs.Harden.{line-suc}
 use Rattle.rules.proofs.Function.{InFunction, move-to}
 use Rattle.rules.proofs.Counters.{counters, put-top, put-new}

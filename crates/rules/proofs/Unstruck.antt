@@ -2,25 +2,23 @@
 -- Assumes that the table is accepted.
 use mathlib.Core.Logic.{_≢_, _⊎_, inl, inr}
 use mathlib.Core.Path.{_≡_, refl, sym, ap, _∙_}
-use mathlib.Core.Bool.{Bool, true, false, cond}
 use mathlib.Core.List.{List, [], _∷_, _++_}
-use Prim.Native.Nat.{ℕ, zero, suc, _+_, _-_}
+use Prim.Native.Nat.{ℕ, zero, suc, _+_}
 use native.Mathlib.Omega.{arith}
-use lib.ListN.{length}
 use Rattle.rules.specs.declared.step.Step.{Step}
 use Rattle.rules.specs.declared.step.Step.the-variants.{Finished, TooManyOpen}
 use Rattle.rules.specs.Limits.{maxOpen}
 use Rattle.rules.specs.Row.{Table}
 use Rattle.rules.specs.Harden.{harden}
 use Rattle.rules.specs.State.{State, numbersOf, openFunctions}
-use Rattle.rules.specs.Run.{Turn, on, ends, Answer, after, run, ifDone, tally, outcomeOf}
+use Rattle.rules.specs.Run.{Turn, run, tally, outcomeOf}
 use Rattle.rules.specs.Source.{Source, sourceStep, sourceStart, sourceRun}
-use Rattle.rules.specs.Hardened.{Counters, Hardened, none, hardenedStep, strikingStep, hardenedStart, hardenedRun}
+use Rattle.rules.specs.Hardened.{Counters, Hardened, none, strikingStep, hardenedStart}
 use Rattle.rules.specs.Match.{Shown, shown, quietAt, matching}
 use Rattle.rules.specs.Demands.{Unstruck}
 use Rattle.rules.proofs.Accepted.{Proper}
-use Rattle.rules.proofs.Relation.{Back, sourceBacks, lineBacks, src, hard, Related, Same, Both, both-on, both-end}
-use Rattle.rules.proofs.Simulate.{extraAt, Next, moves, waits, next, start}
+use Rattle.rules.proofs.Relation.{Back, sourceBacks, lineBacks, Related, Same, both-on, both-end}
+use Rattle.rules.proofs.Simulate.{Next, moves, waits, next, start}
 
 -- ---- the two machines, as a run takes them
 abbrev pub sourceMachine : Table → ℕ → Source → Turn (Unit {0})

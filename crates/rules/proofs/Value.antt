@@ -11,9 +11,9 @@ use borrow.Author.Tests.{eq-eqb, ne-eqb}
 use Rattle.rules.specs.declared.kind.Kind.{Kind}
 use Rattle.rules.specs.declared.kind.Kind.the-variants.{Function, Do, If, Else, Loop, End, Break, Continue, Call, Unknown}
 use Rattle.rules.specs.Row.{Table, kindAt}
-use Rattle.rules.specs.Scan.{Part, body, thenPart, elsePart, loopBody, Open, Shape, pushes, turns, closes, stays, shapeOf, turned, openAfter, regions, openAt}
+use Rattle.rules.specs.Scan.{Part, body, Open, Shape, pushes, turns, closes, stays, shapeOf, turned, openAfter, regions, openAt}
 use Rattle.rules.specs.Value.{past, takes, takesIn, taken, base, value}
-use Rattle.rules.proofs.Scan.{Chain, chain, regions-mono, open-next, Closing, by-turn, by-close, not-closing, origin, turned-origin, pushes-origin}
+use Rattle.rules.proofs.Scan.{Chain, chain, regions-mono, Closing, by-turn, by-close, not-closing, origin, turned-origin, pushes-origin}
 
 -- ---- what a region has taken grows
 pub taken-mono : (t : Table) (g : ℕ) {i : ℕ} (j : ℕ) → i ≤ j → taken t g i ≤ taken t g j

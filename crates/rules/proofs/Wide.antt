@@ -1,6 +1,6 @@
 -- After a wide jump no guard passes: a guard passes only at the run's own place, or at the tick of the do before or after it, and no
 -- guard lies between those; and region 0 has not ended anywhere before the ret. Assumes that the table is accepted.
-use mathlib.Core.Logic.{_≢_, _⊎_, inl, inr}
+use mathlib.Core.Logic.{_⊎_, inl, inr}
 use mathlib.Core.Path.{_≡_, refl, sym, ap, _∙_, subst}
 use mathlib.Core.Bool.{Bool, true, false, cond, _||_}
 use mathlib.Core.List.{List, [], _∷_}
@@ -10,19 +10,18 @@ use native.Mathlib.Omega.{arith}
 use lib.ListN.{length}
 use lib.Dec.{eqb}
 use borrow.Author.Tests.{eqb-true, ne-eqb}
-use Rattle.rules.specs.declared.kind.Kind.{Kind}
 use Rattle.rules.specs.declared.kind.Kind.the-variants.{Do, End, Call}
 use Rattle.rules.specs.Row.{Table, kindAt}
-use Rattle.rules.specs.Scan.{Part, body, thenPart, elsePart, loopBody, Open, regions, openAt, regionOf, bodyRegion, functionRow, endOf}
+use Rattle.rules.specs.Scan.{Part, body, thenPart, elsePart, loopBody, Open, regions, openAt, bodyRegion, functionRow, endOf}
 use Rattle.rules.specs.Value.{takes, value}
 use Rattle.rules.specs.Line.{Line, lineAt, isGuard}
-use Rattle.rules.specs.Harden.{lineCount, lineOf, rowLines, endValue, harden}
-use Rattle.rules.specs.Match.{isDo, guardFrom, guardBetween}
+use Rattle.rules.specs.Harden.{lineOf, rowLines, endValue, harden}
+use Rattle.rules.specs.Match.{guardFrom, guardBetween}
 use Rattle.rules.proofs.Logic.{clash}
 use Rattle.rules.proofs.Accepted.{Proper}
 use Rattle.rules.proofs.Value.{AllHeld, held, Held, value-moves}
 use Rattle.rules.proofs.Harden.{line-at}
-use Rattle.rules.proofs.Function.{InFunction, function-end, FunctionEnd, body-is, not-past-end, not-silent}
+use Rattle.rules.proofs.Function.{InFunction, function-end, body-is, not-past-end, not-silent}
 use Rattle.rules.proofs.Counters.{counterOf, counters, holding, at-region}
 use Rattle.rules.proofs.Unique.{part-takes, unique}
 use Rattle.rules.proofs.Relation.{Mode, ready, ticking, backing, body-below}

@@ -20,6 +20,7 @@ pub mod Cases
 pub mod Report
 pub mod Refusals
 pub mod Arithmetic
+pub mod Checks
 pub mod Match
 pub mod Demands
 pub mod Reading
