@@ -25,3 +25,4 @@ pub mod Match
 pub mod Demands
 pub mod Reading
 pub mod Bounds
+pub mod Links
