@@ -31,6 +31,7 @@ pub mod Encode
 pub mod ReadRow
 pub mod ReadBack
 pub mod Reading
+pub mod Calls
 pub mod Demand3
 pub mod Instance
 pub mod Compute
