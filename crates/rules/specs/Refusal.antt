@@ -7,7 +7,7 @@ use Rattle.rules.specs.declared.refusal.Verdict.{Verdict}
 use Rattle.rules.specs.declared.refusal.Verdict.the-variants.{Accepted, Refused}
 
 -- the column "Number"
-unfoldable pub refusalNumber : Refusal → ℕ
+abbrev pub refusalNumber : Refusal → ℕ
 refusalNumber NoWholeRows = 1
 refusalNumber TooManyRows = 2
 refusalNumber WrongField = 3
@@ -20,7 +20,7 @@ refusalNumber ShortRoom = 9
 refusalNumber NotHardened = 10
 
 -- "Accepted: 0"
-unfoldable pub numberOf : Verdict → ℕ
+abbrev pub numberOf : Verdict → ℕ
 numberOf Accepted = 0
 numberOf (Refused r) = refusalNumber r
 
