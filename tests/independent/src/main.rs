@@ -1,0 +1,64 @@
+//! The command line.
+
+use std::env;
+use std::io::{self, Write};
+use std::path::Path;
+use std::process::ExitCode;
+
+use independent::protocol::Test;
+use independent::{replay, replay_read, replay_run, text};
+
+const USAGE: &str = "usage:
+  independent harden                            rows on stdin, lines on stdout
+  independent readback                          lines on stdin, rows on stdout
+  independent replay SEED COUNT DIR             tests of check and harden
+  independent replay-read SEED COUNT DIR        tests of reading back
+  independent replay-run SEED COUNT DIR [long]  tests of runs";
+
+fn main() -> ExitCode {
+    let arguments: Vec<String> = env::args().skip(1).collect();
+    let words: Vec<&str> = arguments.iter().map(String::as_str).collect();
+    let done = match words[..] {
+        ["harden"] => text::harden(io::stdin().lock()).and_then(|text| print(&text)),
+        ["readback"] => text::read_back(io::stdin().lock()).and_then(|text| print(&text)),
+        ["replay", seed, count, to] => files(replay::tests, seed, count, to, Vec::new()),
+        ["replay-read", seed, count, to] => files(replay_read::tests, seed, count, to, Vec::new()),
+        ["replay-run", seed, count, to] => files(replay_run::tests, seed, count, to, Vec::new()),
+        ["replay-run", seed, count, to, "long"] => {
+            files(replay_run::tests, seed, count, to, replay_run::long_tests())
+        }
+        _ => Err(wrong_usage()),
+    };
+    match done {
+        Ok(()) => ExitCode::SUCCESS,
+        Err(error) => {
+            eprintln!("independent: {error}");
+            ExitCode::from(2)
+        }
+    }
+}
+
+fn wrong_usage() -> io::Error {
+    io::Error::new(io::ErrorKind::InvalidInput, USAGE)
+}
+
+fn print(text: &str) -> io::Result<()> {
+    let mut out = io::stdout().lock();
+    out.write_all(text.as_bytes())?;
+    out.flush()
+}
+
+/// Writes the two files of a replay command.
+fn files(
+    make: fn(u64, usize) -> Vec<Test>,
+    seed: &str,
+    count: &str,
+    to: &str,
+    more: Vec<Test>,
+) -> io::Result<()> {
+    let seed = seed.parse().map_err(|_| wrong_usage())?;
+    let count = count.parse().map_err(|_| wrong_usage())?;
+    let mut tests = make(seed, count);
+    tests.extend(more);
+    replay::write(&tests, Path::new(to))
+}

@@ -1,0 +1,232 @@
+//! Random programs that are worth running: most of their loops end, most of
+//! their calls return, and some recurse up to the limit or past it.
+
+use crate::machine::Variables;
+use crate::make::{self, bytes_of};
+use crate::random::Random;
+use crate::row::{self, Row};
+
+/// A table and the first values of a run.
+#[derive(Clone, Debug)]
+pub struct Program {
+    pub rows: Vec<u8>,
+    pub variables: Variables,
+}
+
+/// Holds 1 in most programs.
+const ONE: u8 = 15;
+/// Counts the guarded recursions that are left.
+const FUEL: u8 = 14;
+/// v8 to v13 count the rounds of loops, by depth.
+const FIRST_COUNTER: u8 = 8;
+const COUNTER_VARIABLES: u8 = 6;
+/// Ifs and loops open in a program; the tables of `make` go to the limit.
+const DEEPEST: u8 = 6;
+
+/// A random program with about so many rows (at least 4).
+pub fn program(rng: &mut Random, size: usize) -> Program {
+    if rng.percent(15) {
+        let rows = make::table_of(rng, size);
+        return Program { rows, variables: wild(rng) };
+    }
+    let functions = rng.pick(&[1, 1, 2, 2, 3, 4]).min(size / 3).max(1);
+    let mut writer = Writer { rng, rows: Vec::new(), functions, number: 0 };
+    for number in 0..functions {
+        writer.number = number;
+        writer.function(size / functions);
+    }
+    let rows = bytes_of(&writer.rows);
+    Program { rows, variables: tame(rng) }
+}
+
+/// First values that let loops and recursions end.
+fn tame(rng: &mut Random) -> Variables {
+    let mut variables = [0; 16];
+    for v in variables.iter_mut() {
+        *v = if rng.percent(80) { rng.word() % 4 } else { rng.value() };
+    }
+    variables[usize::from(FUEL)] = rng.pick(&[0, 1, 2, 3, 5, 14, 15, 16, 17, 40]);
+    variables[usize::from(ONE)] = if rng.percent(95) { 1 } else { rng.value() };
+    variables
+}
+
+/// Any first values.
+fn wild(rng: &mut Random) -> Variables {
+    let mut variables = [0; 16];
+    for v in variables.iter_mut() {
+        *v = rng.value();
+    }
+    variables
+}
+
+/// Writes the rows of a program.
+struct Writer<'a> {
+    rng: &'a mut Random,
+    rows: Vec<Row>,
+    functions: usize,
+    /// the function being written
+    number: usize,
+}
+
+/// Where a block stands.
+#[derive(Clone, Copy)]
+struct Spot {
+    open: u8,
+    in_loop: bool,
+}
+
+impl Writer<'_> {
+    fn put(&mut self, kind: u8, op: u8, p: u8, q: u8, n: u16) {
+        self.rows.push(Row { kind, op, p, q, n });
+    }
+
+    fn plain(&mut self, kind: u8) {
+        self.rows.push(Row::plain(kind));
+    }
+
+    fn function(&mut self, size: usize) {
+        self.plain(row::FUNCTION);
+        self.block(size.saturating_sub(2), Spot { open: 0, in_loop: false });
+        self.plain(row::END);
+    }
+
+    /// A block of about so many rows.
+    fn block(&mut self, room: usize, spot: Spot) {
+        let stop = self.rows.len() + room;
+        while self.rows.len() < stop {
+            let left = stop - self.rows.len();
+            self.statement(left, spot);
+        }
+    }
+
+    fn statement(&mut self, room: usize, spot: Spot) {
+        let may_open = room >= 3 && spot.open < DEEPEST;
+        match self.rng.below(20) {
+            0..=2 if may_open => self.conditional(room, spot),
+            3..=4 if may_open => self.with_else(room, spot),
+            5..=7 if may_open && spot.open < COUNTER_VARIABLES => self.counted(room, spot),
+            8 if may_open => self.free_loop(room, spot),
+            9..=10 if may_open && spot.in_loop => self.guarded_exit(),
+            11 if spot.in_loop && self.rng.percent(25) => self.exit(),
+            12 if self.number + 1 < self.functions => self.forward_call(),
+            13 if may_open => self.recursion(),
+            14 if self.rng.percent(15) => self.any_call(),
+            _ => self.arithmetic(),
+        }
+    }
+
+    /// A do over v0 to v7, now and then over any variable.
+    fn arithmetic(&mut self) {
+        if self.rng.percent(4) {
+            let any = make::do_row(self.rng);
+            return self.rows.push(any);
+        }
+        let p = self.rng.byte() % 8;
+        match self.rng.below(4) {
+            0 => {
+                let n = self.rng.word() % 5;
+                self.put(row::DO, 0, p, 0, n);
+            }
+            op => {
+                let q = if self.rng.percent(40) { ONE } else { self.rng.byte() % 8 };
+                let op = u8::try_from(op).expect("below 4");
+                self.put(row::DO, op, p, q, 0);
+            }
+        }
+    }
+
+    /// A test over v0 to v7 that is true about every other time.
+    fn test(&mut self, kind: u8) {
+        let p = self.rng.byte() % 8;
+        match self.rng.below(3) {
+            0 => {
+                let n = self.rng.word() % 3;
+                self.put(kind, 0, p, 0, n);
+            }
+            1 => {
+                let n = self.rng.word() % 3;
+                self.put(kind, 1, p, 0, n);
+            }
+            _ => {
+                let q = self.rng.byte() % 8;
+                self.put(kind, 2, p, q, 0);
+            }
+        }
+    }
+
+    fn inside(&mut self, room: usize, spot: Spot, in_loop: bool) {
+        let room = self.rng.between(0, room);
+        self.block(room, Spot { open: spot.open + 1, in_loop });
+    }
+
+    fn conditional(&mut self, room: usize, spot: Spot) {
+        self.test(row::IF);
+        self.inside(room - 2, spot, spot.in_loop);
+        self.plain(row::END);
+    }
+
+    fn with_else(&mut self, room: usize, spot: Spot) {
+        self.test(row::IF);
+        self.inside(room - 3, spot, spot.in_loop);
+        self.plain(row::ELSE);
+        self.inside(room - 3, spot, spot.in_loop);
+        self.plain(row::END);
+    }
+
+    /// A loop of one to four rounds. It counts down at once, so that a continue
+    /// does not make it endless.
+    fn counted(&mut self, room: usize, spot: Spot) {
+        let counter = FIRST_COUNTER + spot.open;
+        let rounds = 1 + self.rng.word() % 4;
+        self.put(row::DO, 0, counter, 0, rounds);
+        self.put(row::LOOP, 1, counter, 0, 0);
+        self.put(row::DO, 3, counter, ONE, 0);
+        self.inside(room, spot, true);
+        self.plain(row::END);
+    }
+
+    /// A loop that may never end, or never begin.
+    fn free_loop(&mut self, room: usize, spot: Spot) {
+        self.test(row::LOOP);
+        self.inside(room - 2, spot, true);
+        if self.rng.percent(60) {
+            self.exit();
+        }
+        self.plain(row::END);
+    }
+
+    /// A break or continue under a test.
+    fn guarded_exit(&mut self) {
+        self.test(row::IF);
+        self.exit();
+        self.plain(row::END);
+    }
+
+    fn exit(&mut self) {
+        let kind = self.rng.pick(&[row::BREAK, row::BREAK, row::CONTINUE]);
+        self.plain(kind);
+    }
+
+    fn call(&mut self, function: usize) {
+        let n = u16::try_from(function).expect("there are few functions");
+        self.put(row::CALL, 0, 0, 0, n);
+    }
+
+    fn forward_call(&mut self) {
+        let callee = self.rng.between(self.number + 1, self.functions - 1);
+        self.call(callee);
+    }
+
+    fn any_call(&mut self) {
+        let callee = self.rng.below(self.functions);
+        self.call(callee);
+    }
+
+    /// A call of any function while there is fuel.
+    fn recursion(&mut self) {
+        self.put(row::IF, 1, FUEL, 0, 0);
+        self.put(row::DO, 3, FUEL, ONE, 0);
+        self.any_call();
+        self.plain(row::END);
+    }
+}

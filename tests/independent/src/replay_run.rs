@@ -1,0 +1,310 @@
+//! The files of `independent replay-run`: tests of source runs and hardened
+//! runs.
+
+use crate::calls::COUNTER_WORDS;
+use crate::damage;
+use crate::faults;
+use crate::hardened_run::{spans_of, HardenedRun};
+use crate::limits;
+use crate::line;
+use crate::machine::{Outcome, Variables, NO_JUMP};
+use crate::program::{self, Program};
+use crate::protocol::{self, Struck, Test};
+use crate::random::Random;
+use crate::replay::LINE_LIMIT;
+
+/// The fixed tests, then `count` random ones.
+pub fn tests(seed: u64, count: usize) -> Vec<Test> {
+    let mut rng = Random::new(seed);
+    let mut tests = fixed();
+    let stop = tests.len() + count;
+    let small_programs = tests.len() + count / 2;
+    while tests.len() < small_programs {
+        tests.extend(every_step_and_place(&small_program(&mut rng)));
+    }
+    while tests.len() < stop {
+        tests.push(random_test(&mut rng));
+    }
+    tests.truncate(stop);
+    assert!(tests.iter().all(|t| t.ask.len() < LINE_LIMIT && t.answer.len() < LINE_LIMIT));
+    tests
+}
+
+/// Hardened runs with the budget 65,535 and as many slots, and one fewer: their
+/// answers spell all slots and are longer than the other lines may be.
+pub fn long_tests() -> Vec<Test> {
+    let rows = limits::endless(8);
+    let lines = damage::hardened(&rows);
+    let how = |k, place| Struck { budget: 65_535, k, place, slots: 65_535, words: 1024 };
+    let mut tests = [how(NO_JUMP, 3), how(65_534, 1), how(65_534, 19), how(65_533, 0)]
+        .map(|how| protocol::hardened(how, &[0; 16], &lines))
+        .to_vec();
+    let short = Struck { slots: 65_534, ..how(NO_JUMP, 0) };
+    tests.push(protocol::hardened(short, &[0; 16], &lines));
+    tests.push(protocol::source(65_535, 65_534, &[0; 16], &rows));
+    tests
+}
+
+/// v1 = 1, all else 0, as in 01's cases.
+fn case_values() -> Variables {
+    let mut variables = [0; 16];
+    variables[1] = 1;
+    variables
+}
+
+/// An accepted run: as many slots as the budget, 1,024 words.
+fn simple(budget: u16, k: u16, place: u16) -> Struck {
+    Struck { budget, k, place, slots: usize::from(budget), words: COUNTER_WORDS }
+}
+
+/// 01's cases, every step and place of the listing, the limits of runs.
+pub fn fixed() -> Vec<Test> {
+    let mut tests = cases();
+    let listing = Program { rows: limits::worked_listing(), variables: case_values() };
+    tests.extend(every_step_and_place(&listing));
+    tests.extend(recursion());
+    tests.extend(buffers());
+    tests.extend(budgets());
+    tests.extend(numbers_at_the_edge());
+    tests
+}
+
+/// (A) to (J), as far as they are runs.
+fn cases() -> Vec<Test> {
+    let rows = limits::worked_listing();
+    let lines = damage::hardened(&rows);
+    let values = case_values();
+    let mut tests = vec![protocol::source(20, 20, &values, &rows)];
+    for how in [
+        simple(20, NO_JUMP, 0),
+        simple(20, 4, 6),
+        simple(20, 0, 1),
+        simple(20, 0, 7),
+        simple(20, 0, 8),
+        simple(11, NO_JUMP, 0),
+    ] {
+        tests.push(protocol::hardened(how, &values, &lines));
+    }
+    let lone = &rows[..6];
+    let pair = [&rows[..6], &rows[30..]].concat();
+    for table in [&[][..], lone, &pair] {
+        tests.push(protocol::source(20, 20, &values, table));
+    }
+    tests.push(protocol::hardened(simple(20, NO_JUMP, 0), &values, &[]));
+    tests.push(protocol::hardened(simple(20, NO_JUMP, 0), &values, &damage::hardened(&pair)));
+    tests
+}
+
+/// 16 functions open, and a 17th.
+fn recursion() -> Vec<Test> {
+    let rows = limits::recursion();
+    let lines = damage::hardened(&rows);
+    let mut tests = Vec::new();
+    for calls in [0, 1, 14, 15, 16, 17, 65_535] {
+        let mut values = case_values();
+        values[0] = calls;
+        for budget in [60, 61, 62, 63, 64, 75, 76, 77, 78, 79, 80, 81, 107, 108, 109, 200] {
+            tests.push(protocol::source(budget, usize::from(budget), &values, &rows));
+            tests.push(protocol::hardened(simple(budget, NO_JUMP, 0), &values, &lines));
+        }
+    }
+    tests
+}
+
+/// Slots equal to the budget, one fewer, one more; 1,023, 1,024 and 1,100 words.
+fn buffers() -> Vec<Test> {
+    let rows = limits::worked_listing();
+    let lines = damage::hardened(&rows);
+    let values = case_values();
+    let mut tests = Vec::new();
+    for (budget, slots) in
+        [(20, 20), (20, 19), (20, 21), (0, 0), (0, 3), (1, 1), (1, 0), (9, 9), (9, 8), (9, 3)]
+    {
+        tests.push(protocol::source(budget, slots, &values, &rows));
+        for words in [1024, 1023, 1100, 0] {
+            let how = Struck { budget, k: NO_JUMP, place: 0, slots, words };
+            tests.push(protocol::hardened(how, &values, &lines));
+        }
+    }
+    // 10 before 9, and 1 to 7 before 9
+    let how = Struck { budget: 9, k: 0, place: 0, slots: 3, words: 5 };
+    tests.push(protocol::hardened(how, &values, &lines[20..]));
+    tests.push(protocol::source(9, 3, &values, &rows[6..]));
+    tests
+}
+
+/// Budgets from 0 to past the end, and 65,535.
+fn budgets() -> Vec<Test> {
+    let rows = limits::worked_listing();
+    let lines = damage::hardened(&rows);
+    let values = case_values();
+    let mut tests = Vec::new();
+    for budget in 0..=14 {
+        tests.push(protocol::source(budget, usize::from(budget), &values, &rows));
+        for k in [NO_JUMP, budget, budget + 1] {
+            tests.push(protocol::hardened(simple(budget, k, 8), &values, &lines));
+        }
+    }
+    // 65,535 slots fit into a line where most hold row numbers of one digit
+    tests.push(protocol::source(65_535, 65_535, &[0; 16], &limits::endless(8)));
+    tests.extend(short_of_65535(&values, &rows, &lines));
+    tests
+}
+
+/// The budget 65,535 with fewer slots: 9, whatever the run would need.
+fn short_of_65535(values: &Variables, rows: &[u8], lines: &[u8]) -> Vec<Test> {
+    let mut tests = Vec::new();
+    for slots in [0, 12, 300] {
+        tests.push(protocol::source(65_535, slots, values, rows));
+        for k in [NO_JUMP, 65_534, 3] {
+            let how = Struck { slots, ..simple(65_535, k, 3) };
+            tests.push(protocol::hardened(how, values, lines));
+        }
+    }
+    tests
+}
+
+/// Steps and places at the edge of 16 bits.
+fn numbers_at_the_edge() -> Vec<Test> {
+    let lines = damage::hardened(&limits::worked_listing());
+    let values = case_values();
+    let mut tests = Vec::new();
+    for k in [0, 5, 11, 12, 13, 19, 20, 21, 65_534, 65_535] {
+        for place in [0, 7, 8, 9, 255, 256, 65_534, 65_535] {
+            tests.push(protocol::hardened(simple(20, k, place), &values, &lines));
+        }
+    }
+    tests
+}
+
+/// A run without a jump: its steps, and the lines of the function that runs
+/// before each step.
+fn unstruck(lines: &[u8], variables: &Variables, budget: u16) -> (u16, Vec<usize>) {
+    let lines = line::from_bytes(lines);
+    let mut run = HardenedRun::new(&lines, *variables);
+    let mut running = Vec::new();
+    for step in 1..=budget {
+        running.push(run.span().m);
+        if run.run(step, None) != Outcome::BudgetSpent {
+            break;
+        }
+    }
+    (run.steps, running)
+}
+
+/// A program whose hardened run is short.
+fn small_program(rng: &mut Random) -> Program {
+    loop {
+        let size = rng.between(4, 9);
+        let program = program::program(rng, size);
+        let lines = damage::hardened(&program.rows);
+        let (steps, _) = unstruck(&lines, &program.variables, 40);
+        if (4..=16).contains(&steps) && lines.len() <= 16 * 20 {
+            return program;
+        }
+    }
+}
+
+/// Before every step a jump to every place, m + 1 among them, wide and not; then
+/// steps that do not come.
+fn every_step_and_place(program: &Program) -> Vec<Test> {
+    let lines = damage::hardened(&program.rows);
+    let variables = &program.variables;
+    let (steps, running) = unstruck(&lines, variables, 40);
+    let budget = steps + 4;
+    let mut tests = vec![
+        protocol::source(budget, usize::from(budget), variables, &program.rows),
+        protocol::hardened(simple(budget, NO_JUMP, 0), variables, &lines),
+        protocol::hardened(simple(budget, steps, 0), variables, &lines),
+        protocol::hardened(simple(budget, budget, 0), variables, &lines),
+    ];
+    for (k, m) in running.iter().enumerate() {
+        for place in 0..=m + 1 {
+            let how = simple(budget, word(k), word(place));
+            tests.push(protocol::hardened(how, variables, &lines));
+        }
+    }
+    tests
+}
+
+fn word(number: usize) -> u16 {
+    u16::try_from(number).expect("a small number")
+}
+
+/// A random program with random values, budget, jump and buffers.
+fn random_test(rng: &mut Random) -> Test {
+    let size = rng.between(4, 28);
+    let program = program::program(rng, size);
+    let budget = some_budget(rng);
+    if rng.percent(25) {
+        let slots = some_slots(rng, budget);
+        let rows = if rng.percent(12) { small_fault(rng) } else { program.rows };
+        return protocol::source(budget, slots, &program.variables, &rows);
+    }
+    let lines = damage::hardened(&program.rows);
+    let how = some_strike(rng, &lines, &program.variables, budget);
+    let bytes = if rng.percent(8) { damage::any(rng, &lines) } else { lines };
+    protocol::hardened(how, &program.variables, &bytes)
+}
+
+/// A table that is likely to be turned away, and not a large one.
+fn small_fault(rng: &mut Random) -> Vec<u8> {
+    loop {
+        let rows = if rng.percent(30) { faults::mutated(rng) } else { faults::any(rng).0 };
+        if rows.len() < 6 * 1024 {
+            return rows;
+        }
+    }
+}
+
+/// 0, 1, small, large, 65,535 (which `some_slots` lends too few slots).
+fn some_budget(rng: &mut Random) -> u16 {
+    word(match rng.below(100) {
+        0..=3 => 0,
+        4..=7 => 1,
+        8..=50 => rng.between(2, 40),
+        51..=90 => rng.between(40, 300),
+        91..=97 => rng.between(300, 1200),
+        _ => 65_535,
+    })
+}
+
+/// Mostly as many slots as the budget, sometimes one fewer, none, or more.
+fn some_slots(rng: &mut Random, budget: u16) -> usize {
+    let exact = usize::from(budget);
+    if exact > 10_000 {
+        return rng.below(50);
+    }
+    match rng.below(20) {
+        0 => exact.saturating_sub(1),
+        1 => 0,
+        2..=4 => exact + rng.between(1, 20),
+        _ => exact,
+    }
+}
+
+/// A jump within the run, at its end, past it, or none; a place in the running
+/// function, its m, or beyond.
+fn some_strike(rng: &mut Random, lines: &[u8], variables: &Variables, budget: u16) -> Struck {
+    let (steps, running) = unstruck(lines, variables, budget.min(2000));
+    let slots = some_slots(rng, budget);
+    let words = rng.pick(&[1024, 1024, 1024, 1024, 1024, 1024, 1024, 1100, 1100, 1025, 1023, 0]);
+    let k = match rng.below(20) {
+        0..=3 => NO_JUMP,
+        4 => budget,
+        5 => steps,
+        6 => steps + word(rng.between(1, 9)),
+        _ => word(rng.below(usize::from(steps) + 1)),
+    };
+    let m = match running.get(usize::from(k)) {
+        Some(m) => *m,
+        None => spans_of(&line::from_bytes(lines))[0].m,
+    };
+    let place = match rng.below(20) {
+        0..=1 => m,
+        2 => m + 1,
+        3 => rng.pick(&[65_535, 65_534, 256]),
+        _ => rng.below(m + 1),
+    };
+    Struck { budget, k, place: word(place), slots, words }
+}

@@ -1,0 +1,146 @@
+//! A run of a source table, over the tree (01, "Running").
+
+use crate::machine::{do_it, holds, Outcome, Variables, MOST_OPEN_FUNCTIONS};
+use crate::row::Row;
+use crate::table::{Block, Else, Stmt, Table};
+
+/// A source run and what it has done so far.
+pub struct SourceRun<'a> {
+    table: &'a Table,
+    budget: u16,
+    pub steps: u16,
+    pub variables: Variables,
+    /// "The trace is the do row numbers in order."
+    pub trace: Vec<u16>,
+    /// calls made
+    pub calls: u16,
+    /// "the numbers of those opened and not returned, oldest first"
+    pub open: Vec<usize>,
+}
+
+/// How a block was left.
+#[derive(PartialEq, Eq)]
+enum Flow {
+    /// past its last statement
+    On,
+    Broken,
+    Continued,
+}
+
+impl<'a> SourceRun<'a> {
+    pub fn new(table: &'a Table, variables: Variables, budget: u16) -> SourceRun<'a> {
+        SourceRun { table, budget, steps: 0, variables, trace: Vec::new(), calls: 0, open: vec![0] }
+    }
+
+    /// "Function 0 runs first."
+    pub fn run(&mut self) -> Outcome {
+        match self.function(0) {
+            Err(outcome) => outcome,
+            Ok(()) => unreachable!("the end of the first function stops the run"),
+        }
+    }
+
+    /// "Each row reached is one step". A run whose budget is spent stops before
+    /// the step.
+    fn step(&mut self) -> Result<(), Outcome> {
+        if self.steps == self.budget {
+            return Err(Outcome::BudgetSpent);
+        }
+        self.steps += 1;
+        Ok(())
+    }
+
+    /// A function that has been opened, "from the row after its function's 01"
+    /// to its end row, which "finishes when one function is open".
+    fn function(&mut self, number: usize) -> Result<(), Outcome> {
+        let table = self.table;
+        let flow = self.block(&table.functions[number].body)?;
+        assert!(flow == Flow::On, "breaks and continues stand in loops");
+        self.step()?;
+        if self.open.len() == 1 {
+            return Err(Outcome::Finished);
+        }
+        self.open.pop();
+        Ok(())
+    }
+
+    fn block(&mut self, block: &Block) -> Result<Flow, Outcome> {
+        for stmt in block {
+            let flow = self.statement(stmt)?;
+            if flow != Flow::On {
+                return Ok(flow);
+            }
+        }
+        Ok(Flow::On)
+    }
+
+    fn statement(&mut self, stmt: &Stmt) -> Result<Flow, Outcome> {
+        self.step()?;
+        match stmt {
+            Stmt::Do { row, what } => self.perform(*row, *what),
+            Stmt::Break { .. } => return Ok(Flow::Broken),
+            Stmt::Continue { .. } => return Ok(Flow::Continued),
+            Stmt::Call { function, .. } => self.call(usize::from(*function))?,
+            Stmt::If { test, then, other, .. } => {
+                return self.conditional(*test, then, other.as_ref())
+            }
+            Stmt::While { test, body, .. } => self.repeat(*test, body)?,
+        }
+        Ok(Flow::On)
+    }
+
+    fn perform(&mut self, row: usize, what: Row) {
+        do_it(what.op, what.p, what.q, what.n, &mut self.variables);
+        self.trace.push(u16::try_from(row).expect("row numbers are below 1,024"));
+    }
+
+    fn test(&self, test: Row) -> bool {
+        holds(test.op, test.p, test.q, test.n, &self.variables)
+    }
+
+    /// "The step that ends in 2 or 3 is counted and that call is not made."
+    fn call(&mut self, number: usize) -> Result<(), Outcome> {
+        if self.open.len() == MOST_OPEN_FUNCTIONS {
+            return Err(Outcome::TooManyOpen);
+        }
+        self.open.push(number);
+        self.calls += 1;
+        self.function(number)
+    }
+
+    /// The test's own step has been counted. "A false test goes to the first row
+    /// of the else part, or past the end where there is none."
+    fn conditional(
+        &mut self,
+        test: Row,
+        then: &Block,
+        other: Option<&Else>,
+    ) -> Result<Flow, Outcome> {
+        let part = match (self.test(test), other) {
+            (true, _) => then,
+            (false, Some(other)) => &other.block,
+            (false, None) => return Ok(Flow::On),
+        };
+        let flow = self.block(part)?;
+        if flow == Flow::On {
+            // The row that closes the part: the else row, which "reached from
+            // the then part goes past its end", or the end row.
+            self.step()?;
+        }
+        Ok(flow)
+    }
+
+    /// The step of the first test has been counted. "break goes past the loop's
+    /// end; continue and the loop's end go to its test."
+    fn repeat(&mut self, test: Row, body: &Block) -> Result<(), Outcome> {
+        while self.test(test) {
+            match self.block(body)? {
+                Flow::Broken => return Ok(()),
+                Flow::Continued => {}
+                Flow::On => self.step()?, // the end row
+            }
+            self.step()?; // the test again
+        }
+        Ok(())
+    }
+}

@@ -1,0 +1,104 @@
+//! The replay files: the same for the same seed, of moderate size, with every
+//! number and outcome in them.
+
+use std::collections::BTreeMap;
+
+use independent::protocol::{self, Test};
+use independent::{replay, replay_read, replay_run};
+
+fn size(tests: &[Test]) -> (usize, usize) {
+    let sum = |pick: fn(&Test) -> usize| tests.iter().map(|test| pick(test) + 1).sum();
+    (sum(|test| test.ask.len()), sum(|test| test.answer.len()))
+}
+
+/// How often each first word, or each first two words, of an answer comes.
+fn first_words(tests: &[Test], words: usize) -> BTreeMap<String, usize> {
+    let mut found = BTreeMap::new();
+    for test in tests {
+        let key: Vec<&str> = test.answer.split(' ').take(words).collect();
+        *found.entry(key.join(" ")).or_insert(0) += 1;
+    }
+    found
+}
+
+#[test]
+fn same_seed_same_files() {
+    for make in [replay::tests, replay_read::tests, replay_run::tests] {
+        assert_eq!(make(5, 60), make(5, 60));
+        assert_ne!(make(5, 60), make(6, 60));
+        let (few, many) = (make(5, 0), make(5, 60));
+        assert_eq!(many.len(), few.len() + 60);
+    }
+}
+
+#[test]
+fn fixed_tests_come_first() {
+    for (make, fixed) in [
+        (replay::tests as fn(u64, usize) -> Vec<Test>, replay::fixed()),
+        (replay_read::tests, replay_read::fixed()),
+        (replay_run::tests, replay_run::fixed()),
+    ] {
+        assert_eq!(make(77, 10)[..fixed.len()], fixed);
+    }
+}
+
+#[test]
+fn moderate_sizes() {
+    for make in [replay::tests, replay_read::tests, replay_run::tests] {
+        for seed in 0..12 {
+            let tests = make(seed, 600);
+            let (asks, answers) = size(&tests);
+            assert!(asks < 1_500_000 && answers < 1_500_000, "{asks} {answers}");
+            assert!(tests.iter().all(|t| t.ask.is_ascii() && t.answer.is_ascii()));
+        }
+    }
+}
+
+#[test]
+fn every_number_comes() {
+    let found = first_words(&replay::tests(1, 600), 1);
+    for number in 0..=8 {
+        assert!(found[&number.to_string()] >= 4, "{found:?}");
+    }
+    let found = first_words(&replay_read::tests(1, 600), 1);
+    for number in ["0", "8", "10"] {
+        assert!(found[number] >= 20, "{found:?}");
+    }
+    let found = first_words(&replay_run::tests(1, 600), 2);
+    for outcome in ["0 0", "0 1", "0 2", "0 3", "0 4", "9 0", "10 0"] {
+        assert!(found[outcome] >= 10, "{found:?}");
+    }
+    let found = first_words(&replay_run::tests(1, 6000), 1);
+    for number in ["0", "1", "3", "4", "5", "6", "7", "9", "10"] {
+        assert!(found[number] >= 3, "{found:?}");
+    }
+}
+
+#[test]
+fn the_lines_spell_what_the_brief_says() {
+    let empty = protocol::check(&[]);
+    assert_eq!((empty.ask.as_str(), empty.answer.as_str()), ("check -", "1"));
+    let pair = [1, 0, 0, 0, 0, 0, 6, 0, 0, 0, 0, 0];
+    let exact = protocol::harden(21, &pair);
+    assert_eq!(exact.ask, "harden 21 010000000000060000000000");
+    assert_eq!(exact.answer, "0 20 2800000000000000000001000200000000000000a5");
+    let short = protocol::harden(2, &pair);
+    assert_eq!(short.answer, "8 0 a5a5");
+    let none = protocol::harden(0, &pair);
+    assert_eq!(none.answer, "8 0 -");
+    let run = protocol::source(2, 3, &[0; 16], &pair);
+    assert_eq!(run.ask, "source 2 3 0,0,0,0,0,0,0,0,0,0,0,0,0,0,0,0 010000000000060000000000");
+    assert_eq!(run.answer, "0 1 1 0 0,0,0,0,0,0,0,0,0,0,0,0,0,0,0,0 43690,43690,43690");
+}
+
+#[test]
+fn the_counter_words_of_a_run() {
+    let line = independent::damage::hardened(&[1, 0, 0, 0, 0, 0, 6, 0, 0, 0, 0, 0]);
+    let how = protocol::Struck { budget: 0, k: 65_535, place: 0, slots: 0, words: 1100 };
+    let zero = protocol::hardened(how, &[7; 16], &line);
+    assert!(zero.answer.ends_with(" - zero"), "{}", zero.answer);
+    let kept = protocol::hardened(protocol::Struck { words: 1023, ..how }, &[7; 16], &line);
+    assert!(kept.answer.ends_with(" - kept"), "{}", kept.answer);
+    assert!(kept.answer.starts_with("9 0 0 0 7,7,"));
+    assert!(kept.ask.starts_with("hardened 0 65535 0 0 1023 7,7,"));
+}

@@ -1,0 +1,266 @@
+//! What 01 claims of runs, on random programs and on every short table: the
+//! unstruck hardened run is the source's run at the matching step and raises no
+//! alarm; a wide jump raises it when 01 says.
+
+use independent::hardened_run::{HardenedRun, Jump};
+use independent::line::Line;
+use independent::machine::{do_it, Outcome, Variables};
+use independent::program::{self, Program};
+use independent::random::Random;
+use independent::source_run::SourceRun;
+use independent::table::{self, Table};
+use independent::{check, harden, limits};
+
+/// A program in both forms.
+struct Pair {
+    table: Table,
+    lines: Vec<Line>,
+    variables: Variables,
+}
+
+impl Pair {
+    fn new(rows: &[u8], variables: Variables) -> Pair {
+        let table = table::parse(rows).unwrap();
+        let lines = harden::lines(&table);
+        Pair { table, lines, variables }
+    }
+
+    fn struck(&self, budget: u16, jump: Option<Jump>) -> (Outcome, HardenedRun<'_>) {
+        let mut run = HardenedRun::new(&self.lines, self.variables);
+        (run.run(budget, jump), run)
+    }
+
+    fn source(&self, budget: u16) -> (Outcome, SourceRun<'_>) {
+        let mut run = SourceRun::new(&self.table, self.variables, budget);
+        (run.run(), run)
+    }
+}
+
+/// "Matching step: hardened steps less the ticks and backs done."
+fn unstruck_is_the_sources(pair: &Pair, budget: u16) -> Outcome {
+    let (outcome, hardened) = pair.struck(budget, None);
+    assert_ne!(outcome, Outcome::Alarm);
+    assert_ne!(outcome, Outcome::PlaceBeyond);
+    let (matching, source) = pair.source(hardened.steps - hardened.ticks_and_backs);
+    assert_eq!(matching, outcome);
+    assert_eq!(source.steps, hardened.steps - hardened.ticks_and_backs);
+    assert_eq!(source.trace, hardened.trace);
+    assert_eq!(source.variables, hardened.variables);
+    let open: Vec<usize> = hardened.frames.iter().map(|frame| frame.function).collect();
+    assert_eq!(source.open, open);
+    if outcome == Outcome::BudgetSpent {
+        assert_eq!(hardened.steps, budget);
+    }
+    outcome
+}
+
+/// "A source run that finishes in n steps with t dos and c calls finishes
+/// hardened in n + t + c steps, if that is at most 65,535."
+fn finishing(pair: &Pair, budget: u16) -> bool {
+    let (outcome, source) = pair.source(budget);
+    if outcome != Outcome::Finished {
+        return false;
+    }
+    let steps = usize::from(source.steps) + source.trace.len() + usize::from(source.calls);
+    let Ok(steps) = u16::try_from(steps) else {
+        return false;
+    };
+    let (outcome, hardened) = pair.struck(steps, None);
+    assert_eq!((outcome, hardened.steps), (Outcome::Finished, steps));
+    assert_eq!(pair.struck(steps - 1, None).0, Outcome::BudgetSpent);
+    true
+}
+
+/// "A guard is between two places if one of the lines from the lower place to
+/// just below the higher is a guard."
+fn wide(function: &[Line], one: usize, other: usize) -> bool {
+    function[one.min(other)..one.max(other)].iter().any(Line::is_guard)
+}
+
+/// All jumps before step k, which must be below the unstruck run's length.
+/// Answers how many were wide.
+fn jumps_at(pair: &Pair, k: u16, budget: u16) -> usize {
+    let (_, before) = pair.struck(k, None);
+    let span = before.span();
+    let from = before.frames.last().unwrap().place;
+    let function = &pair.lines[span.first..span.first + span.m];
+    let mut count = 0;
+    for place in 0..=span.m + 1 {
+        let jump = Some(Jump { k, place: place as u16 });
+        if place > span.m {
+            beyond(pair, &before, budget, jump);
+        } else if wide(function, from, place) {
+            count += 1;
+            for budget in [budget, k + 1, k + 2] {
+                wide_jump(pair, &before, budget, k, place);
+            }
+        } else if place == from {
+            same(&pair.struck(budget, jump), &pair.struck(budget, None));
+        }
+        same(&pair.struck(k, jump), &pair.struck(k, None));
+    }
+    count
+}
+
+fn same(one: &(Outcome, HardenedRun), other: &(Outcome, HardenedRun)) {
+    assert_eq!(one.0, other.0);
+    assert_eq!(one.1.steps, other.1.steps);
+    assert_eq!(one.1.trace, other.1.trace);
+    assert_eq!(one.1.variables, other.1.variables);
+}
+
+/// "with 4 the step struck is not taken"
+fn beyond(pair: &Pair, before: &HardenedRun, budget: u16, jump: Option<Jump>) {
+    let (outcome, run) = pair.struck(budget, jump);
+    assert_eq!((outcome, run.steps), (Outcome::PlaceBeyond, before.steps));
+    assert_eq!(run.trace, before.trace);
+    assert_eq!(run.variables, before.variables);
+}
+
+/// "the alarm comes in step k if the place is before a guard, or is m with one
+/// function open; in step k + 1 if it is before a do ..., or is m with more
+/// open. ... Trace and variables are what the first k steps left, with the do at
+/// that place, if one stands there, done on them once."
+fn wide_jump(pair: &Pair, before: &HardenedRun, budget: u16, k: u16, place: usize) {
+    let span = before.span();
+    let line = (place < span.m).then(|| pair.lines[span.first + place]);
+    let alarm_step = match line {
+        Some(line) if line.is_guard() => k,
+        Some(_) => k + 1,
+        None if before.frames.len() == 1 => k,
+        None => k + 1,
+    };
+    let mut variables = before.variables;
+    let mut trace = before.trace.clone();
+    if let Some(line) = line.filter(|line| !line.is_guard()) {
+        do_it(line.op, line.p, line.q, line.n, &mut variables);
+        trace.push(line.e);
+    }
+    let (outcome, run) = pair.struck(budget, Some(Jump { k, place: place as u16 }));
+    if alarm_step < budget {
+        assert_eq!((outcome, run.steps), (Outcome::Alarm, alarm_step + 1));
+    } else {
+        assert_eq!((outcome, run.steps), (Outcome::BudgetSpent, budget));
+    }
+    assert_eq!(run.variables, variables);
+    assert_eq!(run.trace, trace);
+}
+
+fn some_program(seed: u64, largest: usize) -> Program {
+    let mut rng = Random::new(seed);
+    let size = rng.between(4, largest);
+    program::program(&mut rng, size)
+}
+
+#[test]
+fn unstruck_runs_of_random_programs() {
+    let mut outcomes = [0; 5];
+    let mut finished = 0;
+    for seed in 0..6000 {
+        let program = some_program(seed, 60);
+        let pair = Pair::new(&program.rows, program.variables);
+        let mut rng = Random::new(seed);
+        for budget in [0, 1, rng.between(2, 40), rng.between(40, 400), 3000] {
+            let outcome = unstruck_is_the_sources(&pair, budget as u16);
+            outcomes[usize::from(outcome.number())] += 1;
+        }
+        finished += usize::from(finishing(&pair, 3000));
+    }
+    assert!(finished > 2000, "{finished}");
+    assert!(outcomes[3] > 200, "{outcomes:?}");
+}
+
+#[test]
+fn unstruck_runs_at_every_budget() {
+    for seed in 0..400 {
+        let program = some_program(seed, 30);
+        let pair = Pair::new(&program.rows, program.variables);
+        for budget in 0..200 {
+            if unstruck_is_the_sources(&pair, budget) != Outcome::BudgetSpent {
+                break;
+            }
+        }
+    }
+}
+
+#[test]
+fn unstruck_runs_with_the_largest_budget() {
+    for seed in 0..300 {
+        let program = some_program(seed, 60);
+        let pair = Pair::new(&program.rows, program.variables);
+        unstruck_is_the_sources(&pair, 65_535);
+        finishing(&pair, 65_535);
+    }
+}
+
+#[test]
+fn every_jump_of_random_programs() {
+    let mut count = 0;
+    let mut deep = 0;
+    for seed in 0..1500 {
+        let program = some_program(seed, 24);
+        let pair = Pair::new(&program.rows, program.variables);
+        let (_, whole) = pair.struck(80, None);
+        for k in 0..whole.steps {
+            count += jumps_at(&pair, k, 120);
+            deep = deep.max(pair.struck(k, None).1.frames.len());
+        }
+    }
+    assert!(count > 100_000, "{count}");
+    assert_eq!(deep, 16);
+}
+
+#[test]
+fn every_jump_in_the_deepest_recursion() {
+    for calls in [15, 16] {
+        let mut variables = [0; 16];
+        (variables[0], variables[1]) = (calls, 1);
+        let pair = Pair::new(&limits::recursion(), variables);
+        let (_, whole) = pair.struck(500, None);
+        for k in 0..whole.steps {
+            assert!(jumps_at(&pair, k, 500) > 0);
+        }
+    }
+}
+
+/// Every table of up to eight rows over nine plain rows and a second do, with
+/// every budget and every jump of its first steps.
+#[test]
+fn every_short_table() {
+    let alphabet: [[u8; 6]; 10] = [
+        [1, 0, 0, 0, 0, 0],
+        [2, 0, 0, 0, 1, 0],
+        [2, 3, 0, 1, 0, 0],
+        [3, 0, 0, 0, 0, 0],
+        [4, 0, 0, 0, 0, 0],
+        [5, 1, 0, 0, 1, 0],
+        [6, 0, 0, 0, 0, 0],
+        [7, 0, 0, 0, 0, 0],
+        [8, 0, 0, 0, 0, 0],
+        [9, 0, 0, 0, 0, 0],
+    ];
+    let mut accepted = 0;
+    for length in 2..=8 {
+        for code in 0..10_usize.pow(length - 2) {
+            let digits = (0..length - 2).map(|i| code / 10_usize.pow(i) % 10);
+            let inner: Vec<u8> = digits.flat_map(|digit| alphabet[digit]).collect();
+            let rows = [&alphabet[0][..], &inner, &alphabet[6]].concat();
+            if check(&rows) == 0 {
+                accepted += 1;
+                short_table(&rows);
+            }
+        }
+    }
+    assert!(accepted > 5000, "{accepted}");
+}
+
+fn short_table(rows: &[u8]) {
+    let mut variables = [0; 16];
+    variables[1] = 1;
+    let pair = Pair::new(rows, variables);
+    let (_, whole) = pair.struck(9, None);
+    for k in 0..whole.steps {
+        unstruck_is_the_sources(&pair, k);
+        jumps_at(&pair, k, 12);
+    }
+}
