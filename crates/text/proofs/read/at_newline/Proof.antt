@@ -1,0 +1,17 @@
+-- `text::read::at_newline` meets its contract: its test decides the definition's. Assumes nothing.
+use borrow.Author.Tests.{eq-eqb, ne-eqb}
+use borrow.Author.Needs.{needs}
+use Rattle.text.proofs.read.at_newline.Statement.{statement}
+use Rattle.text.proofs.read.at_newline.Tie as tie
+
+spoilt-requires : tie.Need-spoilt-requires
+spoilt-requires c κs = search needs
+
+returns : tie.Need-returns
+returns c = rw (ne-eqb _ _ (c .before .if1 .taken)) (c .spoilt .ensures)
+
+returns-2 : tie.Need-returns-2
+returns-2 c = rw (eq-eqb _ _ (c .if1 .left))
+
+pub at-newline-spec : {M : Type 1} → statement M
+at-newline-spec = tie.close (tie.spec spoilt-requires returns returns-2)

@@ -1,0 +1,4 @@
+pub mod Hex
+pub mod Reading
+pub mod Listing
+pub mod Cases
