@@ -113,7 +113,7 @@ pub word-length : length refusedWord ≡ 8
 unfolding refusedWord
 word-length = refl
 
-pub refused : (n : ℕ) {before b₁ b₂ after : List ℕ} {i j k : ℕ} → length before ≡ 16 → Puts refusedWord 0 before b₁ i
+pub refused : (n : ℕ) {before b₁ b₂ after : List ℕ} {i j k : ℕ} → 12 ≤ length before → Puts refusedWord 0 before b₁ i
     → Puts (decimal n) i b₁ b₂ j → Puts (10 ∷ []) j b₂ after k → Written (refusedText n) before after k
 refused n {before} h p q r =
     written (puts-more (puts-more p q) r)

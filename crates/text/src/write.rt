@@ -94,7 +94,8 @@ fn put_word(out: &mut [u8]) -> usize
 }
 
 // `refused N` and a newline.
-pub fn refusal(number: u8, out: &mut [u8; 16]) -> usize
+pub fn refusal(number: u8, out: &mut [u8]) -> usize
+    requires { ⌜ 12 ≤ length (now out) ⌝ }
     ensures { λ r. ⌜ Written (refusedText number) (now (out .entry)) (now (out .exit)) r ⌝ }
 {
     let first = put_word(out);

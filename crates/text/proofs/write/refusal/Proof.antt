@@ -10,22 +10,26 @@ put-word-requires c κs = search needs
 
 put-decimal-requires : tie.Need-put-decimal-requires
 put-decimal-requires c κs =
-    let word = c .before .put-word .ensures in
-    omega (arith, word .next-is, word-length, puts-length word, c .before .before .before .good)
+    let word = c .before .before .before .put-word .ensures in
+    omega (arith, word .next-is, word-length, puts-length word)
 
 put-requires : tie.Need-put-requires
 put-requires c κs =
-    let start = c .before .before .before .before .before in
-    let word = c .before .before .before .put-word .ensures in
-    let number = c .before .put-decimal .ensures in
+    let start = c .before .before .before .before .before .before .before in
+    let word = start .put-word .ensures in
+    let number = c .before .before .before .put-decimal .ensures in
     omega
-    (arith, word .next-is, word-length, puts-length word, number .next-is, decimal-length (start .args .number), puts-length number, start .good)
+    (arith, word .next-is, word-length, puts-length word, number .next-is, decimal-length (start .before .before .before .args .number), puts-length number)
+
+same-length : tie.Need-same-length
+same-length c = search needs
 
 returns : tie.Need-returns
 returns c =
-    let word = c .before .before .before .before in
-    refused _ (omega (arith, word .before .before .good)) (word .put-word .ensures) (c .before .before .put-decimal .ensures)
-    (c .put .ensures)
+    let number = c .before .before .before .before .before .before in
+    let word = number .before .before .before .before in
+    refused _ (omega arith) (word .put-word .ensures) (number .put-decimal .ensures) (c .before .before .put .ensures)
 
 pub refusal-spec : {M : Type 1} → statement M
-refusal-spec = tie.close (tie.spec put-word-requires put-decimal-requires put-requires returns)
+refusal-spec =
+    tie.close (tie.spec put-word-requires put-decimal-requires put-requires same-length returns)
