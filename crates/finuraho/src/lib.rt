@@ -1,0 +1,54 @@
+// The public calls. Each promises one equation with its definition in rules/specs/Calls.antt: number, lengths and every lent
+// buffer, for every input; none has a `requires`.
+ghost use mathlib.Core.Path.{_≡_};
+ghost use Rattle.rules.specs.Calls.{checkCall, hardenCall};
+ghost use Rattle.finuraho.specs.Given.{writes, refusedWith};
+
+mod number;
+
+use rules::answer::Wrote;
+use rules::refusal::Refusal;
+use rules::refusal::Verdict;
+
+// A word for each row.
+fn row_words() -> [u16; 1024] {
+    [0; 1024]
+}
+
+// A word for each function.
+fn function_words() -> [u16; 32] {
+    [0; 32]
+}
+
+// The number that the bytes get as a source table: 0 where hardening accepts them.
+pub fn check(rows: &[u8]) -> u8
+    ensures { λ r. ⌜ r ≡ checkCall (now (rows .entry)) ⌝ }
+{
+    let mut ends = row_words();
+    let mut elses = row_words();
+    let mut heads = function_words();
+    let v = table::check::check(rows, &mut ends, &mut elses, &mut heads);
+    number::of_verdict(v)
+}
+
+fn refused(r: Refusal) -> Wrote
+    ensures { λ w. ⌜ w ≡ refusedWith r ⌝ }
+{
+    Wrote {
+        number: number::of_refusal(r),
+        length: 0,
+    }
+}
+
+// The hardened table of a source table: 01's number and the length of the answer, which stands at the front of `out`.
+pub fn harden(rows: &[u8], out: &mut [u8]) -> Wrote
+    ensures { λ r. ⌜ writes r (now (out .exit)) ≡ hardenCall (now (rows .entry)) (now (out .entry)) ⌝ }
+{
+    let mut ends = row_words();
+    let mut elses = row_words();
+    let mut heads = function_words();
+    match table::check::check(rows, &mut ends, &mut elses, &mut heads) {
+        Verdict::Refused(r) => refused(r),
+        Verdict::Accepted => hardener::harden_linked(rows, &ends, &elses, &heads, out),
+    }
+}

@@ -1,0 +1,55 @@
+use native.Mathlib.Omega.{arith}
+use mathlib.Core.Path.{_≡_, sym}
+use lib.Seq.{length-take-le}
+use denote.Ref.{now}
+use Prim.Native.Nat.{_/_}
+use Prim.Native.Nat.{ℕ, _+_, _*_, _-_, _≤_, _<_}
+use lib.ListN.{length}
+use borrow.Author.Needs.{needs}
+use Rattle.harden.proofs.output.some_lines.Statement.{statement}
+use Rattle.harden.proofs.output.some_lines.Tie as tie
+use Rattle.harden.proofs.output.some_lines.Reads as reads
+use Rattle.harden.proofs.output.some_lines.Lts as lts
+use Rattle.harden.proofs.output.within.Reads as within-reads
+use Rattle.io.proofs.write_all.Reads as write-all-reads
+use Rattle.text.proofs.write.listing.Reads as listing-reads
+
+-- src/output.rt:81:9
+listing-requires : tie.Need-listing-requires
+listing-requires c κs = record { count = length (now (c .before .before .before .args .lines)) / 20; some-width = omega arith; narrow = omega arith; few = omega arith; whole = omega arith; room = omega arith }
+
+-- src/output.rt:82:9
+within-requires : tie.Need-within-requires
+within-requires c κs = search needs
+
+-- src/output.rt:83:22
+slice-reshare-prefix-write-all : tie.Need-slice-reshare-prefix-write-all
+slice-reshare-prefix-write-all c = search needs
+
+-- src/output.rt:83:22
+slice-aggregate-write-all : tie.Need-slice-aggregate-write-all
+slice-aggregate-write-all c = search needs
+
+-- src/output.rt:83:5
+write-all-requires : tie.Need-write-all-requires
+write-all-requires c κs = search needs
+
+-- src/output.rt:78:1
+same-length : tie.Need-same-length
+same-length c = search needs
+
+-- src/output.rt:78:1
+returns : tie.Need-returns
+returns c = search needs
+
+pub some-lines-spec : {M : Type 1} → statement M
+some-lines-spec =
+    tie.close
+    (tie.spec
+    listing-requires
+    within-requires
+    slice-reshare-prefix-write-all
+    slice-aggregate-write-all
+    write-all-requires
+    same-length
+    returns)

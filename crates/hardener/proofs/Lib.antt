@@ -1,0 +1,5 @@
+pub mod Puts
+pub mod RowLines
+pub mod Leaves
+pub mod Calls
+pub mod Emits

@@ -1,0 +1,5 @@
+pub mod Row
+pub mod Place
+pub mod Number
+pub mod Spot
+pub mod Layout

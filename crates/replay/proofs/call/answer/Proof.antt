@@ -1,0 +1,60 @@
+use native.Mathlib.Omega.{arith}
+use mathlib.Core.Path.{sym}
+use lib.Seq.{length-take-le}
+use borrow.Author.Needs.{needs}
+use Rattle.replay.proofs.call.answer.Statement.{statement}
+use Rattle.replay.proofs.call.answer.Tie as tie
+use Rattle.replay.proofs.call.answer.Reads as reads
+use Rattle.replay.proofs.call.answer.Lts as lts
+use Rattle.replay.proofs.call.check.Reads as check-reads
+use Rattle.replay.proofs.call.harden.Reads as harden-reads
+
+-- src/call.rt:15:15
+slice-aggregate-check : tie.Need-slice-aggregate-check
+slice-aggregate-check c = sym (length-take-le _ _ (omega arith))
+
+-- src/call.rt:15:9
+check-requires : tie.Need-check-requires
+check-requires c κs = search needs
+
+-- src/call.rt:19:16
+slice-aggregate-harden : tie.Need-slice-aggregate-harden
+slice-aggregate-harden c = sym (length-take-le _ _ (omega arith))
+
+-- src/call.rt:19:28
+slice-relend-prefix-harden : tie.Need-slice-relend-prefix-harden
+slice-relend-prefix-harden c = search needs
+
+-- src/call.rt:19:28
+slice-aggregate-harden-2 : tie.Need-slice-aggregate-harden-2
+slice-aggregate-harden-2 c = sym (length-take-le _ _ (omega arith))
+
+-- src/call.rt:19:9
+harden-requires : tie.Need-harden-requires
+harden-requires c κs = search needs
+
+-- src/call.rt:10:1
+same-length : tie.Need-same-length
+same-length c = search needs
+
+-- src/call.rt:10:1
+returns : tie.Need-returns
+returns c = search needs
+
+-- src/call.rt:10:1
+returns-2 : tie.Need-returns-2
+returns-2 c = search needs
+
+pub answer-spec : {M : Type 1} → statement M
+answer-spec =
+    tie.close
+    (tie.spec
+    slice-aggregate-check
+    check-requires
+    slice-aggregate-harden
+    slice-relend-prefix-harden
+    slice-aggregate-harden-2
+    harden-requires
+    same-length
+    returns
+    returns-2)
