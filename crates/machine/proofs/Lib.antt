@@ -1,0 +1,12 @@
+pub mod Lists
+pub mod Guards
+pub mod Returns
+pub mod Arms
+pub mod Decode
+pub mod Own
+pub mod Agree
+pub mod AgreeGuard
+pub mod AgreeDo
+pub mod AgreeCall
+pub mod Steps
+pub mod Runs

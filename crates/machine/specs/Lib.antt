@@ -1,0 +1,7 @@
+pub mod Fields
+pub mod Words
+pub mod Guard
+pub mod Ready
+pub mod Step
+pub mod Run
+pub mod Stands

@@ -1,0 +1,8 @@
+// The machine that runs a hardened table.
+pub mod call;
+pub mod fields;
+pub mod guard;
+pub mod line;
+pub mod machine;
+pub mod variables;
+pub mod words;
