@@ -1,0 +1,85 @@
+// The lines that change nothing but counters: tick, test, leave, out and back.
+ghost use mathlib.Core.Path.{_≡_};
+ghost use Prim.Native.Nat.{_<_};
+ghost use Rattle.machine.specs.Guard.{counted, tickOf, testOf, leaveOf, outOf, backOf};
+ghost use Rattle.machine.specs.Ready.{RegionsIn, LeaveIn, OutIn, Room};
+use crate::fields::Fields;
+use crate::words;
+use rules::step::Step;
+
+pub fn tick(l: Fields, place: u16, depth: u16, counters: &mut [u16]) -> Step
+    requires { ⌜ (l .r < 64) × (place < 65535) × (Room depth (now counters)) ⌝ }
+    ensures { λ r. ⌜ counted r (now (counters .exit)) ≡ tickOf l place depth (now (counters .entry)) ⌝ }
+{
+    let i = words::index(depth, l.r);
+    if counters[i] != l.e {
+        return Step::Alarm;
+    }
+    counters[i] = l.a;
+    Step::Went(place + 1)
+}
+
+pub fn test(l: Fields, holds: bool, place: u16, depth: u16, counters: &mut [u16]) -> Step
+    requires { ⌜ (RegionsIn l) × (place < 65535) × (Room depth (now counters)) ⌝ }
+    ensures { λ r. ⌜ counted r (now (counters .exit)) ≡ testOf l holds place depth (now (counters .entry)) ⌝ }
+{
+    let i = words::index(depth, l.r);
+    if counters[i] != l.e {
+        return Step::Alarm;
+    }
+    counters[i] = l.a;
+    if holds {
+        words::put(counters, depth, l.s, l.b);
+        return Step::Went(place + 1);
+    }
+    words::put(counters, depth, l.t, l.c);
+    Step::Went(l.go)
+}
+
+pub fn leave(l: Fields, depth: u16, counters: &mut [u16]) -> Step
+    requires { ⌜ (LeaveIn l) × (Room depth (now counters)) ⌝ }
+    ensures { λ r. ⌜ counted r (now (counters .exit)) ≡ leaveOf l depth (now (counters .entry)) ⌝ }
+{
+    let i = words::index(depth, l.r);
+    if counters[i] != l.e {
+        return Step::Alarm;
+    }
+    counters[i] = 0;
+    let j = words::index(depth, l.s);
+    if counters[j] != l.b {
+        return Step::Alarm;
+    }
+    counters[j] = l.a;
+    Step::Went(l.go)
+}
+
+pub fn out(l: Fields, depth: u16, counters: &mut [u16]) -> Step
+    requires { ⌜ (OutIn l) × (Room depth (now counters)) ⌝ }
+    ensures { λ r. ⌜ counted r (now (counters .exit)) ≡ outOf l depth (now (counters .entry)) ⌝ }
+{
+    let i = words::index(depth, l.r);
+    if counters[i] != l.e {
+        return Step::Alarm;
+    }
+    let from = words::index(depth, l.t);
+    let n = (l.r + 1 - l.t) as usize;
+    words::zero_part(counters, from, n);
+    words::put(counters, depth, l.s, l.a);
+    Step::Went(l.go)
+}
+
+// The function that returned last ended at `last`.
+pub fn back(l: Fields, last: u16, place: u16, depth: u16, counters: &mut [u16]) -> Step
+    requires { ⌜ (l .r < 64) × (place < 65535) × (Room depth (now counters)) ⌝ }
+    ensures { λ r. ⌜ counted r (now (counters .exit)) ≡ backOf l last place depth (now (counters .entry)) ⌝ }
+{
+    let i = words::index(depth, l.r);
+    if counters[i] != l.e {
+        return Step::Alarm;
+    }
+    if last != l.b {
+        return Step::Alarm;
+    }
+    counters[i] = l.a;
+    Step::Went(place + 1)
+}

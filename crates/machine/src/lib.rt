@@ -1,0 +1,11 @@
+// The machine that runs a hardened table.
+pub mod call;
+pub mod fields;
+pub mod guard;
+pub mod line;
+pub mod machine;
+pub mod map;
+pub mod run;
+pub mod table;
+pub mod variables;
+pub mod words;
