@@ -1,2 +1,4 @@
 pub mod Lists
 pub mod Guards
+pub mod Returns
+pub mod Arms

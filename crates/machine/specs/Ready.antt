@@ -1,13 +1,15 @@
 -- The ranges that the code needs: of the fields that a line's kind uses, and of the numbers of a run.
 use Prim.Native.Nat.{ℕ, _+_, _*_, _≤_, _<_}
 use mathlib.Core.List.{List}
-use lib.ListN.{length}
-use Rattle.rules.specs.Limits.{maxRegions, maxOpen, counterWords}
+use mathlib.Core.Logic.{_≢_}
+use lib.ListN.{length, getD}
+use Rattle.rules.specs.Limits.{maxFunctions, maxRegions, maxOpen, counterWords}
 use Rattle.rules.specs.Line.{lineWidth}
 use Rattle.machine.specs.declared.fields.Fields.{Fields}
 use Rattle.machine.specs.declared.fields.LineKind.{LineKind}
 use Rattle.machine.specs.declared.fields.LineKind.the-variants.{Do, Tick, Test, Leave, Out, Call, Back, Ret}
-use Rattle.machine.specs.Fields.{fieldsAt}
+use Rattle.machine.specs.declared.machine.Hot.{Hot}
+use Rattle.machine.specs.Fields.{fieldsAt, lineKindAt}
 
 -- two variables
 pub record VariablesIn (l : Fields) : Type 0 where
@@ -44,12 +46,21 @@ FieldsIn Call l = CallIn l
 FieldsIn Back l = l .r < maxRegions
 FieldsIn Ret l = Unit {0}
 
--- a line of the table, with another after it in sixteen bits
+-- line k is in the table, the number after it is in sixteen bits, and it holds what its kind may hold
 pub record LineHere (bs : List ℕ) (k : ℕ) : Type 0 where
   pub line-in : lineWidth * k + lineWidth ≤ length bs
   pub next-in : k < 65535
+  pub fields-in : FieldsIn (lineKindAt bs k) (fieldsAt bs k)
 
 -- the depth, and the words that are lent
 pub record Room (d : ℕ) (ws : List ℕ) : Type 0 where
   pub deep : d < maxOpen
   pub room : counterWords ≤ length ws
+
+-- what one step needs: a line where the running function is not at its place m
+pub record CanStep (bs starts : List ℕ) (h : Hot) (ws tr : List ℕ) : Type 0 where
+  pub known : h .function < maxFunctions
+  pub has-room : Room (h .depth) ws
+  pub slot : h .traced < length tr
+  pub count : h .traced < 65535
+  pub here : h .place ≢ getD starts (h .function + 1) 0 → LineHere bs (h .place)

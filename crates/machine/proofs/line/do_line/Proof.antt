@@ -1,0 +1,59 @@
+use Rattle.machine.specs.Step.{doOf}
+use borrow.Author.Needs.{needs}
+use Rattle.machine.proofs.line.do_line.Statement.{statement}
+use Rattle.machine.proofs.line.do_line.Tie as tie
+use Rattle.machine.proofs.line.do_line.Reads as reads
+use Rattle.machine.proofs.line.do_line.Lts as lts
+use Rattle.machine.proofs.machine.stay.Reads as stay-reads
+use Rattle.machine.proofs.variables.assign.Reads as assign-reads
+
+-- src/line.rt:23:5
+assign-requires : tie.Need-assign-requires
+assign-requires c κs = search needs
+
+-- src/line.rt:24:13
+cast-k : tie.Need-cast-k
+cast-k c = search needs
+
+-- src/line.rt:25:5
+mul-trace : tie.Need-mul-trace
+mul-trace c = search needs
+
+-- src/line.rt:25:5
+slice-write-trace : tie.Need-slice-write-trace
+slice-write-trace c = search needs
+
+-- src/line.rt:27:16
+add-n : tie.Need-add-n
+add-n c = search needs
+
+-- src/line.rt:28:30
+add-t11 : tie.Need-add-t11
+add-t11 c = search needs
+
+-- src/line.rt:28:5
+stay-requires : tie.Need-stay-requires
+stay-requires c κs = search needs
+
+-- src/line.rt:19:1
+same-length : tie.Need-same-length
+same-length c = search needs
+
+-- src/line.rt:19:1
+returns : tie.Need-returns
+unfolding doOf
+returns c = rw (c .stay .ensures, c .before .before .before .before .assign .ensures)
+
+pub do-line-spec : {M : Type 1} → statement M
+do-line-spec =
+    tie.close
+    (tie.spec
+    assign-requires
+    cast-k
+    mul-trace
+    slice-write-trace
+    add-n
+    add-t11
+    stay-requires
+    same-length
+    returns)
