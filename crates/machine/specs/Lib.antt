@@ -3,3 +3,5 @@ pub mod Words
 pub mod Guard
 pub mod Ready
 pub mod Step
+pub mod Run
+pub mod Stands

@@ -12,7 +12,7 @@ use Rattle.machine.specs.declared.machine.Hot.{Hot}
 use Rattle.machine.specs.Fields.{fieldsAt, lineKindAt}
 
 -- two variables
-pub record VariablesIn (l : Fields) : Type 0 where
+pub record OperandsIn (l : Fields) : Type 0 where
   pub p-in : l .p < 16
   pub q-in : l .q < 16
 
@@ -37,9 +37,9 @@ pub record CallIn (l : Fields) : Type 0 where
 
 -- what a line of a kind may hold
 abbrev pub FieldsIn : LineKind → Fields → Type 0
-FieldsIn Do l = VariablesIn l
+FieldsIn Do l = OperandsIn l
 FieldsIn Tick l = l .r < maxRegions
-FieldsIn Test l = VariablesIn l × RegionsIn l
+FieldsIn Test l = OperandsIn l × RegionsIn l
 FieldsIn Leave l = LeaveIn l
 FieldsIn Out l = OutIn l
 FieldsIn Call l = CallIn l

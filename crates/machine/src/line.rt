@@ -2,7 +2,7 @@
 ghost use mathlib.Core.Path.{_≡_};
 ghost use Prim.Native.Nat.{_<_};
 ghost use lib.ListN.{length};
-ghost use Rattle.machine.specs.Ready.{VariablesIn, RegionsIn, Room, CanStep};
+ghost use Rattle.machine.specs.Ready.{OperandsIn, RegionsIn, Room, CanStep};
 ghost use Rattle.machine.specs.Step.{settled, testedOf, done, doOf, mapOf, partsOf, after, stepOf};
 use crate::call;
 use crate::fields;
@@ -18,7 +18,7 @@ use rules::step::Step;
 
 // A do: the variables change, and its row goes into the next trace slot.
 fn do_line(l: Fields, h: Hot, variables: &mut [u16; 16], trace: &mut [u16]) -> Moved
-    requires { ⌜ (VariablesIn l) × (h .place < 65535) × (h .traced < 65535) × (h .traced < length (now trace)) ⌝ }
+    requires { ⌜ (OperandsIn l) × (h .place < 65535) × (h .traced < 65535) × (h .traced < length (now trace)) ⌝ }
     ensures { λ r. ⌜ done r (now (variables .exit)) (now (trace .exit)) ≡ doOf l h (now (variables .entry)) (now (trace .entry)) ⌝ }
 {
     variables::assign(l, variables);
@@ -30,7 +30,7 @@ fn do_line(l: Fields, h: Hot, variables: &mut [u16; 16], trace: &mut [u16]) -> M
 }
 
 fn test_line(l: Fields, h: Hot, variables: &[u16; 16], counters: &mut [u16]) -> Moved
-    requires { ⌜ (VariablesIn l) × (RegionsIn l) × (h .place < 65535) × (Room (h .depth) (now counters)) ⌝ }
+    requires { ⌜ (OperandsIn l) × (RegionsIn l) × (h .place < 65535) × (Room (h .depth) (now counters)) ⌝ }
     ensures { λ r. ⌜ settled r (now (counters .exit)) ≡ testedOf l h (now (variables .entry)) (now (counters .entry)) ⌝ }
 {
     let holds = variables::holds(l, variables);

@@ -2,7 +2,7 @@
 ghost use mathlib.Core.Path.{_≡_};
 ghost use Rattle.rules.specs.Variables.{sum, difference, doneOn, holdsOn};
 ghost use Rattle.machine.specs.Fields.{operandsOf};
-ghost use Rattle.machine.specs.Ready.{VariablesIn};
+ghost use Rattle.machine.specs.Ready.{OperandsIn};
 use crate::fields::Fields;
 
 fn sum_of(x: u16, y: u16) -> u16
@@ -18,7 +18,7 @@ fn difference_of(x: u16, y: u16) -> u16
 }
 
 pub fn assign(l: Fields, variables: &mut [u16; 16])
-    requires { ⌜ VariablesIn l ⌝ }
+    requires { ⌜ OperandsIn l ⌝ }
     ensures { λ _. ⌜ now (variables .exit) ≡ doneOn (operandsOf l) (now (variables .entry)) ⌝ }
 {
     let p = l.p as usize;
@@ -41,7 +41,7 @@ pub fn assign(l: Fields, variables: &mut [u16; 16])
 }
 
 pub fn holds(l: Fields, variables: &[u16; 16]) -> bool
-    requires { ⌜ VariablesIn l ⌝ }
+    requires { ⌜ OperandsIn l ⌝ }
     ensures { λ r. ⌜ r ≡ holdsOn (operandsOf l) (now (variables .entry)) ⌝ }
 {
     let p = l.p as usize;
