@@ -22,12 +22,12 @@ use Rattle.machine.specs.Stands.{Inside, Own, WaitsAt, Waiting, Sizes, T
 use Rattle.machine.proofs.Own.{SameBelow, waiting-same}
 
 -- ---- agreement
--- the run goes on at a place, in a machine that stands for the next state
-pub record GoesOn (ls : List Line) (held : List ℕ) (p : Parts) (a : After) (s : Hardened) : Type 0 where
+-- the run goes on at a place, in a machine that stands for the next state, with at most one more trace slot than before
+pub record GoesOn (ls : List Line) (held : List ℕ) (traced : ℕ) (a : After) (s : Hardened) : Type 0 where
   pub place : ℕ
   pub went : a .step ≡ Went place
   pub stands : (n : ℕ) → Stands ls held (partsAt (a .parts) place n) s
-  pub traced-more : a .parts .hot .traced ≤ p .hot .traced + 1
+  pub traced-more : a .parts .hot .traced ≤ traced + 1
 
 abbrev pub IsEnd : Step → Type 0
 IsEnd o = (k : ℕ) → o ≡ Went k → ⊥
@@ -39,10 +39,10 @@ pub record EndsAs (held : List ℕ) (a : After) (o : Step) (s : Hardened) : Type
   pub vars-are : a .parts .vars ≡ s .vars
   pub traces : Traced (a .parts) held (s .trace)
 
-abbrev pub Agrees : List Line → (held : List ℕ) → Parts → After → Turn Counters → Type 0
-Agrees ls held p a (on s) = GoesOn ls held p a s
-Agrees ls held p a (ends o s) = EndsAs held a o s
-Agrees ls held p a (untaken o s) = ⊥
+abbrev pub Agrees : List Line → (held : List ℕ) → (traced : ℕ) → After → Turn Counters → Type 0
+Agrees ls held n a (on s) = GoesOn ls held n a s
+Agrees ls held n a (ends o s) = EndsAs held a o s
+Agrees ls held n a (untaken o s) = ⊥
 
 pub alarm-ends : IsEnd Alarm
 alarm-ends k e = let z : _≡_ {A = ℕ} 0 1 = cc in omega arith
@@ -93,7 +93,7 @@ module _ (ls : List Line) (held : List ℕ) (p : Parts) (s : Hardened) (st : Sta
 
   -- ---- the run goes on in the same function, with other counters
   pub moves-on : (k j : ℕ) (ws : List ℕ) (own : Counters) → k ≡ j → LineIn ls (s .running .function) j → length ws ≡ 1024 → SameBelow (64 * p .hot .depth) (p .words) ws
-      → Own ws (p .hot .depth) own → GoesOn ls held p (guarded p (counted (Went k) ws)) (goTo j own s)
+      → Own ws (p .hot .depth) own → GoesOn ls held (p .hot .traced) (guarded p (counted (Went k) ws)) (goTo j own s)
   moves-on k j ws own e i n b o =
       record {
         place = k;
@@ -113,15 +113,15 @@ module _ (ls : List Line) (held : List ℕ) (p : Parts) (s : Hardened) (st : Sta
       }
 
   -- ---- a test that both make
-  by-test : (b : Bool) (x : Counted) (t : Turn Counters) (ws : List ℕ) → Agrees ls held p (guarded p x) t
-      → Agrees ls held p (guarded p (cond b x (counted Alarm ws))) (must b s t)
+  by-test : (b : Bool) (x : Counted) (t : Turn Counters) (ws : List ℕ) → Agrees ls held (p .hot .traced) (guarded p x) t
+      → Agrees ls held (p .hot .traced) (guarded p (cond b x (counted Alarm ws))) (must b s t)
   by-test true x t ws a = a
   by-test false x t ws a = ends-as Alarm alarm-ends ws
 
-  pub both : (c b : Bool) → c ≡ b → (x : Counted) (t : Turn Counters) (ws : List ℕ) → Agrees ls held p (guarded p x) t
-      → Agrees ls held p (guarded p (cond c x (counted Alarm ws))) (must b s t)
-  both c b e x t ws a = subst (λ y. Agrees ls held p (guarded p (cond y x (counted Alarm ws))) (must b s t)) (sym e) (by-test b x t ws a)
+  pub both : (c b : Bool) → c ≡ b → (x : Counted) (t : Turn Counters) (ws : List ℕ) → Agrees ls held (p .hot .traced) (guarded p x) t
+      → Agrees ls held (p .hot .traced) (guarded p (cond c x (counted Alarm ws))) (must b s t)
+  both c b e x t ws a = subst (λ y. Agrees ls held (p .hot .traced) (guarded p (cond y x (counted Alarm ws))) (must b s t)) (sym e) (by-test b x t ws a)
 
-  pub checks : (r e : ℕ) (x : Counted) (t : Turn Counters) → r < 64 → Agrees ls held p (guarded p x) t
-      → Agrees ls held p (guarded p (cond (eqb (counter (p .words) (p .hot .depth) r) e) x (counted Alarm (p .words)))) (check r e s t)
+  pub checks : (r e : ℕ) (x : Counted) (t : Turn Counters) → r < 64 → Agrees ls held (p .hot .traced) (guarded p x) t
+      → Agrees ls held (p .hot .traced) (guarded p (cond (eqb (counter (p .words) (p .hot .depth) r) e) x (counted Alarm (p .words)))) (check r e s t)
   checks r e x t h a = both _ _ (ap (λ v. eqb v e) (st .own-is r h)) x t (p .words) a

@@ -6,3 +6,5 @@ pub mod Decode
 pub mod Own
 pub mod Agree
 pub mod AgreeGuard
+pub mod AgreeDo
+pub mod AgreeCall
