@@ -8,3 +8,5 @@ pub mod Agree
 pub mod AgreeGuard
 pub mod AgreeDo
 pub mod AgreeCall
+pub mod Steps
+pub mod Runs
