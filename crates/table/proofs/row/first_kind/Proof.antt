@@ -1,0 +1,21 @@
+-- `table::row::first_kind` meets its contract. Assumes nothing.
+use borrow.Author.Needs.{needs}
+use Rattle.table.proofs.Fields.{firsts}
+use Rattle.table.proofs.row.first_kind.Statement.{statement}
+use Rattle.table.proofs.row.first_kind.Tie as tie
+
+pub first-kind-spec : {M : Type 1} → statement M
+first-kind-spec =
+    tie.close
+    (tie.spec
+    (λ c. search needs)
+    (λ c κs. search needs)
+    (λ c. search needs)
+    (λ c. search needs)
+    (λ c κs. search needs)
+    (λ c. search needs)
+    (λ c. search needs)
+    (λ c. search needs)
+    (λ c κs. search needs)
+    (λ c. search (firsts, needs))
+    (λ c. search (firsts, needs)))

@@ -1,0 +1,2 @@
+// Checking a source table: its verdict, and the links of an accepted one.
+pub mod row;
