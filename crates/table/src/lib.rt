@@ -1,2 +1,3 @@
 // Checking a source table: its verdict, and the links of an accepted one.
 pub mod row;
+pub mod walk;
