@@ -4,3 +4,6 @@ pub mod Linking
 pub mod Rows
 pub mod Verdicts
 pub mod Stepping
+pub mod Constructs
+pub mod Nested
+pub mod Sequence

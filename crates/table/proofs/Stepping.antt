@@ -24,10 +24,10 @@ use Rattle.table.proofs.Linking.{settlesNone, stays-linked, if-linked, 
 use Rattle.table.proofs.Rows.{isKnown, Reads, reads, reads-wrong, cut-length, cut-end, cut-within, cut-on}
 use Rattle.table.proofs.Verdicts.{left-open, wrong-refused, row-good, misplaced-refused, parts-refused}
 
-abbrev elseOf : (base g : ℕ) → Open
+abbrev pub elseOf : (base g : ℕ) → Open
 elseOf base g = record { part = elsePart; opener = base; region = g }
 
-abbrev loopOf : (base g : ℕ) → Open
+abbrev pub loopOf : (base g : ℕ) → Open
 loopOf base g = record { part = loopBody; opener = base; region = g }
 
 -- a row that opens no function keeps the count
