@@ -1,4 +1,10 @@
-use Prim.Native.Nat.{ℕ, _<_}
+use borrow.Author.Needs.{needs}
+use native.Mathlib.Omega.{arith}
+use lib.ListN.{length}
+use Rattle.table.proofs.Constructs.{constructs, kind-at}
+use Rattle.table.proofs.Nested.{ifs, rest-torn, rest-rows, elses, loops-in}
+use Rattle.table.proofs.Sequence.{SeqTo, to-end, to-else, to-past, sequences, rows-of}
+use Prim.Native.Nat.{ℕ, _<_, _+_, _*_, _-_}
 use borrow.Fn.Kinds.{In}
 use borrow.Fn.PlainCycle.{Measures, is, falls, and}
 use Rattle.table.proofs.walk.construct.Reads as construct
@@ -23,19 +29,19 @@ use Rattle.table.proofs.walk.+construct+else_part+if_part+loop_part+seq
 use Rattle.table.proofs.walk.+construct+else_part+if_part+loop_part+sequence.Tie.{close}
 
 abbrev μ-construct : Measures 3 construct-kinds.ps ℕ
-μ-construct κs a = ?
+μ-construct κs a = length (a .0 .now) + 1
 
 abbrev μ-else-part : Measures 3 else-part-kinds.ps ℕ
-μ-else-part κs a = ?
+μ-else-part κs a = length (a .0 .now)
 
 abbrev μ-if-part : Measures 3 if-part-kinds.ps ℕ
-μ-if-part κs a = ?
+μ-if-part κs a = length (a .0 .now)
 
 abbrev μ-loop-part : Measures 3 loop-part-kinds.ps ℕ
-μ-loop-part κs a = ?
+μ-loop-part κs a = length (a .0 .now)
 
 abbrev μ-sequence : Measures 3 sequence-kinds.ps ℕ
-μ-sequence κs a = ?
+μ-sequence κs a = length (a .0 .now) + 2
 
 abbrev construct-at : ℕ → In 3 construct-kinds.ps
 construct-at t = and 3 construct-kinds.ps (is 3 construct-kinds.ps μ-construct t) construct.Pre
@@ -82,7 +88,7 @@ construct-first-kind-requires : (t : ℕ) → construct-lts.Need-first-kind-requ
   jump-reads.Asked,
   jump-reads.Learnt,
 ) (construct-at t) construct.Post
-construct-first-kind-requires t c κs = ?
+construct-first-kind-requires t c κs = search needs
 
 -- src/walk.rt:72:40
 construct-enum-told : (t : ℕ) → construct-lts.Need-enum-told (
@@ -95,7 +101,7 @@ construct-enum-told : (t : ℕ) → construct-lts.Need-enum-told (
   jump-reads.Asked,
   jump-reads.Learnt,
 ) (construct-at t) construct.Post
-construct-enum-told t c = ?
+construct-enum-told t c = search needs
 
 -- src/walk.rt:73:21
 construct-enum-told-2 : (t : ℕ) → construct-lts.Need-enum-told-2 (
@@ -108,7 +114,7 @@ construct-enum-told-2 : (t : ℕ) → construct-lts.Need-enum-told-2 (
   jump-reads.Asked,
   jump-reads.Learnt,
 ) (construct-at t) construct.Post
-construct-enum-told-2 t c = ?
+construct-enum-told-2 t c = search needs
 
 -- src/walk.rt:74:65
 construct-enum-told-3 : (t : ℕ) → construct-lts.Need-enum-told-3 (
@@ -121,7 +127,7 @@ construct-enum-told-3 : (t : ℕ) → construct-lts.Need-enum-told-3 (
   jump-reads.Asked,
   jump-reads.Learnt,
 ) (construct-at t) construct.Post
-construct-enum-told-3 t c = ?
+construct-enum-told-3 t c = search needs
 
 -- src/walk.rt:74:21
 construct-if-part-requires : (t : ℕ) → construct-lts.Need-if-part-requires (
@@ -134,7 +140,7 @@ construct-if-part-requires : (t : ℕ) → construct-lts.Need-if-part-requires (
   jump-reads.Asked,
   jump-reads.Learnt,
 ) (construct-at t) construct.Post
-construct-if-part-requires t c κs = ?
+construct-if-part-requires t c κs = search (kind-at, needs)
 
 -- src/walk.rt:75:23
 construct-enum-told-4 : (t : ℕ) → construct-lts.Need-enum-told-4 (
@@ -147,7 +153,7 @@ construct-enum-told-4 : (t : ℕ) → construct-lts.Need-enum-told-4 (
   jump-reads.Asked,
   jump-reads.Learnt,
 ) (construct-at t) construct.Post
-construct-enum-told-4 t c = ?
+construct-enum-told-4 t c = search needs
 
 -- src/walk.rt:76:69
 construct-enum-told-5 : (t : ℕ) → construct-lts.Need-enum-told-5 (
@@ -160,7 +166,7 @@ construct-enum-told-5 : (t : ℕ) → construct-lts.Need-enum-told-5 (
   jump-reads.Asked,
   jump-reads.Learnt,
 ) (construct-at t) construct.Post
-construct-enum-told-5 t c = ?
+construct-enum-told-5 t c = search needs
 
 -- src/walk.rt:76:23
 construct-loop-part-requires : (t : ℕ) → construct-lts.Need-loop-part-requires (
@@ -173,7 +179,7 @@ construct-loop-part-requires : (t : ℕ) → construct-lts.Need-loop-part-requir
   jump-reads.Asked,
   jump-reads.Learnt,
 ) (construct-at t) construct.Post
-construct-loop-part-requires t c κs = ?
+construct-loop-part-requires t c κs = search (kind-at, needs)
 
 -- src/walk.rt:77:22
 construct-enum-told-6 : (t : ℕ) → construct-lts.Need-enum-told-6 (
@@ -186,7 +192,7 @@ construct-enum-told-6 : (t : ℕ) → construct-lts.Need-enum-told-6 (
   jump-reads.Asked,
   jump-reads.Learnt,
 ) (construct-at t) construct.Post
-construct-enum-told-6 t c = ?
+construct-enum-told-6 t c = search needs
 
 -- src/walk.rt:78:24
 construct-enum-told-7 : (t : ℕ) → construct-lts.Need-enum-told-7 (
@@ -199,7 +205,7 @@ construct-enum-told-7 : (t : ℕ) → construct-lts.Need-enum-told-7 (
   jump-reads.Asked,
   jump-reads.Learnt,
 ) (construct-at t) construct.Post
-construct-enum-told-7 t c = ?
+construct-enum-told-7 t c = search needs
 
 -- src/walk.rt:78:24
 construct-jump-requires : (t : ℕ) → construct-lts.Need-jump-requires (
@@ -212,7 +218,7 @@ construct-jump-requires : (t : ℕ) → construct-lts.Need-jump-requires (
   jump-reads.Asked,
   jump-reads.Learnt,
 ) (construct-at t) construct.Post
-construct-jump-requires t c κs = ?
+construct-jump-requires t c κs = search needs
 
 -- src/walk.rt:79:27
 construct-enum-told-8 : (t : ℕ) → construct-lts.Need-enum-told-8 (
@@ -225,7 +231,7 @@ construct-enum-told-8 : (t : ℕ) → construct-lts.Need-enum-told-8 (
   jump-reads.Asked,
   jump-reads.Learnt,
 ) (construct-at t) construct.Post
-construct-enum-told-8 t c = ?
+construct-enum-told-8 t c = search needs
 
 -- src/walk.rt:79:27
 construct-jump-requires-2 : (t : ℕ) → construct-lts.Need-jump-requires-2 (
@@ -238,7 +244,7 @@ construct-jump-requires-2 : (t : ℕ) → construct-lts.Need-jump-requires-2 (
   jump-reads.Asked,
   jump-reads.Learnt,
 ) (construct-at t) construct.Post
-construct-jump-requires-2 t c κs = ?
+construct-jump-requires-2 t c κs = search needs
 
 -- src/walk.rt:80:23
 construct-enum-told-9 : (t : ℕ) → construct-lts.Need-enum-told-9 (
@@ -251,7 +257,7 @@ construct-enum-told-9 : (t : ℕ) → construct-lts.Need-enum-told-9 (
   jump-reads.Asked,
   jump-reads.Learnt,
 ) (construct-at t) construct.Post
-construct-enum-told-9 t c = ?
+construct-enum-told-9 t c = search needs
 
 -- src/walk.rt:81:39
 construct-enum-told-10 : (t : ℕ) → construct-lts.Need-enum-told-10 (
@@ -264,7 +270,7 @@ construct-enum-told-10 : (t : ℕ) → construct-lts.Need-enum-told-10 (
   jump-reads.Asked,
   jump-reads.Learnt,
 ) (construct-at t) construct.Post
-construct-enum-told-10 t c = ?
+construct-enum-told-10 t c = search needs
 
 -- src/walk.rt:65:1
 construct-returns : (t : ℕ) → construct-lts.Need-returns (
@@ -277,7 +283,7 @@ construct-returns : (t : ℕ) → construct-lts.Need-returns (
   jump-reads.Asked,
   jump-reads.Learnt,
 ) (construct-at t) construct.Post
-construct-returns t c = ?
+construct-returns t c = search (constructs, needs)
 
 -- src/walk.rt:65:1
 construct-returns-2 : (t : ℕ) → construct-lts.Need-returns-2 (
@@ -290,7 +296,7 @@ construct-returns-2 : (t : ℕ) → construct-lts.Need-returns-2 (
   jump-reads.Asked,
   jump-reads.Learnt,
 ) (construct-at t) construct.Post
-construct-returns-2 t c = ?
+construct-returns-2 t c = search (constructs, needs)
 
 -- src/walk.rt:65:1
 construct-same-length : (t : ℕ) → construct-lts.Need-same-length (
@@ -303,7 +309,7 @@ construct-same-length : (t : ℕ) → construct-lts.Need-same-length (
   jump-reads.Asked,
   jump-reads.Learnt,
 ) (construct-at t) construct.Post
-construct-same-length t c = ?
+construct-same-length t c = search needs
 
 -- src/walk.rt:65:1
 construct-same-length-2 : (t : ℕ) → construct-lts.Need-same-length-2 (
@@ -316,7 +322,7 @@ construct-same-length-2 : (t : ℕ) → construct-lts.Need-same-length-2 (
   jump-reads.Asked,
   jump-reads.Learnt,
 ) (construct-at t) construct.Post
-construct-same-length-2 t c = ?
+construct-same-length-2 t c = search needs
 
 -- src/walk.rt:65:1
 construct-returns-3 : (t : ℕ) → construct-lts.Need-returns-3 (
@@ -329,7 +335,7 @@ construct-returns-3 : (t : ℕ) → construct-lts.Need-returns-3 (
   jump-reads.Asked,
   jump-reads.Learnt,
 ) (construct-at t) construct.Post
-construct-returns-3 t c = ?
+construct-returns-3 t c = search (constructs, needs)
 
 -- src/walk.rt:65:1
 construct-returns-4 : (t : ℕ) → construct-lts.Need-returns-4 (
@@ -342,7 +348,7 @@ construct-returns-4 : (t : ℕ) → construct-lts.Need-returns-4 (
   jump-reads.Asked,
   jump-reads.Learnt,
 ) (construct-at t) construct.Post
-construct-returns-4 t c = ?
+construct-returns-4 t c = search (constructs, needs)
 
 -- src/walk.rt:65:1
 construct-same-length-3 : (t : ℕ) → construct-lts.Need-same-length-3 (
@@ -355,7 +361,7 @@ construct-same-length-3 : (t : ℕ) → construct-lts.Need-same-length-3 (
   jump-reads.Asked,
   jump-reads.Learnt,
 ) (construct-at t) construct.Post
-construct-same-length-3 t c = ?
+construct-same-length-3 t c = search needs
 
 -- src/walk.rt:65:1
 construct-same-length-4 : (t : ℕ) → construct-lts.Need-same-length-4 (
@@ -368,7 +374,7 @@ construct-same-length-4 : (t : ℕ) → construct-lts.Need-same-length-4 (
   jump-reads.Asked,
   jump-reads.Learnt,
 ) (construct-at t) construct.Post
-construct-same-length-4 t c = ?
+construct-same-length-4 t c = search needs
 
 -- src/walk.rt:65:1
 construct-returns-5 : (t : ℕ) → construct-lts.Need-returns-5 (
@@ -381,7 +387,7 @@ construct-returns-5 : (t : ℕ) → construct-lts.Need-returns-5 (
   jump-reads.Asked,
   jump-reads.Learnt,
 ) (construct-at t) construct.Post
-construct-returns-5 t c = ?
+construct-returns-5 t c = search (constructs, needs)
 
 -- src/walk.rt:65:1
 construct-returns-6 : (t : ℕ) → construct-lts.Need-returns-6 (
@@ -394,7 +400,7 @@ construct-returns-6 : (t : ℕ) → construct-lts.Need-returns-6 (
   jump-reads.Asked,
   jump-reads.Learnt,
 ) (construct-at t) construct.Post
-construct-returns-6 t c = ?
+construct-returns-6 t c = search (constructs, needs)
 
 -- src/walk.rt:65:1
 construct-returns-7 : (t : ℕ) → construct-lts.Need-returns-7 (
@@ -407,7 +413,7 @@ construct-returns-7 : (t : ℕ) → construct-lts.Need-returns-7 (
   jump-reads.Asked,
   jump-reads.Learnt,
 ) (construct-at t) construct.Post
-construct-returns-7 t c = ?
+construct-returns-7 t c = search (constructs, needs)
 
 -- src/walk.rt:65:1
 construct-returns-8 : (t : ℕ) → construct-lts.Need-returns-8 (
@@ -420,7 +426,7 @@ construct-returns-8 : (t : ℕ) → construct-lts.Need-returns-8 (
   jump-reads.Asked,
   jump-reads.Learnt,
 ) (construct-at t) construct.Post
-construct-returns-8 t c = ?
+construct-returns-8 t c = search (constructs, needs)
 
 -- src/walk.rt:65:1
 construct-returns-9 : (t : ℕ) → construct-lts.Need-returns-9 (
@@ -433,7 +439,7 @@ construct-returns-9 : (t : ℕ) → construct-lts.Need-returns-9 (
   jump-reads.Asked,
   jump-reads.Learnt,
 ) (construct-at t) construct.Post
-construct-returns-9 t c = ?
+construct-returns-9 t c = search (constructs, needs)
 
 -- src/walk.rt:65:1
 construct-returns-10 : (t : ℕ) → construct-lts.Need-returns-10 (
@@ -446,7 +452,7 @@ construct-returns-10 : (t : ℕ) → construct-lts.Need-returns-10 (
   jump-reads.Asked,
   jump-reads.Learnt,
 ) (construct-at t) construct.Post
-construct-returns-10 t c = ?
+construct-returns-10 t c = search (constructs, needs)
 
 -- src/walk.rt:133:9
 else-part-returns : (t : ℕ) → else-part-lts.Need-returns (
@@ -455,7 +461,7 @@ else-part-returns : (t : ℕ) → else-part-lts.Need-returns (
   sequence-below t,
   sequence.Post,
 ) (else-part-at t) else-part.Post
-else-part-returns t c = ?
+else-part-returns t c = search (elses, needs)
 
 -- src/walk.rt:135:5
 else-part-link-requires : (t : ℕ) → else-part-lts.Need-link-requires (
@@ -464,7 +470,7 @@ else-part-link-requires : (t : ℕ) → else-part-lts.Need-link-requires (
   sequence-below t,
   sequence.Post,
 ) (else-part-at t) else-part.Post
-else-part-link-requires t c κs = ?
+else-part-link-requires t c κs = search needs
 
 -- src/walk.rt:136:20
 else-part-sub-sequence : (t : ℕ) → else-part-lts.Need-sub-sequence (
@@ -473,7 +479,7 @@ else-part-sub-sequence : (t : ℕ) → else-part-lts.Need-sub-sequence (
   sequence-below t,
   sequence.Post,
 ) (else-part-at t) else-part.Post
-else-part-sub-sequence t c = ?
+else-part-sub-sequence t c = omega (arith, rows-of)
 
 -- src/walk.rt:136:20
 else-part-part-sequence-start : (t : ℕ) → else-part-lts.Need-part-sequence-start (
@@ -482,7 +488,7 @@ else-part-part-sequence-start : (t : ℕ) → else-part-lts.Need-part-sequence-s
   sequence-below t,
   sequence.Post,
 ) (else-part-at t) else-part.Post
-else-part-part-sequence-start t c = ?
+else-part-part-sequence-start t c = omega (arith, rows-of)
 
 -- src/walk.rt:136:20
 else-part-part-sequence-end : (t : ℕ) → else-part-lts.Need-part-sequence-end (
@@ -491,7 +497,7 @@ else-part-part-sequence-end : (t : ℕ) → else-part-lts.Need-part-sequence-end
   sequence-below t,
   sequence.Post,
 ) (else-part-at t) else-part.Post
-else-part-part-sequence-end t c = ?
+else-part-part-sequence-end t c = omega (arith, rows-of)
 
 -- src/walk.rt:136:32
 else-part-add-sequence : (t : ℕ) → else-part-lts.Need-add-sequence (
@@ -500,7 +506,7 @@ else-part-add-sequence : (t : ℕ) → else-part-lts.Need-add-sequence (
   sequence-below t,
   sequence.Post,
 ) (else-part-at t) else-part.Post
-else-part-add-sequence t c = ?
+else-part-add-sequence t c = omega (arith, rows-of)
 
 -- src/walk.rt:136:41
 else-part-add-sequence-2 : (t : ℕ) → else-part-lts.Need-add-sequence-2 (
@@ -509,7 +515,7 @@ else-part-add-sequence-2 : (t : ℕ) → else-part-lts.Need-add-sequence-2 (
   sequence-below t,
   sequence.Post,
 ) (else-part-at t) else-part.Post
-else-part-add-sequence-2 t c = ?
+else-part-add-sequence-2 t c = omega (arith, rows-of)
 
 -- src/walk.rt:136:52
 else-part-add-sequence-3 : (t : ℕ) → else-part-lts.Need-add-sequence-3 (
@@ -518,7 +524,7 @@ else-part-add-sequence-3 : (t : ℕ) → else-part-lts.Need-add-sequence-3 (
   sequence-below t,
   sequence.Post,
 ) (else-part-at t) else-part.Post
-else-part-add-sequence-3 t c = ?
+else-part-add-sequence-3 t c = omega (arith, rows-of)
 
 -- src/walk.rt:136:11
 else-part-sequence-requires : (t : ℕ) → else-part-lts.Need-sequence-requires (
@@ -527,7 +533,7 @@ else-part-sequence-requires : (t : ℕ) → else-part-lts.Need-sequence-requires
   sequence-below t,
   sequence.Post,
 ) (else-part-at t) else-part.Post
-else-part-sequence-requires t c κs = ?
+else-part-sequence-requires t c κs = search needs
 
 -- src/walk.rt:137:21
 else-part-enum-known-r : (t : ℕ) → else-part-lts.Need-enum-known-r (
@@ -536,7 +542,7 @@ else-part-enum-known-r : (t : ℕ) → else-part-lts.Need-enum-known-r (
   sequence-below t,
   sequence.Post,
 ) (else-part-at t) else-part.Post
-else-part-enum-known-r t c = ?
+else-part-enum-known-r t c = search needs
 
 -- src/walk.rt:138:41
 else-part-enum-told : (t : ℕ) → else-part-lts.Need-enum-told (
@@ -545,7 +551,7 @@ else-part-enum-told : (t : ℕ) → else-part-lts.Need-enum-told (
   sequence-below t,
   sequence.Post,
 ) (else-part-at t) else-part.Post
-else-part-enum-told t c = ?
+else-part-enum-told t c = search needs
 
 -- src/walk.rt:139:20
 else-part-enum-known-n : (t : ℕ) → else-part-lts.Need-enum-known-n (
@@ -554,7 +560,7 @@ else-part-enum-known-n : (t : ℕ) → else-part-lts.Need-enum-known-n (
   sequence-below t,
   sequence.Post,
 ) (else-part-at t) else-part.Post
-else-part-enum-known-n t c = ?
+else-part-enum-known-n t c = search needs
 
 -- src/walk.rt:140:30
 else-part-add-link : (t : ℕ) → else-part-lts.Need-add-link (
@@ -563,7 +569,7 @@ else-part-add-link : (t : ℕ) → else-part-lts.Need-add-link (
   sequence-below t,
   sequence.Post,
 ) (else-part-at t) else-part.Post
-else-part-add-link t c = ?
+else-part-add-link t c = omega (arith, rows-of)
 
 -- src/walk.rt:140:30
 else-part-add-link-2 : (t : ℕ) → else-part-lts.Need-add-link-2 (
@@ -572,7 +578,7 @@ else-part-add-link-2 : (t : ℕ) → else-part-lts.Need-add-link-2 (
   sequence-below t,
   sequence.Post,
 ) (else-part-at t) else-part.Post
-else-part-add-link-2 t c = ?
+else-part-add-link-2 t c = omega (arith, rows-of)
 
 -- src/walk.rt:140:13
 else-part-link-requires-2 : (t : ℕ) → else-part-lts.Need-link-requires-2 (
@@ -581,7 +587,7 @@ else-part-link-requires-2 : (t : ℕ) → else-part-lts.Need-link-requires-2 (
   sequence-below t,
   sequence.Post,
 ) (else-part-at t) else-part.Post
-else-part-link-requires-2 t c κs = ?
+else-part-link-requires-2 t c κs = omega (arith, rows-of)
 
 -- src/walk.rt:141:24
 else-part-add-t34 : (t : ℕ) → else-part-lts.Need-add-t34 (
@@ -590,7 +596,7 @@ else-part-add-t34 : (t : ℕ) → else-part-lts.Need-add-t34 (
   sequence-below t,
   sequence.Post,
 ) (else-part-at t) else-part.Post
-else-part-add-t34 t c = ?
+else-part-add-t34 t c = omega (arith, rows-of)
 
 -- src/walk.rt:126:1
 else-part-same-length : (t : ℕ) → else-part-lts.Need-same-length (
@@ -599,7 +605,7 @@ else-part-same-length : (t : ℕ) → else-part-lts.Need-same-length (
   sequence-below t,
   sequence.Post,
 ) (else-part-at t) else-part.Post
-else-part-same-length t c = ?
+else-part-same-length t c = search needs
 
 -- src/walk.rt:126:1
 else-part-same-length-2 : (t : ℕ) → else-part-lts.Need-same-length-2 (
@@ -608,7 +614,7 @@ else-part-same-length-2 : (t : ℕ) → else-part-lts.Need-same-length-2 (
   sequence-below t,
   sequence.Post,
 ) (else-part-at t) else-part.Post
-else-part-same-length-2 t c = ?
+else-part-same-length-2 t c = search needs
 
 -- src/walk.rt:126:1
 else-part-returns-2 : (t : ℕ) → else-part-lts.Need-returns-2 (
@@ -617,7 +623,7 @@ else-part-returns-2 : (t : ℕ) → else-part-lts.Need-returns-2 (
   sequence-below t,
   sequence.Post,
 ) (else-part-at t) else-part.Post
-else-part-returns-2 t c = ?
+else-part-returns-2 t c = search (elses, needs)
 
 -- src/walk.rt:126:1
 else-part-same-length-3 : (t : ℕ) → else-part-lts.Need-same-length-3 (
@@ -626,7 +632,7 @@ else-part-same-length-3 : (t : ℕ) → else-part-lts.Need-same-length-3 (
   sequence-below t,
   sequence.Post,
 ) (else-part-at t) else-part.Post
-else-part-same-length-3 t c = ?
+else-part-same-length-3 t c = search needs
 
 -- src/walk.rt:126:1
 else-part-same-length-4 : (t : ℕ) → else-part-lts.Need-same-length-4 (
@@ -635,7 +641,7 @@ else-part-same-length-4 : (t : ℕ) → else-part-lts.Need-same-length-4 (
   sequence-below t,
   sequence.Post,
 ) (else-part-at t) else-part.Post
-else-part-same-length-4 t c = ?
+else-part-same-length-4 t c = search needs
 
 -- src/walk.rt:126:1
 else-part-returns-3 : (t : ℕ) → else-part-lts.Need-returns-3 (
@@ -644,7 +650,7 @@ else-part-returns-3 : (t : ℕ) → else-part-lts.Need-returns-3 (
   sequence-below t,
   sequence.Post,
 ) (else-part-at t) else-part.Post
-else-part-returns-3 t c = ?
+else-part-returns-3 t c = search (elses, needs)
 
 -- src/walk.rt:126:1
 else-part-same-length-5 : (t : ℕ) → else-part-lts.Need-same-length-5 (
@@ -653,7 +659,7 @@ else-part-same-length-5 : (t : ℕ) → else-part-lts.Need-same-length-5 (
   sequence-below t,
   sequence.Post,
 ) (else-part-at t) else-part.Post
-else-part-same-length-5 t c = ?
+else-part-same-length-5 t c = search needs
 
 -- src/walk.rt:126:1
 else-part-same-length-6 : (t : ℕ) → else-part-lts.Need-same-length-6 (
@@ -662,7 +668,7 @@ else-part-same-length-6 : (t : ℕ) → else-part-lts.Need-same-length-6 (
   sequence-below t,
   sequence.Post,
 ) (else-part-at t) else-part.Post
-else-part-same-length-6 t c = ?
+else-part-same-length-6 t c = search needs
 
 -- src/walk.rt:126:1
 else-part-returns-4 : (t : ℕ) → else-part-lts.Need-returns-4 (
@@ -671,7 +677,7 @@ else-part-returns-4 : (t : ℕ) → else-part-lts.Need-returns-4 (
   sequence-below t,
   sequence.Post,
 ) (else-part-at t) else-part.Post
-else-part-returns-4 t c = ?
+else-part-returns-4 t c = search (elses, needs)
 
 -- src/walk.rt:103:9
 if-part-returns : (t : ℕ) → if-part-lts.Need-returns (
@@ -682,7 +688,7 @@ if-part-returns : (t : ℕ) → if-part-lts.Need-returns (
   else-part-below t,
   else-part.Post,
 ) (if-part-at t) if-part.Post
-if-part-returns t c = ?
+if-part-returns t c = search (ifs, needs)
 
 -- src/walk.rt:106:9
 if-part-returns-2 : (t : ℕ) → if-part-lts.Need-returns-2 (
@@ -693,7 +699,7 @@ if-part-returns-2 : (t : ℕ) → if-part-lts.Need-returns-2 (
   else-part-below t,
   else-part.Post,
 ) (if-part-at t) if-part.Post
-if-part-returns-2 t c = ?
+if-part-returns-2 t c = search (ifs, needs)
 
 -- src/walk.rt:108:5
 if-part-link-requires : (t : ℕ) → if-part-lts.Need-link-requires (
@@ -704,7 +710,7 @@ if-part-link-requires : (t : ℕ) → if-part-lts.Need-link-requires (
   else-part-below t,
   else-part.Post,
 ) (if-part-at t) if-part.Post
-if-part-link-requires t c κs = ?
+if-part-link-requires t c κs = search needs
 
 -- src/walk.rt:109:20
 if-part-sub-sequence : (t : ℕ) → if-part-lts.Need-sub-sequence (
@@ -715,7 +721,7 @@ if-part-sub-sequence : (t : ℕ) → if-part-lts.Need-sub-sequence (
   else-part-below t,
   else-part.Post,
 ) (if-part-at t) if-part.Post
-if-part-sub-sequence t c = ?
+if-part-sub-sequence t c = omega (arith, rows-of)
 
 -- src/walk.rt:109:20
 if-part-part-sequence-start : (t : ℕ) → if-part-lts.Need-part-sequence-start (
@@ -726,7 +732,7 @@ if-part-part-sequence-start : (t : ℕ) → if-part-lts.Need-part-sequence-start
   else-part-below t,
   else-part.Post,
 ) (if-part-at t) if-part.Post
-if-part-part-sequence-start t c = ?
+if-part-part-sequence-start t c = omega (arith, rows-of)
 
 -- src/walk.rt:109:20
 if-part-part-sequence-end : (t : ℕ) → if-part-lts.Need-part-sequence-end (
@@ -737,7 +743,7 @@ if-part-part-sequence-end : (t : ℕ) → if-part-lts.Need-part-sequence-end (
   else-part-below t,
   else-part.Post,
 ) (if-part-at t) if-part.Post
-if-part-part-sequence-end t c = ?
+if-part-part-sequence-end t c = omega (arith, rows-of)
 
 -- src/walk.rt:109:32
 if-part-add-sequence : (t : ℕ) → if-part-lts.Need-add-sequence (
@@ -748,7 +754,7 @@ if-part-add-sequence : (t : ℕ) → if-part-lts.Need-add-sequence (
   else-part-below t,
   else-part.Post,
 ) (if-part-at t) if-part.Post
-if-part-add-sequence t c = ?
+if-part-add-sequence t c = omega (arith, rows-of)
 
 -- src/walk.rt:109:42
 if-part-add-sequence-2 : (t : ℕ) → if-part-lts.Need-add-sequence-2 (
@@ -759,7 +765,7 @@ if-part-add-sequence-2 : (t : ℕ) → if-part-lts.Need-add-sequence-2 (
   else-part-below t,
   else-part.Post,
 ) (if-part-at t) if-part.Post
-if-part-add-sequence-2 t c = ?
+if-part-add-sequence-2 t c = omega (arith, rows-of)
 
 -- src/walk.rt:109:53
 if-part-add-sequence-3 : (t : ℕ) → if-part-lts.Need-add-sequence-3 (
@@ -770,7 +776,7 @@ if-part-add-sequence-3 : (t : ℕ) → if-part-lts.Need-add-sequence-3 (
   else-part-below t,
   else-part.Post,
 ) (if-part-at t) if-part.Post
-if-part-add-sequence-3 t c = ?
+if-part-add-sequence-3 t c = omega (arith, rows-of)
 
 -- src/walk.rt:109:11
 if-part-sequence-requires : (t : ℕ) → if-part-lts.Need-sequence-requires (
@@ -781,7 +787,7 @@ if-part-sequence-requires : (t : ℕ) → if-part-lts.Need-sequence-requires (
   else-part-below t,
   else-part.Post,
 ) (if-part-at t) if-part.Post
-if-part-sequence-requires t c κs = ?
+if-part-sequence-requires t c κs = search needs
 
 -- src/walk.rt:110:21
 if-part-enum-known-r : (t : ℕ) → if-part-lts.Need-enum-known-r (
@@ -792,7 +798,7 @@ if-part-enum-known-r : (t : ℕ) → if-part-lts.Need-enum-known-r (
   else-part-below t,
   else-part.Post,
 ) (if-part-at t) if-part.Post
-if-part-enum-known-r t c = ?
+if-part-enum-known-r t c = search needs
 
 -- src/walk.rt:111:20
 if-part-enum-known-n : (t : ℕ) → if-part-lts.Need-enum-known-n (
@@ -803,7 +809,7 @@ if-part-enum-known-n : (t : ℕ) → if-part-lts.Need-enum-known-n (
   else-part-below t,
   else-part.Post,
 ) (if-part-at t) if-part.Post
-if-part-enum-known-n t c = ?
+if-part-enum-known-n t c = search needs
 
 -- src/walk.rt:112:30
 if-part-add-link : (t : ℕ) → if-part-lts.Need-add-link (
@@ -814,7 +820,7 @@ if-part-add-link : (t : ℕ) → if-part-lts.Need-add-link (
   else-part-below t,
   else-part.Post,
 ) (if-part-at t) if-part.Post
-if-part-add-link t c = ?
+if-part-add-link t c = omega (arith, rows-of)
 
 -- src/walk.rt:112:30
 if-part-add-link-2 : (t : ℕ) → if-part-lts.Need-add-link-2 (
@@ -825,7 +831,7 @@ if-part-add-link-2 : (t : ℕ) → if-part-lts.Need-add-link-2 (
   else-part-below t,
   else-part.Post,
 ) (if-part-at t) if-part.Post
-if-part-add-link-2 t c = ?
+if-part-add-link-2 t c = omega (arith, rows-of)
 
 -- src/walk.rt:112:13
 if-part-link-requires-2 : (t : ℕ) → if-part-lts.Need-link-requires-2 (
@@ -836,7 +842,7 @@ if-part-link-requires-2 : (t : ℕ) → if-part-lts.Need-link-requires-2 (
   else-part-below t,
   else-part.Post,
 ) (if-part-at t) if-part.Post
-if-part-link-requires-2 t c κs = ?
+if-part-link-requires-2 t c κs = omega (arith, rows-of)
 
 -- src/walk.rt:113:24
 if-part-add-t39 : (t : ℕ) → if-part-lts.Need-add-t39 (
@@ -847,7 +853,7 @@ if-part-add-t39 : (t : ℕ) → if-part-lts.Need-add-t39 (
   else-part-below t,
   else-part.Post,
 ) (if-part-at t) if-part.Post
-if-part-add-t39 t c = ?
+if-part-add-t39 t c = omega (arith, rows-of)
 
 -- src/walk.rt:115:21
 if-part-enum-known-n-2 : (t : ℕ) → if-part-lts.Need-enum-known-n-2 (
@@ -858,7 +864,7 @@ if-part-enum-known-n-2 : (t : ℕ) → if-part-lts.Need-enum-known-n-2 (
   else-part-below t,
   else-part.Post,
 ) (if-part-at t) if-part.Post
-if-part-enum-known-n-2 t c = ?
+if-part-enum-known-n-2 t c = search needs
 
 -- src/walk.rt:116:29
 if-part-add-from : (t : ℕ) → if-part-lts.Need-add-from (
@@ -869,7 +875,7 @@ if-part-add-from : (t : ℕ) → if-part-lts.Need-add-from (
   else-part-below t,
   else-part.Post,
 ) (if-part-at t) if-part.Post
-if-part-add-from t c = ?
+if-part-add-from t c = omega (arith, rows-of)
 
 -- src/walk.rt:116:24
 if-part-mul-from : (t : ℕ) → if-part-lts.Need-mul-from (
@@ -880,7 +886,7 @@ if-part-mul-from : (t : ℕ) → if-part-lts.Need-mul-from (
   else-part-below t,
   else-part.Post,
 ) (if-part-at t) if-part.Post
-if-part-mul-from t c = ?
+if-part-mul-from t c = omega (arith, rows-of)
 
 -- src/walk.rt:117:29
 if-part-sub-else-part : (t : ℕ) → if-part-lts.Need-sub-else-part (
@@ -891,7 +897,7 @@ if-part-sub-else-part : (t : ℕ) → if-part-lts.Need-sub-else-part (
   else-part-below t,
   else-part.Post,
 ) (if-part-at t) if-part.Post
-if-part-sub-else-part t c = ?
+if-part-sub-else-part t c = omega (arith, rows-of)
 
 -- src/walk.rt:117:29
 if-part-part-else-part-start : (t : ℕ) → if-part-lts.Need-part-else-part-start (
@@ -902,7 +908,7 @@ if-part-part-else-part-start : (t : ℕ) → if-part-lts.Need-part-else-part-sta
   else-part-below t,
   else-part.Post,
 ) (if-part-at t) if-part.Post
-if-part-part-else-part-start t c = ?
+if-part-part-else-part-start t c = omega (arith, rows-of)
 
 -- src/walk.rt:117:29
 if-part-part-else-part-end : (t : ℕ) → if-part-lts.Need-part-else-part-end (
@@ -913,7 +919,7 @@ if-part-part-else-part-end : (t : ℕ) → if-part-lts.Need-part-else-part-end (
   else-part-below t,
   else-part.Post,
 ) (if-part-at t) if-part.Post
-if-part-part-else-part-end t c = ?
+if-part-part-else-part-end t c = omega (arith, rows-of)
 
 -- src/walk.rt:117:44
 if-part-add-else-part : (t : ℕ) → if-part-lts.Need-add-else-part (
@@ -924,7 +930,7 @@ if-part-add-else-part : (t : ℕ) → if-part-lts.Need-add-else-part (
   else-part-below t,
   else-part.Post,
 ) (if-part-at t) if-part.Post
-if-part-add-else-part t c = ?
+if-part-add-else-part t c = omega (arith, rows-of)
 
 -- src/walk.rt:117:44
 if-part-add-else-part-2 : (t : ℕ) → if-part-lts.Need-add-else-part-2 (
@@ -935,7 +941,7 @@ if-part-add-else-part-2 : (t : ℕ) → if-part-lts.Need-add-else-part-2 (
   else-part-below t,
   else-part.Post,
 ) (if-part-at t) if-part.Post
-if-part-add-else-part-2 t c = ?
+if-part-add-else-part-2 t c = omega (arith, rows-of)
 
 -- src/walk.rt:117:19
 if-part-else-part-requires : (t : ℕ) → if-part-lts.Need-else-part-requires (
@@ -946,7 +952,7 @@ if-part-else-part-requires : (t : ℕ) → if-part-lts.Need-else-part-requires (
   else-part-below t,
   else-part.Post,
 ) (if-part-at t) if-part.Post
-if-part-else-part-requires t c κs = ?
+if-part-else-part-requires t c κs = omega (arith, rows-of)
 
 -- src/walk.rt:118:28
 if-part-enum-known-r-2 : (t : ℕ) → if-part-lts.Need-enum-known-r-2 (
@@ -957,7 +963,7 @@ if-part-enum-known-r-2 : (t : ℕ) → if-part-lts.Need-enum-known-r-2 (
   else-part-below t,
   else-part.Post,
 ) (if-part-at t) if-part.Post
-if-part-enum-known-r-2 t c = ?
+if-part-enum-known-r-2 t c = search needs
 
 -- src/walk.rt:119:28
 if-part-enum-known-k : (t : ℕ) → if-part-lts.Need-enum-known-k (
@@ -968,7 +974,7 @@ if-part-enum-known-k : (t : ℕ) → if-part-lts.Need-enum-known-k (
   else-part-below t,
   else-part.Post,
 ) (if-part-at t) if-part.Post
-if-part-enum-known-k t c = ?
+if-part-enum-known-k t c = search needs
 
 -- src/walk.rt:119:48
 if-part-add-t53 : (t : ℕ) → if-part-lts.Need-add-t53 (
@@ -979,7 +985,7 @@ if-part-add-t53 : (t : ℕ) → if-part-lts.Need-add-t53 (
   else-part-below t,
   else-part.Post,
 ) (if-part-at t) if-part.Post
-if-part-add-t53 t c = ?
+if-part-add-t53 t c = omega (arith, rows-of, c .before .before .before .before .before .before .before .else-part .ensures, c .before .before .before .before .before .before .before .before .before .before .before .before .n2 .given, c .before .before .before .before .before .before .before .before .before .before .before .known-told3 .given, c .before .before .before .before .before .before .before .before .before .before .before .before .before .before .before .before .before .before .sequence .ensures .fit, c .before .before .before .before .before .before .before .before .before .before .before .before .before .before .before .before .before .before .before .before .before .before .before .before .before .before .before .before .before .before .before .pre .1)
 
 -- src/walk.rt:119:48
 if-part-add-t54 : (t : ℕ) → if-part-lts.Need-add-t54 (
@@ -990,7 +996,7 @@ if-part-add-t54 : (t : ℕ) → if-part-lts.Need-add-t54 (
   else-part-below t,
   else-part.Post,
 ) (if-part-at t) if-part.Post
-if-part-add-t54 t c = ?
+if-part-add-t54 t c = omega (arith, rows-of, c .before .before .before .before .before .before .before .else-part .ensures, c .before .before .before .before .before .before .before .before .before .before .before .before .n2 .given, c .before .before .before .before .before .before .before .before .before .before .before .known-told3 .given, c .before .before .before .before .before .before .before .before .before .before .before .before .before .before .before .before .before .before .sequence .ensures .fit, c .before .before .before .before .before .before .before .before .before .before .before .before .before .before .before .before .before .before .before .before .before .before .before .before .before .before .before .before .before .before .before .pre .1)
 
 -- src/walk.rt:96:1
 if-part-same-length : (t : ℕ) → if-part-lts.Need-same-length (
@@ -1001,7 +1007,7 @@ if-part-same-length : (t : ℕ) → if-part-lts.Need-same-length (
   else-part-below t,
   else-part.Post,
 ) (if-part-at t) if-part.Post
-if-part-same-length t c = ?
+if-part-same-length t c = search needs
 
 -- src/walk.rt:96:1
 if-part-same-length-2 : (t : ℕ) → if-part-lts.Need-same-length-2 (
@@ -1012,7 +1018,7 @@ if-part-same-length-2 : (t : ℕ) → if-part-lts.Need-same-length-2 (
   else-part-below t,
   else-part.Post,
 ) (if-part-at t) if-part.Post
-if-part-same-length-2 t c = ?
+if-part-same-length-2 t c = search needs
 
 -- src/walk.rt:96:1
 if-part-returns-3 : (t : ℕ) → if-part-lts.Need-returns-3 (
@@ -1023,7 +1029,7 @@ if-part-returns-3 : (t : ℕ) → if-part-lts.Need-returns-3 (
   else-part-below t,
   else-part.Post,
 ) (if-part-at t) if-part.Post
-if-part-returns-3 t c = ?
+if-part-returns-3 t c = search (ifs, needs)
 
 -- src/walk.rt:96:1
 if-part-same-length-3 : (t : ℕ) → if-part-lts.Need-same-length-3 (
@@ -1034,7 +1040,7 @@ if-part-same-length-3 : (t : ℕ) → if-part-lts.Need-same-length-3 (
   else-part-below t,
   else-part.Post,
 ) (if-part-at t) if-part.Post
-if-part-same-length-3 t c = ?
+if-part-same-length-3 t c = search needs
 
 -- src/walk.rt:96:1
 if-part-same-length-4 : (t : ℕ) → if-part-lts.Need-same-length-4 (
@@ -1045,7 +1051,7 @@ if-part-same-length-4 : (t : ℕ) → if-part-lts.Need-same-length-4 (
   else-part-below t,
   else-part.Post,
 ) (if-part-at t) if-part.Post
-if-part-same-length-4 t c = ?
+if-part-same-length-4 t c = search needs
 
 -- src/walk.rt:96:1
 if-part-returns-4 : (t : ℕ) → if-part-lts.Need-returns-4 (
@@ -1056,7 +1062,7 @@ if-part-returns-4 : (t : ℕ) → if-part-lts.Need-returns-4 (
   else-part-below t,
   else-part.Post,
 ) (if-part-at t) if-part.Post
-if-part-returns-4 t c = ?
+if-part-returns-4 t c = search (ifs, needs)
 
 -- src/walk.rt:96:1
 if-part-same-length-5 : (t : ℕ) → if-part-lts.Need-same-length-5 (
@@ -1067,7 +1073,7 @@ if-part-same-length-5 : (t : ℕ) → if-part-lts.Need-same-length-5 (
   else-part-below t,
   else-part.Post,
 ) (if-part-at t) if-part.Post
-if-part-same-length-5 t c = ?
+if-part-same-length-5 t c = search needs
 
 -- src/walk.rt:96:1
 if-part-same-length-6 : (t : ℕ) → if-part-lts.Need-same-length-6 (
@@ -1078,7 +1084,7 @@ if-part-same-length-6 : (t : ℕ) → if-part-lts.Need-same-length-6 (
   else-part-below t,
   else-part.Post,
 ) (if-part-at t) if-part.Post
-if-part-same-length-6 t c = ?
+if-part-same-length-6 t c = search needs
 
 -- src/walk.rt:96:1
 if-part-returns-5 : (t : ℕ) → if-part-lts.Need-returns-5 (
@@ -1089,7 +1095,7 @@ if-part-returns-5 : (t : ℕ) → if-part-lts.Need-returns-5 (
   else-part-below t,
   else-part.Post,
 ) (if-part-at t) if-part.Post
-if-part-returns-5 t c = ?
+if-part-returns-5 t c = search (rest-torn, c .before .before .before .before .before .before .before .before .before .before .before .before .before .before .before .before .before .before .before .before .before .before .before .before .before .before .before .before .before .before .before .pre .1 .1 .1 .0, c .before .before .before .before .before .before .before .before .before .before .before .before .before .before .before .before .before .before .before .before .before .before .before .before .before .before .before .before .before .before .before .pre .1 .1 .1 .1, c .before .before .before .before .before .before .before .before .before .before .before .before .before .before .before .before .before .before .before .before .before .before .before .before .before .before .before .if1 .left, c .before .before .before .before .before .before .before .before .before .before .before .before .before .before .before .before .before .before .before .before .before .before .before .before .before .before .if2 .left, c .before .before .before .before .before .before .before .before .before .before .before .before .before .before .before .before .before .before .before .before .before .before .before .before .link .ensures, c .before .before .before .before .before .before .before .before .before .before .before .before .before .before .before .before .before .before .sequence .ensures, c .before .before .before .before .before .before .before .before .before .before .before .known-told3 .given, c .before .before .before .before .before .before .before .before .before .before .before .before .n2 .given, c .before .before .before .before .before .before .before .else-part .ensures, c .known-told4 .given, c .before .r2 .given, needs)
 
 -- src/walk.rt:96:1
 if-part-same-length-7 : (t : ℕ) → if-part-lts.Need-same-length-7 (
@@ -1100,7 +1106,7 @@ if-part-same-length-7 : (t : ℕ) → if-part-lts.Need-same-length-7 (
   else-part-below t,
   else-part.Post,
 ) (if-part-at t) if-part.Post
-if-part-same-length-7 t c = ?
+if-part-same-length-7 t c = search needs
 
 -- src/walk.rt:96:1
 if-part-same-length-8 : (t : ℕ) → if-part-lts.Need-same-length-8 (
@@ -1111,7 +1117,7 @@ if-part-same-length-8 : (t : ℕ) → if-part-lts.Need-same-length-8 (
   else-part-below t,
   else-part.Post,
 ) (if-part-at t) if-part.Post
-if-part-same-length-8 t c = ?
+if-part-same-length-8 t c = search needs
 
 -- src/walk.rt:96:1
 if-part-returns-6 : (t : ℕ) → if-part-lts.Need-returns-6 (
@@ -1122,7 +1128,7 @@ if-part-returns-6 : (t : ℕ) → if-part-lts.Need-returns-6 (
   else-part-below t,
   else-part.Post,
 ) (if-part-at t) if-part.Post
-if-part-returns-6 t c = ?
+if-part-returns-6 t c = search (rest-rows, c .before .before .before .before .before .before .before .before .before .before .before .before .before .before .before .before .before .before .before .before .before .before .before .before .before .before .before .before .before .before .before .pre .1 .1 .1 .0, c .before .before .before .before .before .before .before .before .before .before .before .before .before .before .before .before .before .before .before .before .before .before .before .before .before .before .before .before .before .before .before .pre .1 .1 .1 .1, c .before .before .before .before .before .before .before .before .before .before .before .before .before .before .before .before .before .before .before .before .before .before .before .before .before .before .before .if1 .left, c .before .before .before .before .before .before .before .before .before .before .before .before .before .before .before .before .before .before .before .before .before .before .before .before .before .before .if2 .left, c .before .before .before .before .before .before .before .before .before .before .before .before .before .before .before .before .before .before .before .before .before .before .before .before .link .ensures, c .before .before .before .before .before .before .before .before .before .before .before .before .before .before .before .before .before .before .sequence .ensures, c .before .before .before .before .before .before .before .before .before .before .before .known-told3 .given, c .before .before .before .before .before .before .before .before .before .before .before .before .n2 .given, c .before .before .before .before .before .before .before .else-part .ensures, c .known-told5 .given, c .before .k .given, needs)
 
 -- src/walk.rt:154:9
 loop-part-returns : (t : ℕ) → loop-part-lts.Need-returns (
@@ -1131,7 +1137,7 @@ loop-part-returns : (t : ℕ) → loop-part-lts.Need-returns (
   link-reads.Asked,
   link-reads.Learnt,
 ) (loop-part-at t) loop-part.Post
-loop-part-returns t c = ?
+loop-part-returns t c = search (loops-in, needs)
 
 -- src/walk.rt:157:9
 loop-part-returns-2 : (t : ℕ) → loop-part-lts.Need-returns-2 (
@@ -1140,7 +1146,7 @@ loop-part-returns-2 : (t : ℕ) → loop-part-lts.Need-returns-2 (
   link-reads.Asked,
   link-reads.Learnt,
 ) (loop-part-at t) loop-part.Post
-loop-part-returns-2 t c = ?
+loop-part-returns-2 t c = search (loops-in, needs)
 
 -- src/walk.rt:159:20
 loop-part-sub-sequence : (t : ℕ) → loop-part-lts.Need-sub-sequence (
@@ -1149,7 +1155,7 @@ loop-part-sub-sequence : (t : ℕ) → loop-part-lts.Need-sub-sequence (
   link-reads.Asked,
   link-reads.Learnt,
 ) (loop-part-at t) loop-part.Post
-loop-part-sub-sequence t c = ?
+loop-part-sub-sequence t c = omega (arith, rows-of)
 
 -- src/walk.rt:159:20
 loop-part-part-sequence-start : (t : ℕ) → loop-part-lts.Need-part-sequence-start (
@@ -1158,7 +1164,7 @@ loop-part-part-sequence-start : (t : ℕ) → loop-part-lts.Need-part-sequence-s
   link-reads.Asked,
   link-reads.Learnt,
 ) (loop-part-at t) loop-part.Post
-loop-part-part-sequence-start t c = ?
+loop-part-part-sequence-start t c = omega (arith, rows-of)
 
 -- src/walk.rt:159:20
 loop-part-part-sequence-end : (t : ℕ) → loop-part-lts.Need-part-sequence-end (
@@ -1167,7 +1173,7 @@ loop-part-part-sequence-end : (t : ℕ) → loop-part-lts.Need-part-sequence-end
   link-reads.Asked,
   link-reads.Learnt,
 ) (loop-part-at t) loop-part.Post
-loop-part-part-sequence-end t c = ?
+loop-part-part-sequence-end t c = omega (arith, rows-of)
 
 -- src/walk.rt:159:32
 loop-part-add-sequence : (t : ℕ) → loop-part-lts.Need-add-sequence (
@@ -1176,7 +1182,7 @@ loop-part-add-sequence : (t : ℕ) → loop-part-lts.Need-add-sequence (
   link-reads.Asked,
   link-reads.Learnt,
 ) (loop-part-at t) loop-part.Post
-loop-part-add-sequence t c = ?
+loop-part-add-sequence t c = omega (arith, rows-of)
 
 -- src/walk.rt:159:42
 loop-part-add-sequence-2 : (t : ℕ) → loop-part-lts.Need-add-sequence-2 (
@@ -1185,7 +1191,7 @@ loop-part-add-sequence-2 : (t : ℕ) → loop-part-lts.Need-add-sequence-2 (
   link-reads.Asked,
   link-reads.Learnt,
 ) (loop-part-at t) loop-part.Post
-loop-part-add-sequence-2 t c = ?
+loop-part-add-sequence-2 t c = omega (arith, rows-of)
 
 -- src/walk.rt:159:53
 loop-part-add-sequence-3 : (t : ℕ) → loop-part-lts.Need-add-sequence-3 (
@@ -1194,7 +1200,7 @@ loop-part-add-sequence-3 : (t : ℕ) → loop-part-lts.Need-add-sequence-3 (
   link-reads.Asked,
   link-reads.Learnt,
 ) (loop-part-at t) loop-part.Post
-loop-part-add-sequence-3 t c = ?
+loop-part-add-sequence-3 t c = omega (arith, rows-of)
 
 -- src/walk.rt:159:11
 loop-part-sequence-requires : (t : ℕ) → loop-part-lts.Need-sequence-requires (
@@ -1203,7 +1209,7 @@ loop-part-sequence-requires : (t : ℕ) → loop-part-lts.Need-sequence-requires
   link-reads.Asked,
   link-reads.Learnt,
 ) (loop-part-at t) loop-part.Post
-loop-part-sequence-requires t c κs = ?
+loop-part-sequence-requires t c κs = search needs
 
 -- src/walk.rt:160:21
 loop-part-enum-known-r : (t : ℕ) → loop-part-lts.Need-enum-known-r (
@@ -1212,7 +1218,7 @@ loop-part-enum-known-r : (t : ℕ) → loop-part-lts.Need-enum-known-r (
   link-reads.Asked,
   link-reads.Learnt,
 ) (loop-part-at t) loop-part.Post
-loop-part-enum-known-r t c = ?
+loop-part-enum-known-r t c = search needs
 
 -- src/walk.rt:161:43
 loop-part-enum-told : (t : ℕ) → loop-part-lts.Need-enum-told (
@@ -1221,7 +1227,7 @@ loop-part-enum-told : (t : ℕ) → loop-part-lts.Need-enum-told (
   link-reads.Asked,
   link-reads.Learnt,
 ) (loop-part-at t) loop-part.Post
-loop-part-enum-told t c = ?
+loop-part-enum-told t c = search needs
 
 -- src/walk.rt:162:20
 loop-part-enum-known-n : (t : ℕ) → loop-part-lts.Need-enum-known-n (
@@ -1230,7 +1236,7 @@ loop-part-enum-known-n : (t : ℕ) → loop-part-lts.Need-enum-known-n (
   link-reads.Asked,
   link-reads.Learnt,
 ) (loop-part-at t) loop-part.Post
-loop-part-enum-known-n t c = ?
+loop-part-enum-known-n t c = search needs
 
 -- src/walk.rt:163:30
 loop-part-add-link : (t : ℕ) → loop-part-lts.Need-add-link (
@@ -1239,7 +1245,7 @@ loop-part-add-link : (t : ℕ) → loop-part-lts.Need-add-link (
   link-reads.Asked,
   link-reads.Learnt,
 ) (loop-part-at t) loop-part.Post
-loop-part-add-link t c = ?
+loop-part-add-link t c = omega (arith, rows-of)
 
 -- src/walk.rt:163:30
 loop-part-add-link-2 : (t : ℕ) → loop-part-lts.Need-add-link-2 (
@@ -1248,7 +1254,7 @@ loop-part-add-link-2 : (t : ℕ) → loop-part-lts.Need-add-link-2 (
   link-reads.Asked,
   link-reads.Learnt,
 ) (loop-part-at t) loop-part.Post
-loop-part-add-link-2 t c = ?
+loop-part-add-link-2 t c = omega (arith, rows-of)
 
 -- src/walk.rt:163:13
 loop-part-link-requires : (t : ℕ) → loop-part-lts.Need-link-requires (
@@ -1257,7 +1263,7 @@ loop-part-link-requires : (t : ℕ) → loop-part-lts.Need-link-requires (
   link-reads.Asked,
   link-reads.Learnt,
 ) (loop-part-at t) loop-part.Post
-loop-part-link-requires t c κs = ?
+loop-part-link-requires t c κs = omega (arith, rows-of)
 
 -- src/walk.rt:164:24
 loop-part-add-t31 : (t : ℕ) → loop-part-lts.Need-add-t31 (
@@ -1266,7 +1272,7 @@ loop-part-add-t31 : (t : ℕ) → loop-part-lts.Need-add-t31 (
   link-reads.Asked,
   link-reads.Learnt,
 ) (loop-part-at t) loop-part.Post
-loop-part-add-t31 t c = ?
+loop-part-add-t31 t c = omega (arith, rows-of)
 
 -- src/walk.rt:147:1
 loop-part-same-length : (t : ℕ) → loop-part-lts.Need-same-length (
@@ -1275,7 +1281,7 @@ loop-part-same-length : (t : ℕ) → loop-part-lts.Need-same-length (
   link-reads.Asked,
   link-reads.Learnt,
 ) (loop-part-at t) loop-part.Post
-loop-part-same-length t c = ?
+loop-part-same-length t c = search needs
 
 -- src/walk.rt:147:1
 loop-part-same-length-2 : (t : ℕ) → loop-part-lts.Need-same-length-2 (
@@ -1284,7 +1290,7 @@ loop-part-same-length-2 : (t : ℕ) → loop-part-lts.Need-same-length-2 (
   link-reads.Asked,
   link-reads.Learnt,
 ) (loop-part-at t) loop-part.Post
-loop-part-same-length-2 t c = ?
+loop-part-same-length-2 t c = search needs
 
 -- src/walk.rt:147:1
 loop-part-returns-3 : (t : ℕ) → loop-part-lts.Need-returns-3 (
@@ -1293,7 +1299,7 @@ loop-part-returns-3 : (t : ℕ) → loop-part-lts.Need-returns-3 (
   link-reads.Asked,
   link-reads.Learnt,
 ) (loop-part-at t) loop-part.Post
-loop-part-returns-3 t c = ?
+loop-part-returns-3 t c = search (loops-in, needs)
 
 -- src/walk.rt:147:1
 loop-part-same-length-3 : (t : ℕ) → loop-part-lts.Need-same-length-3 (
@@ -1302,7 +1308,7 @@ loop-part-same-length-3 : (t : ℕ) → loop-part-lts.Need-same-length-3 (
   link-reads.Asked,
   link-reads.Learnt,
 ) (loop-part-at t) loop-part.Post
-loop-part-same-length-3 t c = ?
+loop-part-same-length-3 t c = search needs
 
 -- src/walk.rt:147:1
 loop-part-same-length-4 : (t : ℕ) → loop-part-lts.Need-same-length-4 (
@@ -1311,7 +1317,7 @@ loop-part-same-length-4 : (t : ℕ) → loop-part-lts.Need-same-length-4 (
   link-reads.Asked,
   link-reads.Learnt,
 ) (loop-part-at t) loop-part.Post
-loop-part-same-length-4 t c = ?
+loop-part-same-length-4 t c = search needs
 
 -- src/walk.rt:147:1
 loop-part-returns-4 : (t : ℕ) → loop-part-lts.Need-returns-4 (
@@ -1320,7 +1326,7 @@ loop-part-returns-4 : (t : ℕ) → loop-part-lts.Need-returns-4 (
   link-reads.Asked,
   link-reads.Learnt,
 ) (loop-part-at t) loop-part.Post
-loop-part-returns-4 t c = ?
+loop-part-returns-4 t c = search (loops-in, needs)
 
 -- src/walk.rt:147:1
 loop-part-same-length-5 : (t : ℕ) → loop-part-lts.Need-same-length-5 (
@@ -1329,7 +1335,7 @@ loop-part-same-length-5 : (t : ℕ) → loop-part-lts.Need-same-length-5 (
   link-reads.Asked,
   link-reads.Learnt,
 ) (loop-part-at t) loop-part.Post
-loop-part-same-length-5 t c = ?
+loop-part-same-length-5 t c = search needs
 
 -- src/walk.rt:147:1
 loop-part-same-length-6 : (t : ℕ) → loop-part-lts.Need-same-length-6 (
@@ -1338,7 +1344,7 @@ loop-part-same-length-6 : (t : ℕ) → loop-part-lts.Need-same-length-6 (
   link-reads.Asked,
   link-reads.Learnt,
 ) (loop-part-at t) loop-part.Post
-loop-part-same-length-6 t c = ?
+loop-part-same-length-6 t c = search needs
 
 -- src/walk.rt:147:1
 loop-part-returns-5 : (t : ℕ) → loop-part-lts.Need-returns-5 (
@@ -1347,14 +1353,14 @@ loop-part-returns-5 : (t : ℕ) → loop-part-lts.Need-returns-5 (
   link-reads.Asked,
   link-reads.Learnt,
 ) (loop-part-at t) loop-part.Post
-loop-part-returns-5 t c = ?
+loop-part-returns-5 t c = search (loops-in, needs)
 
 abbrev sequence-Inv-loop : sequence-lts.InvT-loop
 sequence-Inv-loop rows base depth opened in-loop ends₀ elses₀ at₀ regions₀ ends elses at regions =
-    ?
+    SeqTo rows base depth opened in-loop ends₀ elses₀ ends elses at regions
 
 abbrev sequence-μ-loop : sequence-lts.MeasureT-loop
-sequence-μ-loop rows base depth opened in-loop ends₀ elses₀ at₀ regions₀ ends elses at regions = ?
+sequence-μ-loop rows base depth opened in-loop ends₀ elses₀ at₀ regions₀ ends elses at regions = length rows - 6 * at
 
 -- src/walk.rt:49:5
 sequence-loop-holds :
@@ -1365,7 +1371,7 @@ sequence-loop-holds :
     sequence.Post
     sequence-Inv-loop
     sequence-μ-loop
-sequence-loop-holds t c = ?
+sequence-loop-holds t c = search (sequences, needs)
 
 -- src/walk.rt:49:11
 sequence-mul-loop :
@@ -1376,7 +1382,7 @@ sequence-mul-loop :
     sequence.Post
     sequence-Inv-loop
     sequence-μ-loop
-sequence-mul-loop t c = ?
+sequence-mul-loop t c = omega (arith, rows-of)
 
 -- src/walk.rt:49:11
 sequence-add-loop :
@@ -1387,7 +1393,7 @@ sequence-add-loop :
     sequence.Post
     sequence-Inv-loop
     sequence-μ-loop
-sequence-add-loop t c = ?
+sequence-add-loop t c = omega (arith, rows-of)
 
 -- src/walk.rt:50:20
 sequence-mul-from :
@@ -1398,49 +1404,49 @@ sequence-mul-from :
     sequence.Post
     sequence-Inv-loop
     sequence-μ-loop
-sequence-mul-from t c = ?
+sequence-mul-from t c = omega (arith, rows-of)
 
 -- src/walk.rt:51:25
 sequence-sub-construct : (t : ℕ) → sequence-lts.Need-sub-construct (
   construct-below t,
   construct.Post,
 ) (sequence-at t) sequence.Post sequence-Inv-loop sequence-μ-loop
-sequence-sub-construct t c = ?
+sequence-sub-construct t c = omega (arith, rows-of)
 
 -- src/walk.rt:51:25
 sequence-part-construct-start : (t : ℕ) → sequence-lts.Need-part-construct-start (
   construct-below t,
   construct.Post,
 ) (sequence-at t) sequence.Post sequence-Inv-loop sequence-μ-loop
-sequence-part-construct-start t c = ?
+sequence-part-construct-start t c = omega (arith, rows-of)
 
 -- src/walk.rt:51:25
 sequence-part-construct-end : (t : ℕ) → sequence-lts.Need-part-construct-end (
   construct-below t,
   construct.Post,
 ) (sequence-at t) sequence.Post sequence-Inv-loop sequence-μ-loop
-sequence-part-construct-end t c = ?
+sequence-part-construct-end t c = omega (arith, rows-of)
 
 -- src/walk.rt:51:40
 sequence-add-construct : (t : ℕ) → sequence-lts.Need-add-construct (
   construct-below t,
   construct.Post,
 ) (sequence-at t) sequence.Post sequence-Inv-loop sequence-μ-loop
-sequence-add-construct t c = ?
+sequence-add-construct t c = omega (arith, rows-of)
 
 -- src/walk.rt:51:15
 sequence-construct-requires : (t : ℕ) → sequence-lts.Need-construct-requires (
   construct-below t,
   construct.Post,
 ) (sequence-at t) sequence.Post sequence-Inv-loop sequence-μ-loop
-sequence-construct-requires t c κs = ?
+sequence-construct-requires t c κs = search needs
 
 -- src/walk.rt:52:26
 sequence-enum-known-r : (t : ℕ) → sequence-lts.Need-enum-known-r (
   construct-below t,
   construct.Post,
 ) (sequence-at t) sequence.Post sequence-Inv-loop sequence-μ-loop
-sequence-enum-known-r t c = ?
+sequence-enum-known-r t c = search needs
 
 -- src/walk.rt:52:32
 sequence-same-length :
@@ -1451,14 +1457,14 @@ sequence-same-length :
     sequence.Post
     sequence-Inv-loop
     sequence-μ-loop
-sequence-same-length t c = ?
+sequence-same-length t c = search needs
 
 -- src/walk.rt:52:32
 sequence-same-length-2 : (t : ℕ) → sequence-lts.Need-same-length-2 (
   construct-below t,
   construct.Post,
 ) (sequence-at t) sequence.Post sequence-Inv-loop sequence-μ-loop
-sequence-same-length-2 t c = ?
+sequence-same-length-2 t c = search needs
 
 -- src/walk.rt:52:32
 sequence-returns :
@@ -1469,7 +1475,7 @@ sequence-returns :
     sequence.Post
     sequence-Inv-loop
     sequence-μ-loop
-sequence-returns t c = ?
+sequence-returns t c = search (sequences, needs)
 
 -- src/walk.rt:53:30
 sequence-enum-told :
@@ -1480,21 +1486,21 @@ sequence-enum-told :
     sequence.Post
     sequence-Inv-loop
     sequence-μ-loop
-sequence-enum-told t c = ?
+sequence-enum-told t c = search needs
 
 -- src/walk.rt:53:30
 sequence-same-length-3 : (t : ℕ) → sequence-lts.Need-same-length-3 (
   construct-below t,
   construct.Post,
 ) (sequence-at t) sequence.Post sequence-Inv-loop sequence-μ-loop
-sequence-same-length-3 t c = ?
+sequence-same-length-3 t c = search needs
 
 -- src/walk.rt:53:30
 sequence-same-length-4 : (t : ℕ) → sequence-lts.Need-same-length-4 (
   construct-below t,
   construct.Post,
 ) (sequence-at t) sequence.Post sequence-Inv-loop sequence-μ-loop
-sequence-same-length-4 t c = ?
+sequence-same-length-4 t c = search needs
 
 -- src/walk.rt:53:30
 sequence-returns-2 :
@@ -1505,7 +1511,7 @@ sequence-returns-2 :
     sequence.Post
     sequence-Inv-loop
     sequence-μ-loop
-sequence-returns-2 t c = ?
+sequence-returns-2 t c = search (to-end, c .before .before .before .before .before .before .before .before .before .before .before .loop .inv, c .before .before .before .before .before .before .construct .ensures, c .enum-told .given, c .before .match .keys2, needs)
 
 -- src/walk.rt:54:31
 sequence-enum-told-2 :
@@ -1516,21 +1522,21 @@ sequence-enum-told-2 :
     sequence.Post
     sequence-Inv-loop
     sequence-μ-loop
-sequence-enum-told-2 t c = ?
+sequence-enum-told-2 t c = search needs
 
 -- src/walk.rt:54:31
 sequence-same-length-5 : (t : ℕ) → sequence-lts.Need-same-length-5 (
   construct-below t,
   construct.Post,
 ) (sequence-at t) sequence.Post sequence-Inv-loop sequence-μ-loop
-sequence-same-length-5 t c = ?
+sequence-same-length-5 t c = search needs
 
 -- src/walk.rt:54:31
 sequence-same-length-6 : (t : ℕ) → sequence-lts.Need-same-length-6 (
   construct-below t,
   construct.Post,
 ) (sequence-at t) sequence.Post sequence-Inv-loop sequence-μ-loop
-sequence-same-length-6 t c = ?
+sequence-same-length-6 t c = search needs
 
 -- src/walk.rt:54:31
 sequence-returns-3 :
@@ -1541,14 +1547,14 @@ sequence-returns-3 :
     sequence.Post
     sequence-Inv-loop
     sequence-μ-loop
-sequence-returns-3 t c = ?
+sequence-returns-3 t c = search (to-else, c .before .before .before .before .before .before .before .before .before .before .before .loop .inv, c .before .before .before .before .before .before .construct .ensures, c .enum-told2 .given, c .before .match .keys3, needs)
 
 -- src/walk.rt:55:24
 sequence-enum-known-n : (t : ℕ) → sequence-lts.Need-enum-known-n (
   construct-below t,
   construct.Post,
 ) (sequence-at t) sequence.Post sequence-Inv-loop sequence-μ-loop
-sequence-enum-known-n t c = ?
+sequence-enum-known-n t c = search needs
 
 -- src/walk.rt:56:22
 sequence-add-at :
@@ -1559,7 +1565,7 @@ sequence-add-at :
     sequence.Post
     sequence-Inv-loop
     sequence-μ-loop
-sequence-add-at t c = ?
+sequence-add-at t c = omega (arith, rows-of)
 
 -- src/walk.rt:49:5
 sequence-loop-less :
@@ -1570,7 +1576,7 @@ sequence-loop-less :
     sequence.Post
     sequence-Inv-loop
     sequence-μ-loop
-sequence-loop-less t c = ?
+sequence-loop-less t c = omega (arith, rows-of)
 
 -- src/walk.rt:49:5
 sequence-loop-again :
@@ -1581,21 +1587,21 @@ sequence-loop-again :
     sequence.Post
     sequence-Inv-loop
     sequence-μ-loop
-sequence-loop-again t c = ?
+sequence-loop-again t c = search (to-past, c .before .before .before .before .before .before .before .before .before .before .before .before .loop .inv, c .before .before .before .before .before .before .before .construct .ensures, c .before .before .before .before .before .before .before .construct .kept, c .known-told2 .given, c .before .n .given, needs)
 
 -- src/walk.rt:42:1
 sequence-same-length-7 : (t : ℕ) → sequence-lts.Need-same-length-7 (
   construct-below t,
   construct.Post,
 ) (sequence-at t) sequence.Post sequence-Inv-loop sequence-μ-loop
-sequence-same-length-7 t c = ?
+sequence-same-length-7 t c = search needs
 
 -- src/walk.rt:42:1
 sequence-same-length-8 : (t : ℕ) → sequence-lts.Need-same-length-8 (
   construct-below t,
   construct.Post,
 ) (sequence-at t) sequence.Post sequence-Inv-loop sequence-μ-loop
-sequence-same-length-8 t c = ?
+sequence-same-length-8 t c = search needs
 
 -- src/walk.rt:42:1
 sequence-returns-4 :
@@ -1606,7 +1612,7 @@ sequence-returns-4 :
     sequence.Post
     sequence-Inv-loop
     sequence-μ-loop
-sequence-returns-4 t c = ?
+sequence-returns-4 t c = search (sequences, needs)
 
 pub +construct+else-part+if-part+loop-part+sequence-spec : {M : Type 1} → statement M
 +construct+else-part+if-part+loop-part+sequence-spec =
