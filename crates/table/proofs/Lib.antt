@@ -7,3 +7,6 @@ pub mod Stepping
 pub mod Constructs
 pub mod Nested
 pub mod Sequence
+pub mod Functions
+pub mod Whole
+pub mod Accepting

@@ -1,3 +1,4 @@
 pub mod First
 pub mod Standing
 pub mod Walked
+pub mod Checking

@@ -1,3 +1,4 @@
 // Checking a source table: its verdict, and the links of an accepted one.
+pub mod check;
 pub mod row;
 pub mod walk;

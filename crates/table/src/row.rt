@@ -5,6 +5,7 @@ ghost use mathlib.Core.Bool.{_&&_};
 ghost use Prim.Native.Nat.{ℕ, _+_, _*_, _≤_, _<_};
 ghost use lib.ListN.{length};
 ghost use Rattle.rules.specs.Row.{kindOf, rowIn, fieldsFit, isUnused, isVariable, usesNone, usesNumber, usesVariable, usesFunction, doUses, testUses};
+ghost use Rattle.rules.specs.Scan.{isFunction};
 ghost use Rattle.rules.specs.Check.{isCall};
 ghost use Rattle.table.specs.First.{fields, firstKind, callsBeyond};
 
@@ -134,6 +135,23 @@ pub fn first_kind(rows: &[u8]) -> Kind
         kind
     } else {
         Kind::Unknown
+    }
+}
+
+pub fn is_function(kind: Kind) -> bool
+    ensures { λ r. ⌜ r ≡ isFunction kind ⌝ }
+{
+    match kind {
+        Kind::Function => true,
+        Kind::Do => false,
+        Kind::If => false,
+        Kind::Else => false,
+        Kind::Loop => false,
+        Kind::End => false,
+        Kind::Break => false,
+        Kind::Continue => false,
+        Kind::Call => false,
+        Kind::Unknown => false,
     }
 }
 
