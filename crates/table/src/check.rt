@@ -1,8 +1,13 @@
 // Checking a whole table: tests 1 and 2, its functions one after the other, the end of the table, and its calls.
-use crate::row::{calls_beyond, first_kind, is_function};
-use crate::walk::{link, sequence, Seq};
+use crate::row::calls_beyond;
+use crate::row::first_kind;
+use crate::row::is_function;
+use crate::walk::Seq;
+use crate::walk::link;
+use crate::walk::sequence;
 use rules::kind::Kind;
-use rules::refusal::{Refusal, Verdict};
+use rules::refusal::Refusal;
+use rules::refusal::Verdict;
 ghost use mathlib.Core.Path.{_≡_};
 ghost use Prim.Native.Nat.{ℕ, _+_, _*_, _≤_, _<_};
 ghost use lib.ListN.{length};
@@ -44,7 +49,14 @@ fn stray(kind: Kind) -> Refusal
 }
 
 // The function that row `base` opens, where `count` were opened before.
-fn body(rows: &[u8], base: usize, count: usize, ends: &mut [u16], elses: &mut [u16], heads: &mut [u16]) -> One
+fn body(
+    rows: &[u8],
+    base: usize,
+    count: usize,
+    ends: &mut [u16],
+    elses: &mut [u16],
+    heads: &mut [u16],
+) -> One
     requires { ⌜ 6 * base + length (now rows) ≤ 6144 ⌝ }
     requires { ⌜ (length (now ends) ≡ 1024) × (length (now elses) ≡ 1024) × (length (now heads) ≡ 32) ⌝ }
     requires { ⌜ (5 < length (now rows)) × (firstKind (now rows) ≡ Kind.Function) ⌝ }
@@ -65,7 +77,14 @@ fn body(rows: &[u8], base: usize, count: usize, ends: &mut [u16], elses: &mut [u
 }
 
 // Row `base`, outside of every function, and the function that it opens.
-fn function(rows: &[u8], base: usize, count: usize, ends: &mut [u16], elses: &mut [u16], heads: &mut [u16]) -> One
+fn function(
+    rows: &[u8],
+    base: usize,
+    count: usize,
+    ends: &mut [u16],
+    elses: &mut [u16],
+    heads: &mut [u16],
+) -> One
     requires { ⌜ 6 * base + length (now rows) ≤ 6144 ⌝ }
     requires { ⌜ (length (now ends) ≡ 1024) × (length (now elses) ≡ 1024) × (length (now heads) ≡ 32) ⌝ }
     requires { ⌜ 5 < length (now rows) ⌝ }
@@ -116,7 +135,12 @@ fn calls(rows: &[u8], count: usize) -> Verdict
 }
 
 // The verdict of the bytes as a source table, and where it is accepted its links.
-pub fn check(rows: &[u8], ends: &mut [u16; 1024], elses: &mut [u16; 1024], heads: &mut [u16; 32]) -> Verdict
+pub fn check(
+    rows: &[u8],
+    ends: &mut [u16; 1024],
+    elses: &mut [u16; 1024],
+    heads: &mut [u16; 32],
+) -> Verdict
     ensures { λ r. ⌜ Checked (now (rows .entry)) r (now (ends .exit)) (now (elses .exit)) (now (heads .exit)) ⌝ }
 {
     if rows.len() == 0 {

@@ -39,7 +39,15 @@ pub fn link(words: &mut [u16], at: usize, row: usize)
 }
 
 // The rows from row `base` on, up to the end or else row of the part that they stand in.
-pub fn sequence(rows: &[u8], base: usize, depth: usize, opened: usize, in_loop: bool, ends: &mut [u16], elses: &mut [u16]) -> Seq
+pub fn sequence(
+    rows: &[u8],
+    base: usize,
+    depth: usize,
+    opened: usize,
+    in_loop: bool,
+    ends: &mut [u16],
+    elses: &mut [u16],
+) -> Seq
     requires { ⌜ 6 * base + length (now rows) ≤ 6144 ⌝ }
     requires { ⌜ (length (now ends) ≡ 1024) × (length (now elses) ≡ 1024) ⌝ }
     ensures { λ r. ⌜ SeqOk (now (rows .entry)) base depth opened «in_loop» (now (ends .entry)) (now (elses .entry)) (now (ends .exit)) (now (elses .exit)) r ⌝ }
@@ -48,7 +56,15 @@ pub fn sequence(rows: &[u8], base: usize, depth: usize, opened: usize, in_loop: 
     let mut regions = opened;
     while 6 * at + 5 < rows.len() {
         let from = 6 * at;
-        match construct(&rows[from..], base + at, depth, regions, in_loop, ends, elses) {
+        match construct(
+            &rows[from..],
+            base + at,
+            depth,
+            regions,
+            in_loop,
+            ends,
+            elses,
+        ) {
             Step::Faulty(r) => return Seq::Broken(r),
             Step::EndHere => return Seq::AtEnd(at, regions),
             Step::ElseHere => return Seq::AtElse(at, regions),
@@ -62,7 +78,15 @@ pub fn sequence(rows: &[u8], base: usize, depth: usize, opened: usize, in_loop: 
 }
 
 // The construct that row `base` begins.
-fn construct(rows: &[u8], base: usize, depth: usize, opened: usize, in_loop: bool, ends: &mut [u16], elses: &mut [u16]) -> Step
+fn construct(
+    rows: &[u8],
+    base: usize,
+    depth: usize,
+    opened: usize,
+    in_loop: bool,
+    ends: &mut [u16],
+    elses: &mut [u16],
+) -> Step
     requires { ⌜ 6 * base + length (now rows) ≤ 6144 ⌝ }
     requires { ⌜ (length (now ends) ≡ 1024) × (length (now elses) ≡ 1024) ⌝ }
     requires { ⌜ 5 < length (now rows) ⌝ }
@@ -93,7 +117,15 @@ fn jump(opened: usize, in_loop: bool) -> Step
 }
 
 // The if in row `base`.
-fn if_part(rows: &[u8], base: usize, depth: usize, opened: usize, in_loop: bool, ends: &mut [u16], elses: &mut [u16]) -> Step
+fn if_part(
+    rows: &[u8],
+    base: usize,
+    depth: usize,
+    opened: usize,
+    in_loop: bool,
+    ends: &mut [u16],
+    elses: &mut [u16],
+) -> Step
     requires { ⌜ 6 * base + length (now rows) ≤ 6144 ⌝ }
     requires { ⌜ (length (now ends) ≡ 1024) × (length (now elses) ≡ 1024) ⌝ }
     requires { ⌜ (5 < length (now rows)) × (firstKind (now rows) ≡ Kind.If) ⌝ }
@@ -106,7 +138,15 @@ fn if_part(rows: &[u8], base: usize, depth: usize, opened: usize, in_loop: bool,
         return Step::Faulty(Refusal::TooManyParts);
     }
     link(elses, base, 0);
-    match sequence(&rows[6..], base + 1, depth + 1, opened + 1, in_loop, ends, elses) {
+    match sequence(
+        &rows[6..],
+        base + 1,
+        depth + 1,
+        opened + 1,
+        in_loop,
+        ends,
+        elses,
+    ) {
         Seq::Broken(r) => Step::Faulty(r),
         Seq::AtEnd(n, o) => {
             link(ends, base, base + 1 + n);
@@ -114,7 +154,16 @@ fn if_part(rows: &[u8], base: usize, depth: usize, opened: usize, in_loop: bool,
         }
         Seq::AtElse(n, o) => {
             let from = 6 * (n + 1);
-            match else_part(&rows[from..], base + 1 + n, base, depth, o, in_loop, ends, elses) {
+            match else_part(
+                &rows[from..],
+                base + 1 + n,
+                base,
+                depth,
+                o,
+                in_loop,
+                ends,
+                elses,
+            ) {
                 Rest::Torn(r) => Step::Faulty(r),
                 Rest::Rows(k, p) => Step::Past(n + 1 + k, p),
             }
@@ -123,7 +172,16 @@ fn if_part(rows: &[u8], base: usize, depth: usize, opened: usize, in_loop: bool,
 }
 
 // The rest of the if in row `base`, from its else row `row` on.
-fn else_part(rows: &[u8], row: usize, base: usize, depth: usize, opened: usize, in_loop: bool, ends: &mut [u16], elses: &mut [u16]) -> Rest
+fn else_part(
+    rows: &[u8],
+    row: usize,
+    base: usize,
+    depth: usize,
+    opened: usize,
+    in_loop: bool,
+    ends: &mut [u16],
+    elses: &mut [u16],
+) -> Rest
     requires { ⌜ (6 * row + length (now rows) ≤ 6144) × (base < row) ⌝ }
     requires { ⌜ (length (now ends) ≡ 1024) × (length (now elses) ≡ 1024) × (depth < 16) ⌝ }
     requires { ⌜ 5 < length (now rows) ⌝ }
@@ -133,7 +191,15 @@ fn else_part(rows: &[u8], row: usize, base: usize, depth: usize, opened: usize, 
         return Rest::Torn(Refusal::TooManyParts);
     }
     link(elses, base, row);
-    match sequence(&rows[6..], row + 1, depth + 1, opened + 1, in_loop, ends, elses) {
+    match sequence(
+        &rows[6..],
+        row + 1,
+        depth + 1,
+        opened + 1,
+        in_loop,
+        ends,
+        elses,
+    ) {
         Seq::Broken(r) => Rest::Torn(r),
         Seq::AtElse(_, _) => Rest::Torn(Refusal::Misplaced),
         Seq::AtEnd(n, o) => {
@@ -144,7 +210,15 @@ fn else_part(rows: &[u8], row: usize, base: usize, depth: usize, opened: usize, 
 }
 
 // The loop in row `base`.
-fn loop_part(rows: &[u8], base: usize, depth: usize, opened: usize, in_loop: bool, ends: &mut [u16], elses: &mut [u16]) -> Step
+fn loop_part(
+    rows: &[u8],
+    base: usize,
+    depth: usize,
+    opened: usize,
+    in_loop: bool,
+    ends: &mut [u16],
+    elses: &mut [u16],
+) -> Step
     requires { ⌜ 6 * base + length (now rows) ≤ 6144 ⌝ }
     requires { ⌜ (length (now ends) ≡ 1024) × (length (now elses) ≡ 1024) ⌝ }
     requires { ⌜ (5 < length (now rows)) × (firstKind (now rows) ≡ Kind.Loop) ⌝ }
@@ -156,7 +230,15 @@ fn loop_part(rows: &[u8], base: usize, depth: usize, opened: usize, in_loop: boo
     if opened >= 64 {
         return Step::Faulty(Refusal::TooManyParts);
     }
-    match sequence(&rows[6..], base + 1, depth + 1, opened + 1, true, ends, elses) {
+    match sequence(
+        &rows[6..],
+        base + 1,
+        depth + 1,
+        opened + 1,
+        true,
+        ends,
+        elses,
+    ) {
         Seq::Broken(r) => Step::Faulty(r),
         Seq::AtElse(_, _) => Step::Faulty(Refusal::Misplaced),
         Seq::AtEnd(n, o) => {
