@@ -16,7 +16,7 @@ use Rattle.rules.specs.Scan.{Open, regions}
 use Rattle.rules.specs.Check.{isThen}
 use Rattle.table.specs.First.{firstKind}
 use Rattle.table.specs.Standing.{hasLoop, Inside}
-use Rattle.table.specs.Walked.{TurnedAway, Before, thenOf, seqRows, stepRows, restRows, SeqOk, StepOk, RestOk}
+use Rattle.table.specs.Walked.{TurnedAway, Before, thenOf, seqRows, stepRows, restRows, SeqOk, StepOk, ThenOk, ElseOk}
 use Rattle.table.specs.declared.walk.Seq.{Seq}
 use Rattle.table.specs.declared.walk.Seq.the-variants.{Broken, AtEnd, AtElse}
 use Rattle.table.specs.declared.walk.Step.{Step}
@@ -32,26 +32,39 @@ pub seq-at : (xs : List ℕ) {base d o : ℕ} {b : Bool} {e l e' l' : List ℕ} 
     → SeqOk (take (length xs - a) (drop a xs)) base d o b e l e' l' r → r ≡ r' → SeqOk (drop a xs) base d o b e l e' l' r'
 seq-at xs a h q = rw (rest-all a xs, q) at h
 
-rest-at : (xs : List ℕ) {row base d o : ℕ} {b : Bool} {e l e' l' : List ℕ} {r r' : Rest} (a : ℕ)
-    → RestOk (take (length xs - a) (drop a xs)) row base d o b e l e' l' r → r ≡ r' → RestOk (drop a xs) row base d o b e l e' l' r'
-rest-at xs a h q = rw (rest-all a xs, q) at h
+then-at : (xs : List ℕ) {row base d o : ℕ} {b : Bool} {e l e' l' : List ℕ} {r r' : Rest} (a : ℕ)
+    → ThenOk (take (length xs - a) (drop a xs)) row base d o b e l e' l' r → r ≡ r' → ThenOk (drop a xs) row base d o b e l e' l' r'
+then-at xs a h q = rw (rest-all a xs, q) at h
+
+else-at : (xs : List ℕ) {row base d o : ℕ} {b : Bool} {e l e' l' : List ℕ} {r r' : Rest} (a : ℕ)
+    → ElseOk (take (length xs - a) (drop a xs)) row base d o b e l e' l' r → r ≡ r' → ElseOk (drop a xs) row base d o b e l e' l' r'
+else-at xs a h q = rw (rest-all a xs, q) at h
 
 pub drops : (xs : List ℕ) (a c n : ℕ) → a + c ≡ n → drop c (drop a xs) ≡ drop n xs
 drops xs a c n p = drop-drop c a xs ∙ ap (λ k. drop k xs) p
 
--- the end row of a part that was entered after one row of xs: past it
+-- past the end row of a part, which stands k rows on
 closes : {bs : List ℕ} (xs : List ℕ) (i k : ℕ) {f h : Open} {hs : List Open} {d d' o : ℕ} {b c : Bool} {n : ℕ} {e l : List ℕ}
-    → rowWidth * (k + 1) ≤ length (drop rowWidth xs) → Before End bs (drop (rowWidth * k) (drop rowWidth xs)) (i + 1 + k) f (h ∷ hs) d' o b n e l
+    → rowWidth * (k + 1) ≤ length xs → Before End bs (drop (rowWidth * k) xs) (i + k) f (h ∷ hs) d' o b n e l
     → length hs ≡ d → hasLoop (h ∷ hs) ≡ c
-    → Inside bs (drop (rowWidth * (k + 2)) xs) (i + (k + 2)) h hs d o c n (set e (f .opener) (i + 1 + k)) l
+    → Inside bs (drop (rowWidth * (k + 1)) xs) (i + (k + 1)) h hs d o c n (set e (f .opener) (i + k)) l
 closes xs i k fit w p z =
-    let q : rowWidth + rowWidth * k + rowWidth ≡ rowWidth * (k + 2) = omega arith in
+    let q : rowWidth * k + rowWidth ≡ rowWidth * (k + 1) = omega arith in
     inside-at
-    (inside-close (w .here) (omega (arith, fit, length-drop (rowWidth * k) (drop rowWidth xs))) (w .kind-is) p z)
-    (ap (drop rowWidth) (drop-drop (rowWidth * k) rowWidth xs) ∙ drops xs (rowWidth + rowWidth * k) rowWidth (rowWidth * (k + 2)) q)
+    (inside-close (w .here) (omega (arith, fit, length-drop (rowWidth * k) xs)) (w .kind-is) p z)
+    (drops xs (rowWidth * k) rowWidth (rowWidth * (k + 1)) q)
     (omega arith)
     refl
     refl
+
+-- the same of a part that was entered one row before
+closes-on : {bs : List ℕ} (xs : List ℕ) (i k : ℕ) {f h : Open} {hs : List Open} {d d' o : ℕ} {b c : Bool} {n : ℕ} {e l : List ℕ}
+    → rowWidth * (k + 1) ≤ length (drop rowWidth xs) → Before End bs (drop (rowWidth * k) (drop rowWidth xs)) (i + 1 + k) f (h ∷ hs) d' o b n e l
+    → length hs ≡ d → hasLoop (h ∷ hs) ≡ c
+    → Inside bs (drop (rowWidth * (k + 2)) xs) (i + (k + 2)) h hs d o c n (set e (f .opener) (i + 1 + k)) l
+closes-on xs i k fit w p z =
+    let q : rowWidth + rowWidth * (k + 1) ≡ rowWidth * (k + 2) = omega arith in
+    inside-at (closes (drop rowWidth xs) (i + 1) k fit w p z) (drops xs rowWidth (rowWidth * (k + 1)) (rowWidth * (k + 2)) q) (omega arith) refl refl
 
 -- ---- an if
 module _ {xs : List ℕ} {base d o : ℕ} {b : Bool} {e l : List ℕ} (long : 5 < length xs) (q : firstKind xs ≡ If) where
@@ -61,55 +74,63 @@ module _ {xs : List ℕ} {base d o : ℕ} {b : Bool} {e l : List ℕ} (long : 5 
   pub if-too-many : 64 ≤ o → StepOk xs base d o b e l e l (Faulty TooManyParts)
   if-too-many a = faulty long (λ bs h hs n w. if-many w long q a)
 
-  module _ {l' e' l'' : List ℕ} {r : Seq} (a : d < 16) (c : o < 64) (y : l' ≡ set l base 0)
-      (ok : SeqOk (take (length xs - 6) (drop 6 xs)) (base + 1) (d + 1) (o + 1) b e l' e' l'' r) where
-    -- the then part
+  module _ {l' e' l'' : List ℕ} {r : Rest} (a : d < 16) (c : o < 64) (y : l' ≡ set l base 0)
+      (ok : ThenOk (take (length xs - 6) (drop 6 xs)) (base + 1) base d (o + 1) b e l' e' l'' r) where
     enters : {bs : List ℕ} {h : Open} {hs : List Open} {n : ℕ} → Inside bs xs base h hs d o b n e l
         → Inside bs (drop 6 xs) (base + 1) (thenOf base (regions (tableOf bs) base)) (h ∷ hs) (d + 1) (o + 1) b n e l'
     enters w = rw y (inside-at (inside-if w long q a c) refl (sym (add-one base)) (sym (add-one d)) (sym (add-one o)))
 
-    pub if-broken : {f : Refusal} → r ≡ Broken f → StepOk xs base d o b e l e' l'' (Faulty f)
-    if-broken m = let s = seq-at xs 6 ok m in faulty long (λ bs h hs n w. s .leads bs _ (h ∷ hs) n (enters w))
+    pub if-torn : {f : Refusal} → r ≡ Torn f → StepOk xs base d o b e l e' l'' (Faulty f)
+    if-torn m = let s = then-at xs 6 ok m in faulty long (λ bs h hs n w. s .leads bs _ h hs n (enters w))
 
-    pub if-ended : {k o' : ℕ} {e'' : List ℕ} → r ≡ AtEnd k o' → e'' ≡ set e' base (base + 1 + k) → StepOk xs base d o b e l e'' l'' (Past (k + 2) o')
-    unfolding seqRows stepRows
-    if-ended {k} m z = let s = seq-at xs 6 ok m in rw z (record {
+    pub if-rows : {k o' : ℕ} → r ≡ Rows k o' → StepOk xs base d o b e l e' l'' (Past (k + 1) o')
+    unfolding restRows stepRows
+    if-rows {k} m = let s = then-at xs 6 ok m in record {
       some = omega arith;
       fit = omega (arith, s .fit, length-drop 6 xs);
-      leads = λ bs h hs n w. closes xs base k (s .fit) (s .leads bs _ (h ∷ hs) n (enters w)) (w .depth) (w .loops);
-    })
+      leads = λ bs h hs n w. inside-at (s .leads bs _ h hs n (enters w)) (drops xs 6 (6 * k) (6 * (k + 1)) (omega arith)) (omega arith) refl refl;
+    }
 
-    module _ {k o' : ℕ} {e'' l''' : List ℕ} {r' : Rest} (m : r ≡ AtElse k o')
-        (ok' : RestOk (take (length xs - 6 * (k + 1)) (drop (6 * (k + 1)) xs)) (base + 1 + k) base d o' b e' l'' e'' l''' r') where
-      -- the else row
-      reaches : {bs : List ℕ} {h : Open} {hs : List Open} {n : ℕ} → Inside bs xs base h hs d o b n e l
-          → Before Else bs (drop (6 * (k + 1)) xs) (base + 1 + k) (thenOf base (regions (tableOf bs) base)) (h ∷ hs) (d + 1) o' b n e' l''
-      reaches {bs} {h} {hs} {n} w =
-          let s = (seq-at xs 6 ok m) .leads bs _ (h ∷ hs) n (enters w) in
-          let z : 6 + 6 * k ≡ 6 * (k + 1) = omega arith in
-          rw (← drops xs 6 (6 * k) (6 * (k + 1)) z) s
-
-      pub rest-torn : {f : Refusal} → r' ≡ Torn f → StepOk xs base d o b e l e'' l''' (Faulty f)
-      rest-torn m' = let s = rest-at xs (6 * (k + 1)) ok' m' in faulty long (λ bs h hs n w. s .leads bs _ h hs n (reaches w))
-
-      pub rest-rows : {j o'' : ℕ} → r' ≡ Rows j o'' → StepOk xs base d o b e l e'' l''' (Past (k + 1 + j) o'')
-      unfolding seqRows restRows stepRows
-      rest-rows {j} m' = let s = rest-at xs (6 * (k + 1)) ok' m' in record {
-        some = omega arith;
-        fit = omega (arith, s .fit, length-drop (6 * (k + 1)) xs, (seq-at xs 6 ok m) .fit, length-drop 6 xs);
-        leads = λ bs h hs n w. inside-at (s .leads bs _ h hs n (reaches w)) (drops xs (6 * (k + 1)) (6 * j) (6 * (k + 1 + j)) (omega arith)) (omega arith) refl refl;
-      }
-
--- ---- the rest of an if
-torn : {xs : List ℕ} {row base d o : ℕ} {b : Bool} {e l e' l' : List ℕ} {c : Refusal} → 5 < length xs
-    → ((bs : List ℕ) (g : ℕ) (h : Open) (hs : List Open) (n : ℕ) → Before Else bs xs row (thenOf base g) (h ∷ hs) (d + 1) o b n e l → TurnedAway bs c)
-    → RestOk xs row base d o b e l e' l' (Torn c)
+-- ---- its then part
+torn-then : {xs : List ℕ} {row base d o : ℕ} {b : Bool} {e l e' l' : List ℕ} {c : Refusal}
+    → ((bs : List ℕ) (g : ℕ) (h : Open) (hs : List Open) (n : ℕ) → Inside bs xs row (thenOf base g) (h ∷ hs) (d + 1) o b n e l → TurnedAway bs c)
+    → ThenOk xs row base d o b e l e' l' (Torn c)
 unfolding restRows
-torn long f = record { fit = omega arith; leads = f }
+torn-then f = record { fit = omega arith; leads = f }
+
+module _ {xs : List ℕ} {row base : ℕ} (d : ℕ) {o : ℕ} {b : Bool} {e l e' l' : List ℕ} {r : Seq} (ok : SeqOk xs row (d + 1) o b e l e' l' r) where
+  pub then-broken : {f : Refusal} → r ≡ Broken f → ThenOk xs row base d o b e l e' l' (Torn f)
+  then-broken m = let s = rw m at ok in torn-then (λ bs g h hs n w. s .leads bs _ (h ∷ hs) n w)
+
+  pub then-ended : {k o' : ℕ} {e'' : List ℕ} → r ≡ AtEnd k o' → e'' ≡ set e' base (row + k) → ThenOk xs row base d o b e l e'' l' (Rows (k + 1) o')
+  unfolding seqRows restRows
+  then-ended {k} m z = let s = rw m at ok in rw z (record {
+    fit = s .fit;
+    leads = λ bs g h hs n w. closes xs row k (s .fit) (s .leads bs _ (h ∷ hs) n w) (omega (arith, w .depth)) (w .loops);
+  })
+
+  module _ {k o' : ℕ} {e'' l'' : List ℕ} {r' : Rest} (m : r ≡ AtElse k o')
+      (ok' : ElseOk (take (length xs - 6 * k) (drop (6 * k) xs)) (row + k) base d o' b e' l' e'' l'' r') where
+    pub then-torn : {f : Refusal} → r' ≡ Torn f → ThenOk xs row base d o b e l e'' l'' (Torn f)
+    then-torn m' = let s = rw m at ok in let v = else-at xs (6 * k) ok' m' in torn-then (λ bs g h hs n w. v .leads bs g h hs n (s .leads bs _ (h ∷ hs) n w))
+
+    pub then-rows : {j o'' : ℕ} → r' ≡ Rows j o'' → ThenOk xs row base d o b e l e'' l'' (Rows (k + j) o'')
+    unfolding seqRows restRows
+    then-rows {j} m' = let s = rw m at ok in let v = else-at xs (6 * k) ok' m' in record {
+      fit = omega (arith, v .fit, s .fit, length-drop (6 * k) xs);
+      leads = λ bs g h hs n w. inside-at (v .leads bs g h hs n (s .leads bs _ (h ∷ hs) n w)) (drops xs (6 * k) (6 * j) (6 * (k + j)) (omega arith)) (omega arith) refl refl;
+    }
+
+-- ---- from its else row on
+torn : {xs : List ℕ} {row base d o : ℕ} {b : Bool} {e l e' l' : List ℕ} {c : Refusal}
+    → ((bs : List ℕ) (g : ℕ) (h : Open) (hs : List Open) (n : ℕ) → Before Else bs xs row (thenOf base g) (h ∷ hs) (d + 1) o b n e l → TurnedAway bs c)
+    → ElseOk xs row base d o b e l e' l' (Torn c)
+unfolding restRows
+torn f = record { fit = omega arith; leads = f }
 
 module _ {xs : List ℕ} {row base : ℕ} (d : ℕ) {o : ℕ} {b : Bool} {e l : List ℕ} (long : 5 < length xs) where
-  pub else-too-many : 64 ≤ o → RestOk xs row base d o b e l e l (Torn TooManyParts)
-  else-too-many a = torn long (λ bs g h hs n w. else-many (w .here) long (w .kind-is) a)
+  pub else-too-many : 64 ≤ o → ElseOk xs row base d o b e l e l (Torn TooManyParts)
+  else-too-many a = torn (λ bs g h hs n w. else-many (w .here) long (w .kind-is) a)
 
   module _ {l' e' l'' : List ℕ} {r : Seq} (c : o < 64) (y : l' ≡ set l base row)
       (ok : SeqOk (take (length xs - 6) (drop 6 xs)) (row + 1) (d + 1) (o + 1) b e l' e' l'' r) where
@@ -117,20 +138,20 @@ module _ {xs : List ℕ} {row base : ℕ} (d : ℕ) {o : ℕ} {b : Bool} {e l : 
         → Inside bs (drop 6 xs) (row + 1) (elseOf base (regions (tableOf bs) row)) (h ∷ hs) (d + 1) (o + 1) b n e l'
     turns w = rw y (inside-at (inside-else (w .here) long (w .kind-is) c) refl (sym (add-one row)) refl (sym (add-one o)))
 
-    pub else-broken : {f : Refusal} → r ≡ Broken f → RestOk xs row base d o b e l e' l'' (Torn f)
-    else-broken m = let s = seq-at xs 6 ok m in torn long (λ bs g h hs n w. s .leads bs _ (h ∷ hs) n (turns w))
+    pub else-broken : {f : Refusal} → r ≡ Broken f → ElseOk xs row base d o b e l e' l'' (Torn f)
+    else-broken m = let s = seq-at xs 6 ok m in torn (λ bs g h hs n w. s .leads bs _ (h ∷ hs) n (turns w))
 
-    pub else-twice : {k o' : ℕ} → r ≡ AtElse k o' → RestOk xs row base d o b e l e' l'' (Torn Misplaced)
+    pub else-twice : {k o' : ℕ} → r ≡ AtElse k o' → ElseOk xs row base d o b e l e' l'' (Torn Misplaced)
     unfolding seqRows
     else-twice {k} m = let s = seq-at xs 6 ok m in
-        torn long (λ bs g h hs n w. let v = s .leads bs _ (h ∷ hs) n (turns w) in
+        torn (λ bs g h hs n w. let v = s .leads bs _ (h ∷ hs) n (turns w) in
         else-misplaced (v .here) (omega (arith, s .fit, length-drop (6 * k) (drop 6 xs))) (v .kind-is) refl)
 
-    pub else-ended : {k o' : ℕ} {e'' : List ℕ} → r ≡ AtEnd k o' → e'' ≡ set e' base (row + 1 + k) → RestOk xs row base d o b e l e'' l'' (Rows (k + 2) o')
+    pub else-ended : {k o' : ℕ} {e'' : List ℕ} → r ≡ AtEnd k o' → e'' ≡ set e' base (row + 1 + k) → ElseOk xs row base d o b e l e'' l'' (Rows (k + 2) o')
     unfolding seqRows restRows
     else-ended {k} m z = let s = seq-at xs 6 ok m in rw z (record {
       fit = omega (arith, s .fit, length-drop 6 xs);
-      leads = λ bs g h hs n w. closes xs row k (s .fit) (s .leads bs _ (h ∷ hs) n (turns w)) (omega (arith, w .here .depth)) (w .here .loops);
+      leads = λ bs g h hs n w. closes-on xs row k (s .fit) (s .leads bs _ (h ∷ hs) n (turns w)) (omega (arith, w .here .depth)) (w .here .loops);
     })
 
 -- ---- a loop
@@ -161,10 +182,12 @@ module _ {xs : List ℕ} {base d o : ℕ} {b : Bool} {e l : List ℕ} (long : 5 
     loop-ended {k} m z = let s = seq-at xs 6 ok m in rw z (record {
       some = omega arith;
       fit = omega (arith, s .fit, length-drop 6 xs);
-      leads = λ bs h hs n w. closes xs base k (s .fit) (s .leads bs _ (h ∷ hs) n (loops w)) (w .depth) (w .loops);
+      leads = λ bs h hs n w. closes-on xs base k (s .fit) (s .leads bs _ (h ∷ hs) n (loops w)) (w .depth) (w .loops);
     })
 
-pub ruleset ifs = (if-too-deep, if-too-many, if-broken, if-ended, rest-torn, rest-rows)
+pub ruleset ifs = (if-too-deep, if-too-many, if-torn, if-rows)
+
+pub ruleset thens = (then-broken, then-ended, then-torn, then-rows)
 
 pub ruleset elses = (else-too-many, else-broken, else-twice, else-ended)
 

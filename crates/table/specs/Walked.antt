@@ -35,7 +35,7 @@ stepRows EndHere = 1
 stepRows ElseHere = 1
 
 unfoldable pub restRows : Rest → ℕ
-restRows (Torn c) = 1
+restRows (Torn c) = 0
 restRows (Rows k o) = k
 
 -- what a break or a continue answers
@@ -76,11 +76,17 @@ pub record StepOk (xs : List ℕ) (base d o : ℕ) (b : Bool) (e l e' l' : List 
   pub fit : rowWidth * stepRows r ≤ length xs
   pub leads : (bs : List ℕ) (h : Open) (hs : List Open) (n : ℕ) → Inside bs xs base h hs d o b n e l → AfterStep bs xs base h hs d b n e' l' o r
 
--- from the else row `row` of the if in row `base`, whose then part is the innermost, to past its end
+-- the rest of the if in row `base`, whose then part is the innermost: from row `row` of that part to past the if's end
 abbrev pub thenOf : (base g : ℕ) → Open
 thenOf base g = record { part = thenPart; opener = base; region = g }
 
-pub record RestOk (xs : List ℕ) (row base d o : ℕ) (b : Bool) (e l e' l' : List ℕ) (r : Rest) : Type 0 where
+pub record ThenOk (xs : List ℕ) (row base d o : ℕ) (b : Bool) (e l e' l' : List ℕ) (r : Rest) : Type 0 where
+  pub fit : rowWidth * restRows r ≤ length xs
+  pub leads : (bs : List ℕ) (g : ℕ) (h : Open) (hs : List Open) (n : ℕ) → Inside bs xs row (thenOf base g) (h ∷ hs) (d + 1) o b n e l
+      → AfterRest bs xs row h hs d b n e' l' r
+
+-- the same from its else row on
+pub record ElseOk (xs : List ℕ) (row base d o : ℕ) (b : Bool) (e l e' l' : List ℕ) (r : Rest) : Type 0 where
   pub fit : rowWidth * restRows r ≤ length xs
   pub leads : (bs : List ℕ) (g : ℕ) (h : Open) (hs : List Open) (n : ℕ) → Before Else bs xs row (thenOf base g) (h ∷ hs) (d + 1) o b n e l
       → AfterRest bs xs row h hs d b n e' l' r

@@ -6,7 +6,7 @@ ghost use mathlib.Core.Path.{_≡_};
 ghost use Prim.Native.Nat.{ℕ, _+_, _*_, _≤_, _<_};
 ghost use lib.ListN.{length, set};
 ghost use Rattle.table.specs.First.{firstKind};
-ghost use Rattle.table.specs.Walked.{SeqOk, StepOk, RestOk, jumpStep};
+ghost use Rattle.table.specs.Walked.{SeqOk, StepOk, ThenOk, ElseOk, jumpStep};
 
 // How a sequence of constructs ended: refused, or at an end or else row. With it go the rows before that row and the regions opened
 // in the function so far.
@@ -24,7 +24,7 @@ pub enum Step {
     ElseHere,
 }
 
-// The rest of an if from its else row on: refused, or so many rows long with so many regions opened.
+// The rest of an if: refused, or so many rows long with so many regions opened.
 pub enum Rest {
     Torn(Refusal),
     Rows(usize, usize),
@@ -138,34 +138,47 @@ fn if_part(
         return Step::Faulty(Refusal::TooManyParts);
     }
     link(elses, base, 0);
-    match sequence(
+    match then_part(
         &rows[6..],
         base + 1,
-        depth + 1,
+        base,
+        depth,
         opened + 1,
         in_loop,
         ends,
         elses,
     ) {
-        Seq::Broken(r) => Step::Faulty(r),
+        Rest::Torn(r) => Step::Faulty(r),
+        Rest::Rows(n, o) => Step::Past(n + 1, o),
+    }
+}
+
+// The rest of the if in row `base`, from row `row` of its then part on.
+fn then_part(
+    rows: &[u8],
+    row: usize,
+    base: usize,
+    depth: usize,
+    opened: usize,
+    in_loop: bool,
+    ends: &mut [u16],
+    elses: &mut [u16],
+) -> Rest
+    requires { ⌜ (6 * row + length (now rows) ≤ 6144) × (base < row) ⌝ }
+    requires { ⌜ (length (now ends) ≡ 1024) × (length (now elses) ≡ 1024) × (depth < 16) ⌝ }
+    ensures { λ r. ⌜ ThenOk (now (rows .entry)) row base depth opened «in_loop» (now (ends .entry)) (now (elses .entry)) (now (ends .exit)) (now (elses .exit)) r ⌝ }
+{
+    match sequence(rows, row, depth + 1, opened, in_loop, ends, elses) {
+        Seq::Broken(r) => Rest::Torn(r),
         Seq::AtEnd(n, o) => {
-            link(ends, base, base + 1 + n);
-            Step::Past(n + 2, o)
+            link(ends, base, row + n);
+            Rest::Rows(n + 1, o)
         }
         Seq::AtElse(n, o) => {
-            let from = 6 * (n + 1);
-            match else_part(
-                &rows[from..],
-                base + 1 + n,
-                base,
-                depth,
-                o,
-                in_loop,
-                ends,
-                elses,
-            ) {
-                Rest::Torn(r) => Step::Faulty(r),
-                Rest::Rows(k, p) => Step::Past(n + 1 + k, p),
+            let from = 6 * n;
+            match else_part(&rows[from..], row + n, base, depth, o, in_loop, ends, elses) {
+                Rest::Torn(r) => Rest::Torn(r),
+                Rest::Rows(k, p) => Rest::Rows(n + k, p),
             }
         }
     }
@@ -185,7 +198,7 @@ fn else_part(
     requires { ⌜ (6 * row + length (now rows) ≤ 6144) × (base < row) ⌝ }
     requires { ⌜ (length (now ends) ≡ 1024) × (length (now elses) ≡ 1024) × (depth < 16) ⌝ }
     requires { ⌜ 5 < length (now rows) ⌝ }
-    ensures { λ r. ⌜ RestOk (now (rows .entry)) row base depth opened «in_loop» (now (ends .entry)) (now (elses .entry)) (now (ends .exit)) (now (elses .exit)) r ⌝ }
+    ensures { λ r. ⌜ ElseOk (now (rows .entry)) row base depth opened «in_loop» (now (ends .entry)) (now (elses .entry)) (now (ends .exit)) (now (elses .exit)) r ⌝ }
 {
     if opened >= 64 {
         return Rest::Torn(Refusal::TooManyParts);

@@ -1,34 +1,41 @@
--- The walkers meet their contracts: `sequence`, `construct` and the three nested forms prove one another, with the bytes left and a
--- rank as the measure. The laws of Constructs, Nested and Sequence answer the returns. Assumes nothing.
+-- The walkers meet their contracts: `sequence`, `construct` and the nested forms prove one another; the measure is the bytes left, six a
+-- row, and a rank. The laws of Constructs, Nested and Sequence answer the returns. Assumes nothing.
 use borrow.Author.Needs.{needs}
 use native.Mathlib.Omega.{arith}
 use lib.ListN.{length}
 use Rattle.table.proofs.Constructs.{constructs, kind-at}
-use Rattle.table.proofs.Nested.{ifs, rest-torn, rest-rows, elses, loops-in}
+use Rattle.table.proofs.Nested.{ifs, thens, elses, loops-in}
 use Rattle.table.proofs.Sequence.{SeqTo, to-end, to-else, to-past, sequences, rows-of}
 use Prim.Native.Nat.{ℕ, _<_, _+_, _*_, _-_}
 use borrow.Fn.Kinds.{In}
 use borrow.Fn.PlainCycle.{Measures, is, falls, and}
 use Rattle.table.proofs.walk.construct.Reads as construct
 use Rattle.table.proofs.walk.construct.Kinds as construct-kinds
-use Rattle.table.proofs.walk.+construct+else_part+if_part+loop_part+sequence.Lts-construct as construct-lts
+use Rattle.table.proofs.walk.+construct+else_part+if_part+loop_part+sequence+then_part.Lts-construct as construct-lts
 use Rattle.table.proofs.walk.else_part.Reads as else-part
 use Rattle.table.proofs.walk.else_part.Kinds as else-part-kinds
-use Rattle.table.proofs.walk.+construct+else_part+if_part+loop_part+sequence.Lts-else_part as else-part-lts
+use Rattle.table.proofs.walk.+construct+else_part+if_part+loop_part+sequence+then_part.Lts-else_part as else-part-lts
 use Rattle.table.proofs.walk.if_part.Reads as if-part
 use Rattle.table.proofs.walk.if_part.Kinds as if-part-kinds
-use Rattle.table.proofs.walk.+construct+else_part+if_part+loop_part+sequence.Lts-if_part as if-part-lts
+use Rattle.table.proofs.walk.+construct+else_part+if_part+loop_part+sequence+then_part.Lts-if_part as if-part-lts
 use Rattle.table.proofs.walk.loop_part.Reads as loop-part
 use Rattle.table.proofs.walk.loop_part.Kinds as loop-part-kinds
-use Rattle.table.proofs.walk.+construct+else_part+if_part+loop_part+sequence.Lts-loop_part as loop-part-lts
+use Rattle.table.proofs.walk.+construct+else_part+if_part+loop_part+sequence+then_part.Lts-loop_part as loop-part-lts
 use Rattle.table.proofs.walk.sequence.Reads as sequence
 use Rattle.table.proofs.walk.sequence.Kinds as sequence-kinds
-use Rattle.table.proofs.walk.+construct+else_part+if_part+loop_part+sequence.Lts-sequence as sequence-lts
+use Rattle.table.proofs.walk.+construct+else_part+if_part+loop_part+sequence+then_part.Lts-sequence as sequence-lts
+use Rattle.table.proofs.walk.then_part.Reads as then-part
+use Rattle.table.proofs.walk.then_part.Kinds as then-part-kinds
+use Rattle.table.proofs.walk.+construct+else_part+if_part+loop_part+sequence+then_part.Lts-then_part as then-part-lts
 use Rattle.table.proofs.row.first_kind.Reads as first-kind-reads
 use Rattle.table.proofs.walk.jump.Reads as jump-reads
 use Rattle.table.proofs.walk.link.Reads as link-reads
-use Rattle.table.proofs.walk.+construct+else_part+if_part+loop_part+sequence.{statement}
-use Rattle.table.proofs.walk.+construct+else_part+if_part+loop_part+sequence.Tie.{close}
+use Rattle.table.proofs.walk.+construct+else_part+if_part+loop_part+sequence+then_part.{
+  statement,
+}
+use Rattle.table.proofs.walk.+construct+else_part+if_part+loop_part+sequence+then_part.Tie.{
+  close,
+}
 
 abbrev μ-construct : Measures 3 construct-kinds.ps ℕ
 μ-construct κs a = length (a .0 .now) + 1
@@ -44,6 +51,9 @@ abbrev μ-loop-part : Measures 3 loop-part-kinds.ps ℕ
 
 abbrev μ-sequence : Measures 3 sequence-kinds.ps ℕ
 μ-sequence κs a = length (a .0 .now) + 2
+
+abbrev μ-then-part : Measures 3 then-part-kinds.ps ℕ
+μ-then-part κs a = length (a .0 .now) + 3
 
 abbrev construct-at : ℕ → In 3 construct-kinds.ps
 construct-at t = and 3 construct-kinds.ps (is 3 construct-kinds.ps μ-construct t) construct.Pre
@@ -79,6 +89,13 @@ abbrev sequence-below : ℕ → In 3 sequence-kinds.ps
 sequence-below t =
     and 3 sequence-kinds.ps (falls 3 sequence-kinds.ps _<_ μ-sequence t) sequence.Pre
 
+abbrev then-part-at : ℕ → In 3 then-part-kinds.ps
+then-part-at t = and 3 then-part-kinds.ps (is 3 then-part-kinds.ps μ-then-part t) then-part.Pre
+
+abbrev then-part-below : ℕ → In 3 then-part-kinds.ps
+then-part-below t =
+    and 3 then-part-kinds.ps (falls 3 then-part-kinds.ps _<_ μ-then-part t) then-part.Pre
+
 abbrev sequence-Inv-loop : sequence-lts.InvT-loop
 sequence-Inv-loop rows base depth opened in-loop ends₀ elses₀ at₀ regions₀ ends elses at regions =
     SeqTo rows base depth opened in-loop ends₀ elses₀ ends elses at regions
@@ -86,9 +103,16 @@ sequence-Inv-loop rows base depth opened in-loop ends₀ elses₀ at₀ regions�
 abbrev sequence-μ-loop : sequence-lts.MeasureT-loop
 sequence-μ-loop rows base depth opened in-loop ends₀ elses₀ at₀ regions₀ ends elses at regions = length rows - 6 * at
 
-pub +construct+else-part+if-part+loop-part+sequence-spec : {M : Type 1} → statement M
-+construct+else-part+if-part+loop-part+sequence-spec =
-    close μ-construct μ-else-part μ-if-part μ-loop-part μ-sequence (λ t. construct-lts.spec (
+pub +construct+else-part+if-part+loop-part+sequence+then-part-spec : {M : Type 1} → statement M
++construct+else-part+if-part+loop-part+sequence+then-part-spec =
+    close
+    μ-construct
+    μ-else-part
+    μ-if-part
+    μ-loop-part
+    μ-sequence
+    μ-then-part
+    (λ t. construct-lts.spec (
       first-kind-reads.Asked,
       first-kind-reads.Learnt,
       if-part-below t,
@@ -165,10 +189,8 @@ pub +construct+else-part+if-part+loop-part+sequence-spec : {M : Type 1} → stat
     (λ t. if-part-lts.spec (
       link-reads.Asked,
       link-reads.Learnt,
-      sequence-below t,
-      sequence.Post,
-      else-part-below t,
-      else-part.Post,
+      then-part-below t,
+      then-part.Post,
     )
     (if-part-at t)
     if-part.Post
@@ -180,39 +202,16 @@ pub +construct+else-part+if-part+loop-part+sequence-spec : {M : Type 1} → stat
     (λ c. omega (arith, rows-of))
     (λ c. omega (arith, rows-of))
     (λ c. omega (arith, rows-of))
-    (λ c. omega (arith, rows-of))
     (λ c κs. search needs)
     (λ c. search needs)
     (λ c. search needs)
     (λ c. omega (arith, rows-of))
-    (λ c. omega (arith, rows-of))
-    (λ c κs. omega (arith, rows-of))
-    (λ c. omega (arith, rows-of))
-    (λ c. search needs)
-    (λ c. omega (arith, rows-of))
-    (λ c. omega (arith, rows-of))
-    (λ c. omega (arith, rows-of))
-    (λ c. omega (arith, rows-of))
-    (λ c. omega (arith, rows-of))
-    (λ c. omega (arith, rows-of))
-    (λ c. omega (arith, rows-of))
-    (λ c κs. omega (arith, rows-of))
-    (λ c. search needs)
-    (λ c. search needs)
-    (λ c. omega (arith, rows-of, c .before .before .before .before .before .before .before .else-part .ensures, c .before .before .before .before .before .before .before .before .before .before .before .before .n2 .given, c .before .before .before .before .before .before .before .before .before .before .before .before .before .before .before .before .before .before .sequence .ensures .fit, c .before .before .before .before .before .before .before .before .before .before .before .before .before .before .before .before .before .before .before .before .before .before .before .before .before .before .before .before .before .before .before .pre .1))
-    (λ c. omega (arith, rows-of, c .before .before .before .before .before .before .before .else-part .ensures, c .before .before .before .before .before .before .before .before .before .before .before .before .n2 .given, c .before .before .before .before .before .before .before .before .before .before .before .before .before .before .before .before .before .before .sequence .ensures .fit, c .before .before .before .before .before .before .before .before .before .before .before .before .before .before .before .before .before .before .before .before .before .before .before .before .before .before .before .before .before .before .before .pre .1))
     (λ c. search needs)
     (λ c. search needs)
     (λ c. search (ifs, needs))
     (λ c. search needs)
     (λ c. search needs)
-    (λ c. search (ifs, needs))
-    (λ c. search needs)
-    (λ c. search needs)
-    (λ c. let p = c .before .before .before .before .before .before .before in let q = p .before .before .before .before .before in let s = q .before .before .before .before .before .before in let k = s .before .before .before .before .before .before in let i = k .before .before in let z = i .before .before .before .before .before in search (rest-torn, z .pre .1 .1 .1 .0, z .pre .1 .1 .1 .1, i .before .if1 .left, i .if2 .left, k .link .ensures, s .sequence .ensures, q .n2 .given, p .else-part .ensures, c .before .r2 .given))
-    (λ c. search needs)
-    (λ c. search needs)
-    (λ c. let p = c .before .before .before .before .before .before .before in let q = p .before .before .before .before .before in let s = q .before .before .before .before .before .before in let k = s .before .before .before .before .before .before in let i = k .before .before in let z = i .before .before .before .before .before in search (rest-rows, z .pre .1 .1 .1 .0, z .pre .1 .1 .1 .1, i .before .if1 .left, i .if2 .left, k .link .ensures, s .sequence .ensures, q .n2 .given, p .else-part .ensures, c .before .k .given)))
+    (λ c. search (ifs, needs)))
     (λ t. loop-part-lts.spec (
       sequence-below t,
       sequence.Post,
@@ -246,7 +245,7 @@ pub +construct+else-part+if-part+loop-part+sequence-spec : {M : Type 1} → stat
     (λ c. search needs)
     (λ c. search needs)
     (λ c. search (loops-in, needs)))
-    λ t. sequence-lts.spec
+    (λ t. sequence-lts.spec
     (construct-below t, construct.Post)
     (sequence-at t)
     sequence.Post
@@ -279,4 +278,43 @@ pub +construct+else-part+if-part+loop-part+sequence-spec : {M : Type 1} → stat
     (λ c. search (to-past, c .before .before .before .before .before .before .before .construct .ensures))
     (λ c. search needs)
     (λ c. search needs)
-    (λ c. search (sequences, needs))
+    (λ c. search (sequences, needs)))
+    λ t. then-part-lts.spec (
+      sequence-below t,
+      sequence.Post,
+      link-reads.Asked,
+      link-reads.Learnt,
+      else-part-below t,
+      else-part.Post,
+    )
+    (then-part-at t)
+    then-part.Post
+    (λ c. omega (arith, rows-of))
+    (λ c κs. search needs)
+    (λ c. search needs)
+    (λ c. search needs)
+    (λ c. omega (arith, rows-of))
+    (λ c κs. omega (arith, rows-of))
+    (λ c. omega (arith, rows-of))
+    (λ c. search needs)
+    (λ c. omega (arith, rows-of))
+    (λ c. omega (arith, rows-of))
+    (λ c. omega (arith, rows-of))
+    (λ c. omega (arith, rows-of))
+    (λ c. omega (arith, rows-of))
+    (λ c κs. omega (arith, rows-of))
+    (λ c. search needs)
+    (λ c. search needs)
+    (λ c. omega (arith, rows-of))
+    (λ c. search needs)
+    (λ c. search needs)
+    (λ c. search (thens, needs))
+    (λ c. search needs)
+    (λ c. search needs)
+    (λ c. search (thens, needs))
+    (λ c. search needs)
+    (λ c. search needs)
+    (λ c. search (thens, needs))
+    (λ c. search needs)
+    (λ c. search needs)
+    (λ c. search (thens, needs))
