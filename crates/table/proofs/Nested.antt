@@ -1,26 +1,23 @@
 -- What `if_part`, `else_part` and `loop_part` answer, as laws. Assumes nothing.
-use mathlib.Core.Path.{_≡_, refl, sym, ap, _∙_, subst}
-use mathlib.Core.Bool.{Bool, true, false}
-use mathlib.Core.List.{List, [], _∷_}
-use Prim.Native.Nat.{ℕ, suc, _+_, _*_, _-_, _≤_, _<_}
+use mathlib.Core.Path.{_≡_, refl, sym, ap, _∙_}
+use mathlib.Core.Bool.{Bool, true}
+use mathlib.Core.List.{List, _∷_}
+use Prim.Native.Nat.{ℕ, _+_, _*_, _-_, _≤_, _<_}
 use native.Mathlib.Numerals.{add-one}
 use native.Mathlib.Omega.{arith}
 use lib.ListN.{length, take, drop, set, length-drop}
 use lib.Seq.{drop-drop}
-use Rattle.rules.specs.declared.kind.Kind.{Kind}
 use Rattle.rules.specs.declared.kind.Kind.the-variants.{If, Else, Loop, End}
 use Rattle.rules.specs.declared.refusal.Refusal.{Refusal}
 use Rattle.rules.specs.declared.refusal.Refusal.the-variants.{Misplaced, TooManyParts}
 use Rattle.rules.specs.Row.{rowWidth, tableOf}
 use Rattle.rules.specs.Scan.{Open, regions}
-use Rattle.rules.specs.Check.{isThen}
 use Rattle.table.specs.First.{firstKind}
 use Rattle.table.specs.Standing.{hasLoop, Inside}
 use Rattle.table.specs.Walked.{TurnedAway, Before, thenOf, seqRows, stepRows, restRows, SeqOk, StepOk, ThenOk, ElseOk}
 use Rattle.table.specs.declared.walk.Seq.{Seq}
 use Rattle.table.specs.declared.walk.Seq.the-variants.{Broken, AtEnd, AtElse}
-use Rattle.table.specs.declared.walk.Step.{Step}
-use Rattle.table.specs.declared.walk.Step.the-variants.{Faulty, Past, EndHere, ElseHere}
+use Rattle.table.specs.declared.walk.Step.the-variants.{Faulty, Past}
 use Rattle.table.specs.declared.walk.Rest.{Rest}
 use Rattle.table.specs.declared.walk.Rest.the-variants.{Torn, Rows}
 use Rattle.table.proofs.Rows.{rest-all}

@@ -1,10 +1,9 @@
 -- The verdict, one row on: a row with no fault, and the first fault. Assumes nothing.
-use mathlib.Core.Path.{_≡_, refl, sym, ap, _∙_, subst}
+use mathlib.Core.Path.{_≡_, refl, _∙_}
 use mathlib.Core.Bool.{Bool, true, false, not, _&&_}
 use mathlib.Core.List.{List, [], _∷_}
 use Prim.Native.Nat.{ℕ, suc, _≤_, _<_}
 use native.Mathlib.Decide.{le-ind}
-use native.Mathlib.Omega.{arith}
 use lib.Dec.{leb}
 use lib.ListN.{length}
 use Rattle.rules.specs.declared.kind.Kind.{Kind}
@@ -16,7 +15,7 @@ use Rattle.rules.specs.Limits.{maxFunctions}
 use Rattle.rules.specs.Row.{Table, kindAt, operandsAt, fieldsFit}
 use Rattle.rules.specs.Scan.{Open, openAt, regions, functions, isFunction}
 use Rattle.rules.specs.Refusal.{refuseIf, andThen}
-use Rattle.rules.specs.Check.{isOutside, misplacedIn, leftOpen, oneTooMany, rowVerdict, rowsVerdict, callsVerdict, tableVerdict}
+use Rattle.rules.specs.Check.{misplacedIn, oneTooMany, rowVerdict, rowsVerdict, callsVerdict, tableVerdict}
 
 -- ---- one row
 causes : (wrong misplaced functions parts : Bool) → Verdict

@@ -9,7 +9,7 @@ use rules::kind::Kind;
 use rules::refusal::Refusal;
 use rules::refusal::Verdict;
 ghost use mathlib.Core.Path.{_≡_};
-ghost use Prim.Native.Nat.{ℕ, _+_, _*_, _≤_, _<_};
+ghost use Prim.Native.Nat.{_+_, _*_, _≤_, _<_};
 ghost use lib.ListN.{length};
 ghost use Rattle.rules.specs.Row.{tableOf};
 ghost use Rattle.rules.specs.Scan.{functionCount};
@@ -17,6 +17,12 @@ ghost use Rattle.rules.specs.Check.{callsVerdict};
 ghost use Rattle.rules.specs.Links.{Checked};
 ghost use Rattle.table.specs.First.{firstKind};
 ghost use Rattle.table.specs.Checking.{strayCause, OneOk, AllOk};
+
+// The rows of a table.
+const ROWS: usize = 1024;
+
+// The functions of a table.
+const FUNCTIONS: usize = 32;
 
 // A function: refused, or so many rows long.
 pub enum One {
@@ -62,7 +68,7 @@ fn body(
     requires { ⌜ (5 < length (now rows)) × (firstKind (now rows) ≡ Kind.Function) ⌝ }
     ensures { λ r. ⌜ OneOk (now (rows .entry)) base count (now (ends .entry)) (now (elses .entry)) (now (heads .entry)) (now (ends .exit)) (now (elses .exit)) (now (heads .exit)) r ⌝ }
 {
-    if count >= 32 {
+    if count >= FUNCTIONS {
         return One::Unsound(Refusal::TooManyFunctions);
     }
     link(heads, count, base);
@@ -149,7 +155,7 @@ pub fn check(
     if rows.len() % 6 != 0 {
         return Verdict::Refused(Refusal::NoWholeRows);
     }
-    if rows.len() / 6 > 1024 {
+    if rows.len() / 6 > ROWS {
         return Verdict::Refused(Refusal::TooManyRows);
     }
     match functions(rows, ends, elses, heads) {

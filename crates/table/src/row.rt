@@ -2,7 +2,7 @@
 use rules::kind::Kind;
 ghost use mathlib.Core.Path.{_≡_};
 ghost use mathlib.Core.Bool.{_&&_};
-ghost use Prim.Native.Nat.{ℕ, _+_, _*_, _≤_, _<_};
+ghost use Prim.Native.Nat.{_+_, _*_, _<_};
 ghost use lib.ListN.{length};
 ghost use Rattle.rules.specs.Row.{kindOf, rowIn, fieldsFit, isUnused, isVariable, usesNone, usesNumber, usesVariable, usesFunction, doUses, testUses};
 ghost use Rattle.rules.specs.Scan.{isFunction};

@@ -3,10 +3,16 @@ use crate::row::first_kind;
 use rules::kind::Kind;
 use rules::refusal::Refusal;
 ghost use mathlib.Core.Path.{_≡_};
-ghost use Prim.Native.Nat.{ℕ, _+_, _*_, _≤_, _<_};
+ghost use Prim.Native.Nat.{_+_, _*_, _≤_, _<_};
 ghost use lib.ListN.{length, set};
 ghost use Rattle.table.specs.First.{firstKind};
 ghost use Rattle.table.specs.Walked.{SeqOk, StepOk, ThenOk, ElseOk, jumpStep};
+
+// The ifs and loops that may be open at one row.
+const CONSTRUCTS: usize = 16;
+
+// The regions of a function, its body among them.
+const REGIONS: usize = 64;
 
 // How a sequence of constructs ended: refused, or at an end or else row. With it go the rows before that row and the regions opened
 // in the function so far.
@@ -131,10 +137,10 @@ fn if_part(
     requires { ⌜ (5 < length (now rows)) × (firstKind (now rows) ≡ Kind.If) ⌝ }
     ensures { λ r. ⌜ StepOk (now (rows .entry)) base depth opened «in_loop» (now (ends .entry)) (now (elses .entry)) (now (ends .exit)) (now (elses .exit)) r ⌝ }
 {
-    if depth >= 16 {
+    if depth >= CONSTRUCTS {
         return Step::Faulty(Refusal::TooManyParts);
     }
-    if opened >= 64 {
+    if opened >= REGIONS {
         return Step::Faulty(Refusal::TooManyParts);
     }
     link(elses, base, 0);
@@ -200,7 +206,7 @@ fn else_part(
     requires { ⌜ 5 < length (now rows) ⌝ }
     ensures { λ r. ⌜ ElseOk (now (rows .entry)) row base depth opened «in_loop» (now (ends .entry)) (now (elses .entry)) (now (ends .exit)) (now (elses .exit)) r ⌝ }
 {
-    if opened >= 64 {
+    if opened >= REGIONS {
         return Rest::Torn(Refusal::TooManyParts);
     }
     link(elses, base, row);
@@ -237,10 +243,10 @@ fn loop_part(
     requires { ⌜ (5 < length (now rows)) × (firstKind (now rows) ≡ Kind.Loop) ⌝ }
     ensures { λ r. ⌜ StepOk (now (rows .entry)) base depth opened «in_loop» (now (ends .entry)) (now (elses .entry)) (now (ends .exit)) (now (elses .exit)) r ⌝ }
 {
-    if depth >= 16 {
+    if depth >= CONSTRUCTS {
         return Step::Faulty(Refusal::TooManyParts);
     }
-    if opened >= 64 {
+    if opened >= REGIONS {
         return Step::Faulty(Refusal::TooManyParts);
     }
     match sequence(
