@@ -1,0 +1,5 @@
+pub mod Rows
+pub mod Places
+pub mod Survey
+pub mod Takes
+pub mod Numbers

@@ -1,0 +1,223 @@
+-- What the passes that number the rows keep: the words of the regions, the running sum, the values. Assumes nothing.
+use mathlib.Core.Logic.{_≢_, _⊎_, inl, inr}
+use mathlib.Core.Path.{_≡_, refl, sym, ap, _∙_, subst}
+use mathlib.Core.Bool.{Bool, true, false}
+use mathlib.Core.List.{List, [], _∷_}
+use Prim.Native.Nat.{ℕ, zero, suc, _+_, _*_, _/_, _≤_, _<_}
+use native.Mathlib.Numerals.{add-one}
+use native.Mathlib.Nat.{le-refl, add-zero, not-suc-le-zero, eq-or-lt-of-le}
+use native.Mathlib.Omega.{arith}
+use lib.ListN.{length, getD, set, length-set, replicate, length-replicate}
+use lib.Seq.{getD-set-same, getD-set-other}
+use lib.Dec.{eqb}
+use borrow.Author.Tests.{eqb-true, eqb-false}
+use mir.Val.{Fits}
+use mir.Syntax.{w16}
+use Rattle.rules.specs.declared.kind.Kind.{Kind}
+use Rattle.rules.specs.declared.refusal.Verdict.the-variants.{Accepted}
+use Rattle.rules.specs.Row.{Table, tableOf, kindAt}
+use Rattle.rules.specs.Scan.{Open, openAt, regions, regionOf}
+use Rattle.rules.specs.Value.{takesIn, taken, base, value}
+use Rattle.rules.specs.Check.{verdictOf}
+use Rattle.rules.proofs.Scan.{regions-mono}
+use Rattle.rules.proofs.Value.{takes-off}
+use Rattle.rules.proofs.Accepted.{table-length}
+use Rattle.rules.proofs.ValueBound.{value-bound, base-bound, regions-bound}
+use Rattle.layout.specs.declared.place.Place.{Place}
+use Rattle.layout.specs.Place.{placeOf, Surveyed, Stands}
+use Rattle.layout.specs.Number.{takesAt, valueOf, Spent, sums, Summed, Based, Valued}
+use Rattle.layout.proofs.Places.{few-rows, region-regions}
+
+-- ---- the word of each region
+zeros : (n g : ℕ) → _≡_ {A = ℕ} (getD (replicate n 0) g 0) 0
+zeros zero g = refl
+zeros (suc n) zero = refl
+zeros (suc n) (suc g) = zeros n g
+
+pub nothing-spent : (bs : List ℕ) → Spent bs (replicate 1025 0) 0
+unfolding taken
+nothing-spent bs = record { room = omega (arith, length-replicate {A = ℕ} 1025 0); each = λ g. zeros 1025 g }
+
+module _ {bs spent : List ℕ} {i g : ℕ} {here : Place} (s : Stands bs i here) (p : Spent bs spent i) (q : g ≡ here .region) where
+  pub spend-in : g < length spent
+  spend-in = omega (arith, s .region-low, s .row, s .few-rows, p .room)
+
+  pub spend-fits : (w : ℕ) → w ≤ 2 → Fits w16 (getD spent g 0 + w)
+  unfolding value
+  spend-fits w h =
+      record { fits = omega (arith, p .each g, value-bound (tableOf bs) g i (omega (arith, table-length bs, s .row)), table-length bs, s .few-rows, s .region-low, s .row) }
+
+-- a row takes nothing in another region
+takes-away : (k : Kind) (g : ℕ) (fs : List Open) → g ≢ regionOf fs → takesIn k g fs ≡ 0
+takes-away k g [] h = refl
+takes-away k g (f ∷ fs) h = takes-off k g f fs (λ x. h (sym x))
+
+pub spend-more : {bs spent : List ℕ} {i g w : ℕ} {here : Place} → Stands bs i here → Spent bs spent i → g ≡ here .region → w ≡ takesAt (tableOf bs) i
+    → Spent bs (set spent g (getD spent g 0 + w)) (suc i)
+unfolding taken takesAt placeOf
+spend-more {bs} {spent} {i} {g} {w} {here} s p q e =
+    record { room = omega (arith, p .room, length-set spent g (getD spent g 0 + w)); each = λ x. by x (eqb x g) refl }
+  where
+    own : g ≡ regionOf (openAt (tableOf bs) i)
+    own = q ∙ ap (λ x. x .region) (s .is)
+
+    by : (x : ℕ) (b : Bool) → eqb x g ≡ b
+        → getD (set spent g (getD spent g 0 + w)) x 0 ≡ taken (tableOf bs) x i + takesIn (kindAt (tableOf bs) i) x (openAt (tableOf bs) i)
+    by x true y =
+        let z : x ≡ g = eqb-true x g y in
+        rw z
+        (getD-set-same spent g _ 0 (spend-in s p q) ∙ ap (λ v. v + w) (p .each g)
+            ∙ ap (λ v. taken (tableOf bs) g i + v) (e ∙ ap (λ v. takesIn (kindAt (tableOf bs) i) v (openAt (tableOf bs) i)) (sym own)))
+    by x false y =
+        let n : x ≢ g = eqb-false x g y in
+        getD-set-other spent g x _ 0 n ∙ p .each x
+        ∙ sym (ap (λ v. taken (tableOf bs) x i + v) (takes-away (kindAt (tableOf bs) i) x (openAt (tableOf bs) i) (λ z. n (z ∙ sym own))) ∙ add-zero _)
+
+pub ruleset spends = (spend-in, spend-fits, spend-more)
+
+pub record Spending (bs spent₀ spent : List ℕ) (i : ℕ) : Type 0 where
+  pub le : i ≤ length bs / 6
+  pub same : length spent ≡ length spent₀
+  pub is : Spent bs spent i
+
+pub spend-start : {bs spent : List ℕ} → Spent bs spent 0 → Spending bs spent spent 0
+spend-start p = record { le = omega arith; same = refl; is = p }
+
+pub spend-again : {bs spent₀ spent spent′ : List ℕ} {i : ℕ} → Spending bs spent₀ spent i → i < length bs / 6 → Spent bs spent′ (suc i)
+    → length spent′ ≡ length spent → Spending bs spent₀ spent′ (i + 1)
+spend-again {bs} {spent₀} {spent} {spent′} {i} d l p k =
+    record { le = omega arith; same = k ∙ d .same; is = subst (Spent bs spent′) (sym (add-one i)) p }
+
+pub spend-all : {bs spent₀ spent : List ℕ} {i n : ℕ} → Spending bs spent₀ spent i → n ≡ length bs / 6 → n ≤ i → Spent bs spent (length bs / 6)
+spend-all {bs} {spent₀} {spent} {i} d q h = let x : i ≡ length bs / 6 = omega (arith, d .le) in subst (Spent bs spent) x (d .is)
+
+pub ruleset spendings = (spend-start, spend-again, spend-all)
+
+-- ---- the running sum
+pub record Summing (spent : List ℕ) (count : ℕ) (bases₀ bases : List ℕ) (total g : ℕ) : Type 0 where
+  pub le : g ≤ count
+  pub same : length bases ≡ length bases₀
+  pub total-is : total ≡ sums spent g
+  pub is : Summed spent bases g
+
+pub sum-start : {spent bases : List ℕ} {count : ℕ} → Summing spent count bases bases 1 0
+unfolding sums
+sum-start = record { le = omega arith; same = refl; total-is = refl; is = record { each = λ g h. absurd (not-suc-le-zero h) } }
+
+sum-next : (spent : List ℕ) (total g : ℕ) → total ≡ sums spent g → total + getD spent g 0 + 1 ≡ sums spent (suc g)
+unfolding sums
+sum-next spent total g e = omega arith
+
+pub sum-fits : {spent bases₀ bases : List ℕ} {count total g : ℕ} → Summing spent count bases₀ bases total g → g < count
+    → ((k : ℕ) → k ≤ count → sums spent k < 65536) → total + getD spent g 0 + 1 < 65536
+sum-fits {spent} {count = count} {total} {g} p h f = omega (arith, sum-next spent total g (p .total-is), f (suc g) h)
+
+pub sum-more : {spent bases₀ bases : List ℕ} {count total g : ℕ} → Summing spent count bases₀ bases total g → g < count → count ≤ length bases₀
+    → Summing spent count bases₀ (set bases g total) (total + getD spent g 0 + 1) (g + 1)
+sum-more {spent} {bases₀} {bases} {count} {total} {g} p h r =
+    record {
+      le = omega arith;
+      same = length-set bases g total ∙ p .same;
+      total-is = sum-next spent total g (p .total-is) ∙ ap (sums spent) (sym (add-one g));
+      is = record { each = λ k x. by k (eq-or-lt-of-le (subst (λ z. k < z) (add-one g) x)) };
+    }
+  where
+    by : (k : ℕ) → (suc k ≡ suc g) ⊎ (suc k < suc g) → getD (set bases g total) k 0 ≡ sums spent k
+    by k (inl x) = let y : k ≡ g = omega arith in rw y (getD-set-same bases g total 0 (omega (arith, p .same)) ∙ p .total-is)
+    by k (inr x) = getD-set-other bases g k total 0 (omega arith) ∙ p .is .each k (omega arith)
+
+pub sum-all : {spent bases₀ bases : List ℕ} {count total g : ℕ} → Summing spent count bases₀ bases total g → count ≤ g → Summed spent bases count
+sum-all {spent} {bases₀} {bases} {count} {total} {g} p h = let x : g ≡ count = omega (arith, p .le) in subst (Summed spent bases) x (p .is)
+
+pub ruleset summings = (sum-start, sum-more, sum-all)
+
+-- ---- the bases
+sums-base : (t : Table) (l : List ℕ) → ((g : ℕ) → getD l g 0 ≡ taken t g (length t)) → (g : ℕ) → sums l g ≡ base t g
+unfolding sums base
+sums-base t l h zero = refl
+sums-base t l h (suc g) = rw (sums-base t l h g, h g)
+
+sums-are : {bs spent : List ℕ} → Spent bs spent (length bs / 6) → (g : ℕ) → sums spent g ≡ base (tableOf bs) g
+sums-are {bs} {spent} p g = sums-base (tableOf bs) spent (λ k. p .each k ∙ ap (taken (tableOf bs) k) (sym (table-length bs))) g
+
+pub sums-fit : {bs spent : List ℕ} {count : ℕ} {end : Place} → Stands bs (length bs / 6) end → Spent bs spent (length bs / 6) → count ≡ end .opened
+    → (g : ℕ) → g ≤ count + 1 → sums spent g < 65536
+sums-fit {bs} s p q g h = omega (arith, sums-are p g, base-bound (tableOf bs) g, table-length bs, s .opened-low, s .few-rows)
+
+pub bases-all : {bs spent bases : List ℕ} {count : ℕ} {end : Place} → Stands bs (length bs / 6) end → Spent bs spent (length bs / 6) → count ≡ end .opened
+    → Summed spent bases (count + 1) → 1025 ≤ length bases → Based bs bases
+unfolding placeOf
+bases-all {bs} {end = end} s p q u r =
+    let o : end .opened ≡ regions (tableOf bs) (length bs / 6) = ap (λ x. x .opened) (s .is) in
+    record { room = r; each = λ g h. u .each g (omega arith) ∙ sums-are p g }
+
+-- ---- the values
+region-in : (bs : List ℕ) (i : ℕ) → i ≤ length bs / 6 → regionOf (openAt (tableOf bs) i) ≤ regions (tableOf bs) (length bs / 6)
+region-in bs i l = omega (arith, region-regions (tableOf bs) i, regions-mono (tableOf bs) {i = i} (length bs / 6) l)
+
+module _ {bs bases spent : List ℕ} {i g : ℕ} {here : Place} (s : Stands bs i here) (b : Based bs bases) (p : Spent bs spent i) (q : g ≡ here .region) where
+  pub value-base-in : g < length bases
+  value-base-in = omega (arith, s .region-low, s .row, s .few-rows, b .room)
+
+  pub value-spent-in : g < length spent
+  value-spent-in = omega (arith, s .region-low, s .row, s .few-rows, p .room)
+
+  pub value-is : getD bases g 0 + getD spent g 0 ≡ valueOf (tableOf bs) i
+  unfolding valueOf value placeOf
+  value-is =
+      let own : g ≡ regionOf (openAt (tableOf bs) i) = q ∙ ap (λ x. x .region) (s .is) in
+      rw own (omega (arith, b .each (regionOf (openAt (tableOf bs) i)) (region-in bs i (s .row)), p .each (regionOf (openAt (tableOf bs) i))))
+
+pub value-low : (bs : List ℕ) (i : ℕ) → verdictOf bs ≡ Accepted → i ≤ length bs / 6 → valueOf (tableOf bs) i ≤ 4000
+unfolding valueOf
+value-low bs i a l =
+    omega
+    (arith, value-bound (tableOf bs) (regionOf (openAt (tableOf bs) i)) i (omega (arith, table-length bs)), region-regions (tableOf bs) i, regions-bound (tableOf bs) i, table-length bs, few-rows bs a)
+
+pub value-fits : {bs bases spent : List ℕ} {i g : ℕ} {here : Place} → Stands bs i here → Based bs bases → Spent bs spent i → g ≡ here .region
+    → Fits w16 (getD bases g 0 + getD spent g 0)
+value-fits {bs} {i = i} s b p q = record { fits = omega (arith, value-is s b p q, value-low bs i (s .accepted) (s .row)) }
+
+pub ruleset valued = (value-base-in, value-spent-in, value-is, value-fits)
+
+pub record Valuing (bs values₀ values spent : List ℕ) (i : ℕ) : Type 0 where
+  pub le : i ≤ length bs / 6
+  pub few-rows : length bs / 6 ≤ 1024
+  pub same : length values ≡ length values₀
+  pub words : length spent ≡ 1025
+  pub spent-is : Spent bs spent i
+  pub is : (k : ℕ) → k < i → getD values k 0 ≡ valueOf (tableOf bs) k
+
+pub value-start : {bs m values : List ℕ} → Surveyed bs m → Valuing bs values values (replicate 1025 0) 0
+value-start {bs} s =
+    record {
+      le = omega arith;
+      few-rows = s .few-rows;
+      same = refl;
+      words = length-replicate {A = ℕ} 1025 0;
+      spent-is = nothing-spent bs;
+      is = λ k h. absurd (not-suc-le-zero h);
+    }
+
+pub value-more : {bs values₀ values spent spent′ : List ℕ} {i v : ℕ} → Valuing bs values₀ values spent i → i < length bs / 6 → 1024 ≤ length values₀
+    → v ≡ valueOf (tableOf bs) i → Spent bs spent′ (suc i) → length spent′ ≡ length spent → Valuing bs values₀ (set values i v) spent′ (i + 1)
+value-more {bs} {values₀} {values} {spent} {spent′} {i} {v} d l r e p c =
+    record {
+      le = omega arith;
+      few-rows = d .few-rows;
+      same = length-set values i v ∙ d .same;
+      words = c ∙ d .words;
+      spent-is = subst (Spent bs spent′) (sym (add-one i)) p;
+      is = λ k x. by k (eq-or-lt-of-le (subst (λ z. k < z) (add-one i) x));
+    }
+  where
+    by : (k : ℕ) → (suc k ≡ suc i) ⊎ (suc k < suc i) → getD (set values i v) k 0 ≡ valueOf (tableOf bs) k
+    by k (inl x) = let y : k ≡ i = omega arith in rw y (getD-set-same values i v 0 (omega (arith, d .same, d .few-rows)) ∙ e)
+    by k (inr x) = getD-set-other values i k v 0 (omega arith) ∙ d .is k (omega arith)
+
+pub values-all : {bs values₀ values spent : List ℕ} {i n : ℕ} → Valuing bs values₀ values spent i → n ≡ length bs / 6 → n ≤ i → 1024 ≤ length values₀ → Valued bs values
+values-all {bs} {values₀} {values} {spent} {i} d q h r =
+    let x : i ≡ length bs / 6 = omega (arith, d .le) in
+    record { room = omega (arith, d .same); each = λ k l. d .is k (omega arith) }
+
+pub ruleset valuings = (value-start, value-more, values-all)

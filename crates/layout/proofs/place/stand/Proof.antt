@@ -1,0 +1,18 @@
+use Rattle.layout.proofs.Places.{stand-at}
+use borrow.Author.Needs.{needs}
+use Rattle.layout.proofs.place.stand.Statement.{statement}
+use Rattle.layout.proofs.place.stand.Tie as tie
+use Rattle.layout.proofs.place.stand.Reads as reads
+use Rattle.layout.proofs.place.stand.Lts as lts
+use Rattle.layout.proofs.place.look.Reads as look-reads
+
+-- src/place.rt:51:5
+look-requires : tie.Need-look-requires
+look-requires c κs = search needs
+
+-- src/place.rt:47:1
+returns : tie.Need-returns
+returns c = search (stand-at, needs)
+
+pub stand-spec : {M : Type 1} → statement M
+stand-spec = tie.close (tie.spec look-requires returns)

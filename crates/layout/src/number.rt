@@ -1,0 +1,113 @@
+// Values: what each row takes, the bases of the regions, and each row's value.
+ghost use mathlib.Core.Path.{_≡_};
+ghost use Prim.Native.Nat.{ℕ, suc, _/_, _≤_, _<_};
+ghost use lib.ListN.{length};
+ghost use Rattle.rules.specs.Row.{tableOf};
+ghost use Rattle.layout.specs.Place.{Stands, Surveyed};
+ghost use Rattle.layout.specs.Number.{takesAt, valueOf, Spent, sums, Summed, Based, Valued};
+use crate::place;
+use crate::place::Place;
+use crate::row;
+use rules::kind::Kind;
+
+// What row i takes in its region.
+fn take(rows: &[u8], i: usize, here: Place) -> u16
+    requires { ⌜ (Stands (now rows) i here) × (i < length (now rows) / 6) ⌝ }
+    ensures { λ r. ⌜ (r ≡ takesAt (tableOf (now (rows .entry))) i) × (r ≤ 2) ⌝ }
+{
+    match row::kind(rows, i) {
+        Kind::Function => 0,
+        Kind::Do => 1,
+        Kind::If => 2,
+        Kind::Else => 0,
+        Kind::Loop => 2,
+        Kind::End => {
+            if here.region == here.body {
+                return 1;
+            }
+            0
+        }
+        Kind::Break => 1,
+        Kind::Continue => 1,
+        Kind::Call => 2,
+        Kind::Unknown => 0,
+    }
+}
+
+// Adds what row i takes to the word of its region.
+fn spend(rows: &[u8], map: &[u16], i: usize, spent: &mut [u16])
+    requires { ⌜ (Surveyed (now rows) (now map)) × (i < length (now rows) / 6) ⌝ }
+    requires { ⌜ Spent (now rows) (now spent) i ⌝ }
+    ensures { λ _. ⌜ Spent (now (rows .entry)) (now (spent .exit)) (suc i) ⌝ }
+{
+    let here = place::stand(rows, map, i);
+    let g = row::index(here.region);
+    spent[g] = spent[g] + take(rows, i, here);
+}
+
+// Adds up what all rows take, in each region.
+fn spend_all(rows: &[u8], map: &[u16], spent: &mut [u16])
+    requires { ⌜ (Surveyed (now rows) (now map)) × (Spent (now rows) (now spent) 0) ⌝ }
+    ensures { λ _. ⌜ Spent (now (rows .entry)) (now (spent .exit)) (length (now (rows .entry)) / 6) ⌝ }
+{
+    let n = rows.len() / row::WIDTH;
+    let mut i = 0;
+    while i < n {
+        spend(rows, map, i, spent);
+        i += 1;
+    }
+}
+
+// A running sum of 1 and the sizes: a region's size is 1 and what its rows take.
+fn sum(spent: &[u16], bases: &mut [u16], count: usize)
+    requires { ⌜ (count ≤ length (now spent)) × (count ≤ length (now bases)) ⌝ }
+    requires { ⌜ ((g : ℕ) → g ≤ count → sums (now spent) g < 65536) ⌝ }
+    ensures { λ _. ⌜ Summed (now (spent .entry)) (now (bases .exit)) count ⌝ }
+{
+    let mut total: u16 = 1;
+    let mut g = 0;
+    while g < count {
+        bases[g] = total;
+        total = total + spent[g] + 1;
+        g += 1;
+    }
+}
+
+// The bases of all regions: word g is the base of region g.
+pub fn region_bases(rows: &[u8], map: &[u16], bases: &mut [u16])
+    requires { ⌜ (Surveyed (now rows) (now map)) × (1025 ≤ length (now bases)) ⌝ }
+    ensures { λ _. ⌜ Based (now (rows .entry)) (now (bases .exit)) ⌝ }
+{
+    let mut spent = [0u16; 1025];
+    spend_all(rows, map, &mut spent);
+    let n = rows.len() / row::WIDTH;
+    let end = place::stand(rows, map, n);
+    let count = row::index(end.opened) + 1;
+    sum(&spent, bases, count);
+}
+
+// The value of row i: the base of its region and what the rows before it take there.
+fn value(rows: &[u8], map: &[u16], bases: &[u16], spent: &[u16], i: usize) -> u16
+    requires { ⌜ (Surveyed (now rows) (now map)) × (i < length (now rows) / 6) ⌝ }
+    requires { ⌜ (Based (now rows) (now bases)) × (Spent (now rows) (now spent) i) ⌝ }
+    ensures { λ r. ⌜ r ≡ valueOf (tableOf (now (rows .entry))) i ⌝ }
+{
+    let here = place::stand(rows, map, i);
+    let g = row::index(here.region);
+    bases[g] + spent[g]
+}
+
+// The values of all rows: word i is the value of row i.
+pub fn row_values(rows: &[u8], map: &[u16], bases: &[u16], values: &mut [u16])
+    requires { ⌜ (Surveyed (now rows) (now map)) × (Based (now rows) (now bases)) × (1024 ≤ length (now values)) ⌝ }
+    ensures { λ _. ⌜ Valued (now (rows .entry)) (now (values .exit)) ⌝ }
+{
+    let mut spent = [0u16; 1025];
+    let n = rows.len() / row::WIDTH;
+    let mut i = 0;
+    while i < n {
+        values[i] = value(rows, map, bases, &spent, i);
+        spend(rows, map, i, &mut spent);
+        i += 1;
+    }
+}

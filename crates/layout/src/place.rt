@@ -1,0 +1,184 @@
+// Where a row stands: what the rows before it have opened. The map has six words for each row and for the end of the table.
+ghost use mathlib.Core.Path.{_≡_};
+ghost use Prim.Native.Nat.{suc, _+_, _*_, _/_, _≤_, _<_};
+ghost use lib.ListN.{length};
+ghost use Rattle.rules.specs.declared.refusal.Verdict.the-variants.{Accepted};
+ghost use Rattle.rules.specs.Row.{tableOf};
+ghost use Rattle.rules.specs.Check.{verdictOf};
+ghost use Rattle.layout.specs.Place.{placeAt, putPlace, placeOf, passed, entered, forked, looped, turned, closed, Mapped, Stands, Surveyed};
+use crate::row;
+use rules::kind::Kind;
+
+pub struct Place {
+    // Regions opened so far, in the whole table.
+    pub opened: u16,
+    // The innermost open region, and that of the function's body.
+    pub region: u16,
+    pub body: u16,
+    // The row that opened it, and the row of the innermost loop.
+    pub opener: u16,
+    pub repeat: u16,
+    // The number of the row's first line.
+    pub line: u16,
+}
+
+// The place of the next row, after a row of each shape.
+impl Place {
+    // After a row that opens nothing and closes nothing.
+    fn passed(self, lines: u16) -> Place
+        requires { ⌜ (self .line ≤ 2048) × (lines ≤ 2) ⌝ }
+        ensures { λ r. ⌜ r ≡ passed self lines ⌝ }
+    {
+        let mut next = self;
+        next.line = self.line + lines;
+        next
+    }
+
+    // After a function row.
+    fn entered(self, row: u16) -> Place
+        requires { ⌜ self .opened ≤ 1024 ⌝ }
+        ensures { λ r. ⌜ r ≡ entered self row ⌝ }
+    {
+        let mut next = self;
+        next.opened = self.opened + 1;
+        next.region = self.opened;
+        next.body = self.opened;
+        next.opener = row;
+        next
+    }
+
+    // After an if row.
+    fn forked(self, row: u16) -> Place
+        requires { ⌜ (self .opened ≤ 1024) × (self .line ≤ 2048) ⌝ }
+        ensures { λ r. ⌜ r ≡ forked self row ⌝ }
+    {
+        let mut next = self;
+        next.opened = self.opened + 1;
+        next.region = self.opened;
+        next.opener = row;
+        next.line = self.line + 1;
+        next
+    }
+
+    // After a loop row.
+    fn looped(self, row: u16) -> Place
+        requires { ⌜ (self .opened ≤ 1024) × (self .line ≤ 2048) ⌝ }
+        ensures { λ r. ⌜ r ≡ looped self row ⌝ }
+    {
+        let mut next = self;
+        next.opened = self.opened + 1;
+        next.region = self.opened;
+        next.opener = row;
+        next.repeat = row;
+        next.line = self.line + 1;
+        next
+    }
+
+    // After an else row.
+    fn turned(self) -> Place
+        requires { ⌜ (self .opened ≤ 1024) × (self .line ≤ 2048) ⌝ }
+        ensures { λ r. ⌜ r ≡ turned self ⌝ }
+    {
+        let mut next = self;
+        next.opened = self.opened + 1;
+        next.region = self.opened;
+        next.line = self.line + 1;
+        next
+    }
+
+    // After an end row: what is open is what was open at the row that opened, whose place this is.
+    fn closed(self, opener: Place) -> Place
+        requires { ⌜ self .line ≤ 2048 ⌝ }
+        ensures { λ r. ⌜ r ≡ closed self opener ⌝ }
+    {
+        let mut next = opener;
+        next.opened = self.opened;
+        next.line = self.line + 1;
+        next
+    }
+}
+
+// A place's words in the map.
+const WORDS: usize = 6;
+
+// The place at index i of the map.
+fn look(map: &[u16], i: usize) -> Place
+    requires { ⌜ 6 * i + 6 ≤ length (now map) ⌝ }
+    ensures { λ r. ⌜ r ≡ placeAt (now (map .entry)) i ⌝ }
+{
+    let k = WORDS * i;
+    Place {
+        opened: map[k],
+        region: map[k + 1],
+        body: map[k + 2],
+        opener: map[k + 3],
+        repeat: map[k + 4],
+        line: map[k + 5],
+    }
+}
+
+// The place of row i of a table that is surveyed.
+pub fn stand(rows: &[u8], map: &[u16], i: usize) -> Place
+    requires { ⌜ (Surveyed (now rows) (now map)) × (i ≤ length (now rows) / 6) ⌝ }
+    ensures { λ r. ⌜ Stands (now (rows .entry)) i r ⌝ }
+{
+    look(map, i)
+}
+
+// Puts a place at index i of the map.
+fn keep(map: &mut [u16], i: usize, p: Place)
+    requires { ⌜ 6 * i + 6 ≤ length (now map) ⌝ }
+    ensures { λ _. ⌜ now (map .exit) ≡ putPlace (now (map .entry)) i p ⌝ }
+{
+    let k = WORDS * i;
+    map[k] = p.opened;
+    map[k + 1] = p.region;
+    map[k + 2] = p.body;
+    map[k + 3] = p.opener;
+    map[k + 4] = p.repeat;
+    map[k + 5] = p.line;
+}
+
+// The place of the row after row i.
+fn after(rows: &[u8], map: &[u16], i: usize, here: Place) -> Place
+    requires { ⌜ (Stands (now rows) i here) × (i < length (now rows) / 6) ⌝ }
+    requires { ⌜ (Mapped (now rows) (now map) (suc i)) × (6 * i + 6 ≤ length (now map)) ⌝ }
+    ensures { λ r. ⌜ r ≡ placeOf (tableOf (now (rows .entry))) (suc i) ⌝ }
+{
+    let row = i as u16;
+    match row::kind(rows, i) {
+        Kind::Function => here.entered(row),
+        Kind::Do => here.passed(2),
+        Kind::If => here.forked(row),
+        Kind::Else => here.turned(),
+        Kind::Loop => here.looped(row),
+        Kind::End => here.closed(look(map, row::index(here.opener))),
+        Kind::Break => here.passed(1),
+        Kind::Continue => here.passed(1),
+        Kind::Call => here.passed(2),
+        Kind::Unknown => here.passed(0),
+    }
+}
+
+// Fills the map with the place of each row, and of the end of the table.
+pub fn survey(rows: &[u8], map: &mut [u16])
+    requires { ⌜ (verdictOf (now rows) ≡ Accepted) × (6150 ≤ length (now map)) ⌝ }
+    ensures { λ _. ⌜ Surveyed (now (rows .entry)) (now (map .exit)) ⌝ }
+{
+    let n = rows.len() / row::WIDTH;
+    let mut here = Place {
+        opened: 0,
+        region: 0,
+        body: 0,
+        opener: 0,
+        repeat: 0,
+        line: 0,
+    };
+    let mut i = 0;
+    while i < n {
+        keep(map, i, here);
+        here = after(rows, map, i, here);
+        i += 1;
+    }
+    keep(map, n, here);
+}

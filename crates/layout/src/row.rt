@@ -1,0 +1,81 @@
+// Reading a row: its kind and its fields.
+ghost use mathlib.Core.Path.{_≡_};
+ghost use Prim.Native.Nat.{_+_, _/_, _≤_, _<_};
+ghost use lib.ListN.{length, getD};
+ghost use Rattle.rules.specs.Bytes.{wordAt};
+ghost use Rattle.rules.specs.Row.{kindOf, tableOf, kindAt, operandsAt};
+ghost use Rattle.layout.specs.Row.{operandsOf};
+use rules::kind::Kind;
+
+// A row's bytes.
+pub const WIDTH: usize = 6;
+
+// The kind that a row's first byte says.
+fn kind_of(b: u8) -> Kind
+    ensures { λ r. ⌜ r ≡ kindOf b ⌝ }
+{
+    match b {
+        1 => Kind::Function,
+        2 => Kind::Do,
+        3 => Kind::If,
+        4 => Kind::Else,
+        5 => Kind::Loop,
+        6 => Kind::End,
+        7 => Kind::Break,
+        8 => Kind::Continue,
+        9 => Kind::Call,
+        _ => Kind::Unknown,
+    }
+}
+
+// The kind of row i.
+pub fn kind(rows: &[u8], i: usize) -> Kind
+    requires { ⌜ i < length (now rows) / 6 ⌝ }
+    ensures { λ r. ⌜ r ≡ kindAt (tableOf (now (rows .entry))) i ⌝ }
+{
+    kind_of(rows[WIDTH * i])
+}
+
+// A byte as a word.
+fn wide(x: u8) -> u16
+    ensures { λ r. ⌜ (r ≡ x) × (r < 256) ⌝ }
+{
+    x as u16
+}
+
+// The word whose low byte is byte k.
+fn word(rows: &[u8], k: usize) -> u16
+    requires { ⌜ k + 2 ≤ length (now rows) ⌝ }
+    ensures { λ r. ⌜ r ≡ wordAt (now (rows .entry)) k ⌝ }
+{
+    wide(rows[k]) + 256 * wide(rows[k + 1])
+}
+
+// A word as an index.
+pub fn index(x: u16) -> usize
+    ensures { λ r. ⌜ r ≡ x ⌝ }
+{
+    x as usize
+}
+
+// What a row has beside its kind.
+pub struct Fields {
+    pub op: u8,
+    pub p: u8,
+    pub q: u8,
+    pub n: u16,
+}
+
+// The fields of row i.
+pub fn fields_of(rows: &[u8], i: usize) -> Fields
+    requires { ⌜ i < length (now rows) / 6 ⌝ }
+    ensures { λ r. ⌜ operandsOf r ≡ operandsAt (tableOf (now (rows .entry))) i ⌝ }
+{
+    let k = WIDTH * i;
+    Fields {
+        op: rows[k + 1],
+        p: rows[k + 2],
+        q: rows[k + 3],
+        n: word(rows, k + 4),
+    }
+}
