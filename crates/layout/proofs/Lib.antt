@@ -3,3 +3,5 @@ pub mod Places
 pub mod Survey
 pub mod Takes
 pub mod Numbers
+pub mod Around
+pub mod Spots

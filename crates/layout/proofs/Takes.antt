@@ -9,7 +9,7 @@ use lib.Dec.{eqb}
 use Rattle.rules.specs.declared.kind.Kind.{Kind}
 use Rattle.rules.specs.declared.kind.Kind.the-variants.{Function, Do, If, Else, Loop, End, Break, Continue, Call, Unknown}
 use Rattle.rules.specs.Row.{Table, tableOf, kindAt}
-use Rattle.rules.specs.Scan.{Part, body, thenPart, elsePart, loopBody, Open, openAt, regions, regionOf, bodyRegion, fromLoop}
+use Rattle.rules.specs.Scan.{Part, body, thenPart, elsePart, loopBody, Open, openAt, regions, regionOf, bodyRegion}
 use Rattle.rules.specs.Value.{takes, takesIn}
 use Rattle.rules.specs.Check.{isOutside, misplacedIn}
 use Rattle.rules.proofs.Logic.{clash}
@@ -20,6 +20,7 @@ use Rattle.rules.proofs.Function.{Formed, formed, isBody}
 use Rattle.layout.specs.declared.place.Place.{Place}
 use Rattle.layout.specs.Place.{placeOf, Stands}
 use Rattle.layout.specs.Number.{takesAt}
+use Rattle.layout.proofs.Around.{from-loop}
 use Rattle.layout.proofs.Survey.{ok, within, kind-is, not-misplaced, some-open}
 
 -- where something is open
@@ -38,11 +39,6 @@ no-takes t i k e h = by (openAt t i)
     by : (fs : List Open) → 0 ≡ takesIn (kindAt t i) (regionOf fs) fs
     by [] = refl
     by (f ∷ fs) = rw e (sym (takes-top k f fs ∙ h (f .part)))
-
--- a loop is open, so something is
-pub from-loop : (fs : List Open) → isOutside (fromLoop fs) ≡ false → isOutside fs ≡ false
-from-loop [] e = e
-from-loop (f ∷ fs) e = refl
 
 -- the end of the body, and of another part
 body-end : (t : Table) (b : ℕ) (f : Open) (fs : List Open) → Formed t (f ∷ fs) → Chain b (f ∷ fs) → f .region ≡ bodyRegion (f ∷ fs) → takes End (f .part) ≡ 1

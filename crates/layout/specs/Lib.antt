@@ -1,3 +1,4 @@
 pub mod Row
 pub mod Place
 pub mod Number
+pub mod Spot

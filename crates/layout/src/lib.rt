@@ -2,3 +2,4 @@
 pub mod number;
 pub mod place;
 pub mod row;
+pub mod spot;
