@@ -25,11 +25,10 @@ use Rattle.rules.proofs.RegionBound.{own-bound, opened-bound, functions-bound}
 use Rattle.layout.specs.declared.place.Place.{Place}
 use Rattle.layout.specs.declared.row.Fields.{Fields}
 use Rattle.layout.specs.declared.spot.Spot.{Spot}
-use Rattle.layout.specs.declared.spot.Child.{Child}
 use Rattle.layout.specs.Row.{operandsOf}
 use Rattle.layout.specs.Place.{placeOf, Surveyed, Stands}
 use Rattle.layout.specs.Number.{valueOf, Based, Valued}
-use Rattle.layout.specs.Spot.{Near, Inside, InLoop, Opens, Grows, SpotIs, ChildIs, inBody, isLoop, OpenerIs, LoopIs, CalleeIs, Head, endOfBody, Ends, Heads}
+use Rattle.layout.specs.Spot.{Near, Inside, InLoop, Opens, Grows, SpotIs, childOf, inBody, isLoop, OpenerIs, LoopIs, CalleeIs, Head, endOfBody, Ends, Heads}
 use Rattle.layout.proofs.Survey.{some-open}
 use Rattle.layout.proofs.Numbers.{value-low}
 use Rattle.layout.proofs.Around.{opening-pushes, pushes-opening, opened-by, LoopOf, loop-at}
@@ -91,9 +90,9 @@ module _ {bs : List ℕ} {i : ℕ} {here : Place} (s : Stands bs i here) where
   unfolding placeOf
   child-near g = rw (s .is) (g .near)
 
-  pub child-is : {r b : ℕ} → r ≡ here .opened - here .body → b ≡ base (tableOf bs) (regions (tableOf bs) i) → ChildIs bs i (record { r = r; base = b })
-  unfolding placeOf
-  child-is q w = record { r-is = q ∙ ap (λ x. x .opened - x .body) (s .is); base-is = w }
+  pub child-is : {r : ℕ} → r ≡ here .opened - here .body → r ≡ childOf (tableOf bs) i
+  unfolding placeOf childOf
+  child-is q = q ∙ ap (λ x. x .opened - x .body) (s .is)
 
   pub line-is : here .line ≡ lineOf (tableOf bs) i
   unfolding placeOf

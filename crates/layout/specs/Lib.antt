@@ -2,3 +2,4 @@ pub mod Row
 pub mod Place
 pub mod Number
 pub mod Spot
+pub mod Layout

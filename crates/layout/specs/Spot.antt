@@ -9,12 +9,11 @@ use Rattle.rules.specs.declared.kind.Kind.{Kind}
 use Rattle.rules.specs.declared.kind.Kind.the-variants.{Function, Do, If, Else, Loop, End, Break, Continue, Call, Unknown}
 use Rattle.rules.specs.Row.{Table, tableOf, kindAt}
 use Rattle.rules.specs.Scan.{openAt, regions, regionOf, bodyRegion, openerOf, around, fromLoop, local, endOf, functionCount, functionRow}
-use Rattle.rules.specs.Value.{base, value}
+use Rattle.rules.specs.Value.{value}
 use Rattle.rules.specs.Check.{isOutside}
 use Rattle.rules.specs.Harden.{ownRegion}
 use Rattle.rules.specs.Links.{isOpening, elseLink}
 use Rattle.layout.specs.declared.spot.Spot.{Spot}
-use Rattle.layout.specs.declared.spot.Child.{Child}
 use Rattle.layout.specs.Number.{valueOf}
 
 -- a region of the function that has this body
@@ -46,10 +45,9 @@ pub record SpotIs (bs : List ℕ) (i : ℕ) (s : Spot) : Type 0 where
   pub e-is : s .e ≡ valueOf (tableOf bs) i
   pub low : s .e ≤ 4000
 
--- the region that row i opens, and its base
-pub record ChildIs (bs : List ℕ) (i : ℕ) (c : Child) : Type 0 where
-  pub r-is : c .r ≡ local (openAt (tableOf bs) i) (regions (tableOf bs) i)
-  pub base-is : c .base ≡ base (tableOf bs) (regions (tableOf bs) i)
+-- the number in the function of the region that row i opens
+unfoldable pub childOf : Table → (i : ℕ) → ℕ
+childOf t i = local (openAt t i) (regions t i)
 
 -- row i stands in its function's body and in no other part
 unfoldable pub inBody : Table → (i : ℕ) → Bool

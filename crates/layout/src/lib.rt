@@ -1,5 +1,22 @@
 // Where each row of an accepted table stands, which bases its regions have, and which value each row has.
+ghost use mathlib.Core.Path.{_≡_};
+ghost use Prim.Native.Nat.{_≤_};
+ghost use lib.ListN.{length};
+ghost use Rattle.rules.specs.declared.refusal.Verdict.the-variants.{Accepted};
+ghost use Rattle.rules.specs.Check.{verdictOf};
+ghost use Rattle.layout.specs.Layout.{Laid};
 pub mod number;
 pub mod place;
 pub mod row;
 pub mod spot;
+
+// Lays a table out: the map of its rows' places, the bases of its regions, the values of its rows.
+pub fn lay_out(rows: &[u8], map: &mut [u16], bases: &mut [u16], values: &mut [u16])
+    requires { ⌜ verdictOf (now rows) ≡ Accepted ⌝ }
+    requires { ⌜ (6150 ≤ length (now map)) × (1025 ≤ length (now bases)) × (1024 ≤ length (now values)) ⌝ }
+    ensures { λ _. ⌜ Laid (now (rows .entry)) (now (map .exit)) (now (bases .exit)) (now (values .exit)) ⌝ }
+{
+    place::survey(rows, map);
+    number::region_bases(rows, map, bases);
+    number::row_values(rows, map, bases, values);
+}

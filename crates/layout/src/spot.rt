@@ -9,7 +9,7 @@ ghost use Rattle.rules.specs.Value.{base};
 ghost use Rattle.rules.specs.Harden.{lineOf};
 ghost use Rattle.layout.specs.Place.{Surveyed};
 ghost use Rattle.layout.specs.Number.{Based, Valued};
-ghost use Rattle.layout.specs.Spot.{Near, Inside, InLoop, Opens, Grows, SpotIs, ChildIs, inBody, isLoop, OpenerIs, LoopIs, Head, CalleeIs, endOfBody, Ends, Heads};
+ghost use Rattle.layout.specs.Spot.{Near, Inside, InLoop, Opens, Grows, SpotIs, childOf, inBody, isLoop, OpenerIs, LoopIs, Head, CalleeIs, endOfBody, Ends, Heads};
 use crate::place;
 use crate::row;
 use rules::kind::Kind;
@@ -18,12 +18,6 @@ use rules::kind::Kind;
 pub struct Spot {
     pub r: u8,
     pub e: u16,
-}
-
-// The region that a row opens, by its number in the function, and its base.
-pub struct Child {
-    pub r: u8,
-    pub base: u16,
 }
 
 // The number of a region within its function.
@@ -55,16 +49,13 @@ pub fn base_of(rows: &[u8], map: &[u16], bases: &[u16], i: usize) -> u16
     bases[row::index(here.opened)]
 }
 
-// The region that row i opens.
-pub fn child_of(rows: &[u8], map: &[u16], bases: &[u16], i: usize) -> Child
-    requires { ⌜ (Surveyed (now rows) (now map)) × (Based (now rows) (now bases)) × (Grows (now rows) i) ⌝ }
-    ensures { λ r. ⌜ ChildIs (now (rows .entry)) i r ⌝ }
+// The region that row i opens, by its number in the function.
+pub fn child_of(rows: &[u8], map: &[u16], i: usize) -> u8
+    requires { ⌜ (Surveyed (now rows) (now map)) × (Grows (now rows) i) ⌝ }
+    ensures { λ r. ⌜ r ≡ childOf (tableOf (now (rows .entry))) i ⌝ }
 {
     let here = place::stand(rows, map, i);
-    Child {
-        r: local(here.opened, here.body),
-        base: base_of(rows, map, bases, i),
-    }
+    local(here.opened, here.body)
 }
 
 // The number of row i's first line.

@@ -5,24 +5,19 @@ use Rattle.layout.proofs.spot.child_of.Tie as tie
 use Rattle.layout.proofs.spot.child_of.Reads as reads
 use Rattle.layout.proofs.spot.child_of.Lts as lts
 use Rattle.layout.proofs.place.stand.Reads as stand-reads
-use Rattle.layout.proofs.spot.base_of.Reads as base-of-reads
 use Rattle.layout.proofs.spot.local.Reads as local-reads
 
--- src/spot.rt:63:9
+-- src/spot.rt:57:9
 stand-requires : tie.Need-stand-requires
 stand-requires c κs = search needs
 
--- src/spot.rt:65:12
+-- src/spot.rt:58:5
 local-requires : tie.Need-local-requires
 local-requires c κs = search (access, needs)
 
--- src/spot.rt:66:15
-base-of-requires : tie.Need-base-of-requires
-base-of-requires c κs = search needs
-
--- src/spot.rt:59:1
+-- src/spot.rt:53:1
 returns : tie.Need-returns
 returns c = search (access, needs)
 
 pub child-of-spec : {M : Type 1} → statement M
-child-of-spec = tie.close (tie.spec stand-requires local-requires base-of-requires returns)
+child-of-spec = tie.close (tie.spec stand-requires local-requires returns)
