@@ -1,0 +1,4 @@
+pub mod Puts
+pub mod RowLines
+pub mod Leaves
+pub mod Calls

@@ -1,0 +1,3 @@
+// Hardening an accepted table whose links are known.
+pub mod line;
+pub mod lines;
