@@ -2,3 +2,4 @@ pub mod Puts
 pub mod RowLines
 pub mod Leaves
 pub mod Calls
+pub mod Emits
