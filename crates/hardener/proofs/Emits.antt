@@ -27,7 +27,7 @@ use Rattle.rules.proofs.Harden.{line-suc, line-next, row-lines-length, harden-l
 use Rattle.rules.proofs.Function.{placed-in}
 use Rattle.rules.proofs.Encode.{line-length, lines-bytes-length}
 use Rattle.layout.specs.Place.{Surveyed}
-use Rattle.layout.specs.Spot.{Inside, InLoop, Ends, Elses, Heads}
+use Rattle.layout.specs.Spot.{Inside, InLoop, Linked}
 use Rattle.hardener.specs.declared.line.Line as Declared
 use Rattle.hardener.specs.Line.{struct, put}
 use Rattle.hardener.specs.Emit.{rowLine, Makes, Room, writtenTo, Emitted}
@@ -129,8 +129,39 @@ two-out {bs} {out} {mid} {out′} {i} {g} {l} {k} m e e′ w q q′ =
 pub kind-is : (bs : List ℕ) (i : ℕ) {k j : Kind} → k ≡ kindAt (tableOf bs) i → k ≡ j → kindAt (tableOf bs) i ≡ j
 kind-is bs i p q = sym p ∙ q
 
-pub makes : {bs : List ℕ} {i d : ℕ} (k j : Kind) → i < length bs / 6 → k ≡ kindAt (tableOf bs) i → k ≡ j → lineCount j ≡ d → Makes bs i d
-makes k j l p q h = record { row = l; are = ap lineCount (sym p ∙ q) ∙ h }
+makes : {bs : List ℕ} {i d : ℕ} {k : Kind} (j : Kind) → i < length bs / 6 → k ≡ kindAt (tableOf bs) i → k ≡ j → lineCount j ≡ d → Makes bs i d
+makes j l p q h = record { row = l; are = ap lineCount (sym p ∙ q) ∙ h }
+
+module _ {bs : List ℕ} {i : ℕ} {k : Kind} (l : i < length bs / 6) (p : k ≡ kindAt (tableOf bs) i) where
+  pub function-makes : k ≡ Function → Makes bs i 0
+  function-makes q = makes Function l p q refl
+
+  pub do-makes : k ≡ Do → Makes bs i 2
+  do-makes q = makes Do l p q refl
+
+  pub if-makes : k ≡ If → Makes bs i 1
+  if-makes q = makes If l p q refl
+
+  pub else-makes : k ≡ Else → Makes bs i 1
+  else-makes q = makes Else l p q refl
+
+  pub loop-makes : k ≡ Loop → Makes bs i 1
+  loop-makes q = makes Loop l p q refl
+
+  pub end-makes : k ≡ End → Makes bs i 1
+  end-makes q = makes End l p q refl
+
+  pub break-makes : k ≡ Break → Makes bs i 1
+  break-makes q = makes Break l p q refl
+
+  pub continue-makes : k ≡ Continue → Makes bs i 1
+  continue-makes q = makes Continue l p q refl
+
+  pub call-makes : k ≡ Call → Makes bs i 2
+  call-makes q = makes Call l p q refl
+
+  pub unknown-makes : k ≡ Unknown → Makes bs i 0
+  unknown-makes q = makes Unknown l p q refl
 
 then-open : (fs : List Open) → misplacedIn Else fs ≡ false → isOutside fs ≡ false
 unfolding misplacedIn
@@ -171,8 +202,6 @@ module _ {bs m : List ℕ} {i : ℕ} {k : Kind} (s : Surveyed bs m) (l : i < len
   pub in-call : k ≡ Call → Inside bs i
   unfolding misplacedIn
   in-call q = record { row = l; within = placed q }
-
-pub ruleset kinds = (kind-is, makes, in-do, in-if, in-else, in-loop, in-end, in-break, in-continue, in-call, none-out)
 
 -- ---- all rows
 pub record Emitting (bs held out : List ℕ) (i : ℕ) : Type 0 where
@@ -222,11 +251,11 @@ whole-answer bs held {out} {n} q h e =
     rw (le-ltb (length held) (length (hardenedBytes bs)) (omega arith), l, e)
 
 -- the links that hardening is given
-pub ends-of : (bs : List ℕ) {ends elses heads : List ℕ} → Links (tableOf bs) ends elses heads → 1024 ≤ length ends → Ends bs ends
-ends-of bs l r = record { room = r; each = l .ends-are }
-
-pub elses-of : (bs : List ℕ) {ends elses heads : List ℕ} → Links (tableOf bs) ends elses heads → 1024 ≤ length elses → Elses bs elses
-elses-of bs l r = record { room = r; each = l .elses-are }
-
-pub heads-of : (bs : List ℕ) {ends elses heads : List ℕ} → Links (tableOf bs) ends elses heads → 32 ≤ length heads → Heads bs heads
-heads-of bs l r = record { room = r; each = l .heads-are }
+pub linked : (bs : List ℕ) {ends elses heads : List ℕ} → Links (tableOf bs) ends elses heads → 1024 ≤ length ends → 1024 ≤ length elses
+    → 32 ≤ length heads → Linked bs ends elses heads
+linked bs l a b c =
+    record {
+      to-ends = record { room = a; each = l .ends-are };
+      to-elses = record { room = b; each = l .elses-are };
+      to-heads = record { room = c; each = l .heads-are };
+    }

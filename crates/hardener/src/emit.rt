@@ -7,7 +7,7 @@ ghost use Rattle.rules.specs.Harden.{hardenedBytes};
 ghost use Rattle.rules.specs.Calls.{over};
 ghost use Rattle.layout.specs.Place.{Surveyed};
 ghost use Rattle.layout.specs.Layout.{Laid};
-ghost use Rattle.layout.specs.Spot.{Ends, Elses, Heads};
+ghost use Rattle.layout.specs.Spot.{Linked};
 ghost use Rattle.hardener.specs.Line.{struct};
 ghost use Rattle.hardener.specs.Emit.{rowLine, Makes, Room, Emitted};
 use crate::line::Line;
@@ -38,20 +38,67 @@ fn two(rows: &[u8], map: &[u16], i: usize, l: Line, k: Line, out: &mut [u8])
 }
 
 // Writes the lines of row i.
-fn emit(rows: &[u8], map: &[u16], bases: &[u16], values: &[u16], ends: &[u16], elses: &[u16], heads: &[u16], i: usize, out: &mut [u8])
+fn emit(
+    rows: &[u8],
+    map: &[u16],
+    bases: &[u16],
+    values: &[u16],
+    ends: &[u16],
+    elses: &[u16],
+    heads: &[u16],
+    i: usize,
+    out: &mut [u8],
+)
     requires { ⌜ (Laid (now rows) (now map) (now bases) (now values)) × (i < length (now rows) / 6) × (Room (now rows) (now out)) ⌝ }
-    requires { ⌜ (Ends (now rows) (now ends)) × (Elses (now rows) (now elses)) × (Heads (now rows) (now heads)) ⌝ }
+    requires { ⌜ Linked (now rows) (now ends) (now elses) (now heads) ⌝ }
     ensures { λ _. ⌜ Emitted (now (rows .entry)) i (now (out .entry)) (now (out .exit)) ⌝ }
 {
     match row::kind(rows, i) {
         Kind::Function => {}
-        Kind::Do => two(rows, map, i, lines::do_line(rows, i), lines::tick_line(rows, map, values, i), out),
-        Kind::If => one(rows, map, i, lines::if_line(rows, map, bases, values, ends, elses, i), out),
-        Kind::Else => one(rows, map, i, lines::else_line(rows, map, values, ends, i), out),
-        Kind::Loop => one(rows, map, i, lines::loop_line(rows, map, bases, values, ends, i), out),
+        Kind::Do => two(
+            rows,
+            map,
+            i,
+            lines::do_line(rows, i),
+            lines::tick_line(rows, map, values, i),
+            out,
+        ),
+        Kind::If => one(
+            rows,
+            map,
+            i,
+            lines::if_line(rows, map, bases, values, ends, elses, i),
+            out,
+        ),
+        Kind::Else => one(
+            rows,
+            map,
+            i,
+            lines::else_line(rows, map, values, ends, i),
+            out,
+        ),
+        Kind::Loop => one(
+            rows,
+            map,
+            i,
+            lines::loop_line(rows, map, bases, values, ends, i),
+            out,
+        ),
         Kind::End => one(rows, map, i, lines::end_line(rows, map, values, i), out),
-        Kind::Break => one(rows, map, i, lines::break_line(rows, map, values, ends, i), out),
-        Kind::Continue => one(rows, map, i, lines::continue_line(rows, map, values, i), out),
+        Kind::Break => one(
+            rows,
+            map,
+            i,
+            lines::break_line(rows, map, values, ends, i),
+            out,
+        ),
+        Kind::Continue => one(
+            rows,
+            map,
+            i,
+            lines::continue_line(rows, map, values, i),
+            out,
+        ),
         Kind::Call => {
             let l = lines::call_line(rows, map, bases, values, heads, i);
             let k = lines::back_line(rows, map, values, ends, heads, i);
@@ -62,9 +109,18 @@ fn emit(rows: &[u8], map: &[u16], bases: &[u16], values: &[u16], ends: &[u16], e
 }
 
 // Writes the lines of all rows.
-pub fn emit_all(rows: &[u8], map: &[u16], bases: &[u16], values: &[u16], ends: &[u16], elses: &[u16], heads: &[u16], out: &mut [u8])
+pub fn emit_all(
+    rows: &[u8],
+    map: &[u16],
+    bases: &[u16],
+    values: &[u16],
+    ends: &[u16],
+    elses: &[u16],
+    heads: &[u16],
+    out: &mut [u8],
+)
     requires { ⌜ (Laid (now rows) (now map) (now bases) (now values)) × (Room (now rows) (now out)) ⌝ }
-    requires { ⌜ (Ends (now rows) (now ends)) × (Elses (now rows) (now elses)) × (Heads (now rows) (now heads)) ⌝ }
+    requires { ⌜ Linked (now rows) (now ends) (now elses) (now heads) ⌝ }
     ensures { λ _. ⌜ now (out .exit) ≡ over (hardenedBytes (now (rows .entry))) (now (out .entry)) ⌝ }
 {
     let n = rows.len() / row::WIDTH;

@@ -11,6 +11,7 @@ use crate::line::Line;
 use layout::row;
 use layout::spot;
 use rules::answer::Wrote;
+
 pub mod emit;
 pub mod line;
 pub mod lines;
@@ -19,7 +20,13 @@ pub mod lines;
 const SHORT_OUTPUT: u8 = 8;
 
 // Writes the hardened table to the front of out, where it fits there, and nothing where it does not.
-pub fn harden_linked(rows: &[u8], ends: &[u16; 1024], elses: &[u16; 1024], heads: &[u16; 32], out: &mut [u8]) -> Wrote
+pub fn harden_linked(
+    rows: &[u8],
+    ends: &[u16; 1024],
+    elses: &[u16; 1024],
+    heads: &[u16; 32],
+    out: &mut [u8],
+) -> Wrote
     requires { ⌜ verdictOf (now rows) ≡ Accepted ⌝ }
     requires { ⌜ Links (tableOf (now rows)) (now ends) (now elses) (now heads) ⌝ }
     ensures { λ r. ⌜ written r (now (out .exit)) ≡ writing (shortOutput (hardenedBytes (now (rows .entry))) (now (out .entry))) (hardenedBytes (now (rows .entry))) (now (out .entry)) ⌝ }

@@ -54,15 +54,33 @@ impl Line {
 
     // The kinds.
     pub const DO: u8 = 0x21;
+
     pub const TICK: u8 = 0x22;
+
     pub const TEST: u8 = 0x23;
+
     pub const LEAVE: u8 = 0x24;
+
     pub const OUT: u8 = 0x25;
+
     pub const CALL: u8 = 0x26;
+
     pub const BACK: u8 = 0x27;
+
     pub const RET: u8 = 0x28;
 
-    fn make(kind: u8, f: Fields, r: u8, s: u8, t: u8, e: u16, a: u16, b: u16, c: u16, go: u16) -> Line
+    fn make(
+        kind: u8,
+        f: Fields,
+        r: u8,
+        s: u8,
+        t: u8,
+        e: u16,
+        a: u16,
+        b: u16,
+        c: u16,
+        go: u16,
+    ) -> Line
         ensures { λ l. ⌜ l ≡ fields kind (operandsOf f) r s t e a b c «go» ⌝ }
     {
         Line {

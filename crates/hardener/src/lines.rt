@@ -32,7 +32,14 @@ pub fn tick_line(rows: &[u8], map: &[u16], values: &[u16], i: usize) -> Line
 }
 
 // The test of a loop, or of an if without an else.
-fn plain_test(rows: &[u8], map: &[u16], bases: &[u16], values: &[u16], ends: &[u16], i: usize) -> Line
+fn plain_test(
+    rows: &[u8],
+    map: &[u16],
+    bases: &[u16],
+    values: &[u16],
+    ends: &[u16],
+    i: usize,
+) -> Line
     requires { ⌜ (Surveyed (now rows) (now map)) × (Based (now rows) (now bases)) × (Valued (now rows) (now values)) ⌝ }
     requires { ⌜ (Ends (now rows) (now ends)) × (Inside (now rows) i) × (Opens (now rows) i) × (Grows (now rows) i) ⌝ }
     ensures { λ r. ⌜ r ≡ struct (plainTest (tableOf (now (rows .entry))) i) ⌝ }
@@ -57,11 +64,28 @@ fn else_test(rows: &[u8], map: &[u16], bases: &[u16], values: &[u16], x: usize, 
     let t = spot::child_of(rows, map, x);
     let b = spot::base_of(rows, map, bases, i);
     let c = spot::base_of(rows, map, bases, x);
-    Line::test(f, here.r, s, t, here.e, b, c, spot::line_after(rows, map, x))
+    Line::test(
+        f,
+        here.r,
+        s,
+        t,
+        here.e,
+        b,
+        c,
+        spot::line_after(rows, map, x),
+    )
 }
 
 // The test of the if in row i.
-pub fn if_line(rows: &[u8], map: &[u16], bases: &[u16], values: &[u16], ends: &[u16], elses: &[u16], i: usize) -> Line
+pub fn if_line(
+    rows: &[u8],
+    map: &[u16],
+    bases: &[u16],
+    values: &[u16],
+    ends: &[u16],
+    elses: &[u16],
+    i: usize,
+) -> Line
     requires { ⌜ (Surveyed (now rows) (now map)) × (Based (now rows) (now bases)) × (Valued (now rows) (now values)) ⌝ }
     requires { ⌜ (Ends (now rows) (now ends)) × (Elses (now rows) (now elses)) ⌝ }
     requires { ⌜ (Inside (now rows) i) × (kindAt (tableOf (now rows)) i ≡ Kind.If) ⌝ }
@@ -75,7 +99,14 @@ pub fn if_line(rows: &[u8], map: &[u16], bases: &[u16], values: &[u16], ends: &[
 }
 
 // The test of the loop in row i.
-pub fn loop_line(rows: &[u8], map: &[u16], bases: &[u16], values: &[u16], ends: &[u16], i: usize) -> Line
+pub fn loop_line(
+    rows: &[u8],
+    map: &[u16],
+    bases: &[u16],
+    values: &[u16],
+    ends: &[u16],
+    i: usize,
+) -> Line
     requires { ⌜ (Surveyed (now rows) (now map)) × (Based (now rows) (now bases)) × (Valued (now rows) (now values)) ⌝ }
     requires { ⌜ (Ends (now rows) (now ends)) × (Inside (now rows) i) × (kindAt (tableOf (now rows)) i ≡ Kind.Loop) ⌝ }
     ensures { λ r. ⌜ r ≡ struct (rowLine (tableOf (now (rows .entry))) i 0) ⌝ }
@@ -109,9 +140,23 @@ pub fn end_line(rows: &[u8], map: &[u16], values: &[u16], i: usize) -> Line
     let o = spot::opener_of(rows, map, i);
     let up = spot::spot_of(rows, map, values, o);
     if spot::is_loop(rows, o) {
-        return Line::leave(here.r, up.r, here.e, up.e, up.e + 1, spot::line_of(rows, map, o));
+        return Line::leave(
+            here.r,
+            up.r,
+            here.e,
+            up.e,
+            up.e + 1,
+            spot::line_of(rows, map, o),
+        );
     }
-    Line::leave(here.r, up.r, here.e, up.e + 2, up.e + 1, spot::line_after(rows, map, i))
+    Line::leave(
+        here.r,
+        up.r,
+        here.e,
+        up.e + 2,
+        up.e + 1,
+        spot::line_after(rows, map, i),
+    )
 }
 
 // The out of the break in row i.
@@ -142,7 +187,14 @@ pub fn continue_line(rows: &[u8], map: &[u16], values: &[u16], i: usize) -> Line
 }
 
 // The call in row i.
-pub fn call_line(rows: &[u8], map: &[u16], bases: &[u16], values: &[u16], heads: &[u16], i: usize) -> Line
+pub fn call_line(
+    rows: &[u8],
+    map: &[u16],
+    bases: &[u16],
+    values: &[u16],
+    heads: &[u16],
+    i: usize,
+) -> Line
     requires { ⌜ (Surveyed (now rows) (now map)) × (Based (now rows) (now bases)) × (Valued (now rows) (now values)) ⌝ }
     requires { ⌜ (Heads (now rows) (now heads)) × (Inside (now rows) i) × (kindAt (tableOf (now rows)) i ≡ Kind.Call) ⌝ }
     ensures { λ r. ⌜ r ≡ struct (rowLine (tableOf (now (rows .entry))) i 0) ⌝ }
@@ -154,12 +206,23 @@ pub fn call_line(rows: &[u8], map: &[u16], bases: &[u16], values: &[u16], heads:
 }
 
 // The back that follows it.
-pub fn back_line(rows: &[u8], map: &[u16], values: &[u16], ends: &[u16], heads: &[u16], i: usize) -> Line
+pub fn back_line(
+    rows: &[u8],
+    map: &[u16],
+    values: &[u16],
+    ends: &[u16],
+    heads: &[u16],
+    i: usize,
+) -> Line
     requires { ⌜ (Surveyed (now rows) (now map)) × (Valued (now rows) (now values)) × (Ends (now rows) (now ends)) ⌝ }
     requires { ⌜ (Heads (now rows) (now heads)) × (Inside (now rows) i) × (kindAt (tableOf (now rows)) i ≡ Kind.Call) ⌝ }
     ensures { λ r. ⌜ r ≡ struct (rowLine (tableOf (now (rows .entry))) i 1) ⌝ }
 {
     let here = spot::spot_of(rows, map, values, i);
     let o = spot::callee_of(rows, map, heads, i);
-    Line::back(here.r, here.e + 1, spot::end_value(rows, map, values, ends, o))
+    Line::back(
+        here.r,
+        here.e + 1,
+        spot::end_value(rows, map, values, ends, o),
+    )
 }

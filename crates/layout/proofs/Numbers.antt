@@ -67,7 +67,7 @@ spend-more {bs} {spent} {i} {g} {w} {here} s p q e =
         let z : x ≡ g = eqb-true x g y in
         rw z
         (getD-set-same spent g _ 0 (spend-in s p q) ∙ ap (λ v. v + w) (p .each g)
-            ∙ ap (λ v. taken (tableOf bs) g i + v) (e ∙ ap (λ v. takesIn (kindAt (tableOf bs) i) v (openAt (tableOf bs) i)) (sym own)))
+        ∙ ap (λ v. taken (tableOf bs) g i + v) (e ∙ ap (λ v. takesIn (kindAt (tableOf bs) i) v (openAt (tableOf bs) i)) (sym own)))
     by x false y =
         let n : x ≢ g = eqb-false x g y in
         getD-set-other spent g x _ 0 n ∙ p .each x

@@ -109,3 +109,8 @@ pub record Elses (bs elses : List ℕ) : Type 0 where
 pub record Heads (bs heads : List ℕ) : Type 0 where
   pub room : 32 ≤ length heads
   pub each : (n : ℕ) → n < functionCount (tableOf bs) → getD heads n 0 ≡ functionRow (tableOf bs) n
+
+pub record Linked (bs ends elses heads : List ℕ) : Type 0 where
+  pub to-ends : Ends bs ends
+  pub to-elses : Elses bs elses
+  pub to-heads : Heads bs heads

@@ -5,6 +5,7 @@ ghost use lib.ListN.{length};
 ghost use Rattle.rules.specs.declared.refusal.Verdict.the-variants.{Accepted};
 ghost use Rattle.rules.specs.Check.{verdictOf};
 ghost use Rattle.layout.specs.Layout.{Laid};
+
 pub mod number;
 pub mod place;
 pub mod row;

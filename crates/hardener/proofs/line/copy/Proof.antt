@@ -1,16 +1,15 @@
-use Rattle.hardener.proofs.Puts.{copies}
-use borrow.Author.Needs.{needs}
-use native.Mathlib.Omega.{arith}
-use mathlib.Core.Path.{_≡_, refl}
-use denote.Ref.{now}
+-- `hardener::line::copy` meets its contract. The loop's invariant: the first j bytes are copied; the measure is the bytes
+-- left.
+use mathlib.Core.Path.{_≡_}
 use Prim.Native.Nat.{_≤_, _-_}
-use native.Mathlib.Numerals.{add-one}
+use native.Mathlib.Omega.{arith}
 use lib.ListN.{length, length-set}
-use lib.Seq.{paste, paste-zero, paste-suc}
+use lib.Seq.{paste}
+use denote.Ref.{now}
+use borrow.Author.Needs.{needs}
+use Rattle.hardener.proofs.Puts.{copies}
 use Rattle.hardener.proofs.line.copy.Statement.{statement}
 use Rattle.hardener.proofs.line.copy.Tie as tie
-use Rattle.hardener.proofs.line.copy.Reads as reads
-use Rattle.hardener.proofs.line.copy.Lts as lts
 
 abbrev Inv-loop : tie.InvT-loop
 Inv-loop from to₀ at j₀ to j = (j ≤ length from) × (length to ≡ length to₀) × (to ≡ paste to₀ at from j)

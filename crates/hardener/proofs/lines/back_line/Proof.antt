@@ -1,37 +1,32 @@
-use Rattle.hardener.proofs.Calls.{head-of, back-line}
+-- `hardener::lines::back_line` meets its contract.
 use borrow.Author.Needs.{needs}
+use Rattle.hardener.proofs.Calls.{back-line}
 use Rattle.hardener.proofs.lines.back_line.Statement.{statement}
 use Rattle.hardener.proofs.lines.back_line.Tie as tie
-use Rattle.hardener.proofs.lines.back_line.Reads as reads
-use Rattle.hardener.proofs.lines.back_line.Lts as lts
-use Rattle.hardener.proofs.line.Line.back.Reads as back-reads
-use Rattle.layout.proofs.spot.callee_of.Reads as callee-of-reads
-use Rattle.layout.proofs.spot.end_value.Reads as end-value-reads
-use Rattle.layout.proofs.spot.spot_of.Reads as spot-of-reads
 
--- src/lines.rt:162:9
 spot-of-requires : tie.Need-spot-of-requires
 spot-of-requires c κs = search needs
 
--- src/lines.rt:163:9
 callee-of-requires : tie.Need-callee-of-requires
 callee-of-requires c κs = search needs
 
--- src/lines.rt:164:24
 add-back : tie.Need-add-back
 add-back c = search needs
 
--- src/lines.rt:164:36
 end-value-requires : tie.Need-end-value-requires
 end-value-requires c κs = search needs
 
--- src/lines.rt:164:5
 back-requires : tie.Need-back-requires
 back-requires c κs = search needs
 
--- src/lines.rt:157:1
 returns : tie.Need-returns
-returns c = back-line (c .before .before .before .before .before .before .before .before .before .before .pre .1 .2) (c .before .before .before .callee-of .ensures) (c .before .before .before .before .spot-of .ensures) (c .before .end-value .ensures) (c .back .ensures)
+returns c =
+    back-line
+    (c .before .before .before .before .before .before .before .before .before .before .pre .1 .2)
+    (c .before .before .before .callee-of .ensures)
+    (c .before .before .before .before .spot-of .ensures)
+    (c .before .end-value .ensures)
+    (c .back .ensures)
 
 pub back-line-spec : {M : Type 1} → statement M
 back-line-spec =

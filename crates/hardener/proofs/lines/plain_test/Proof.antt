@@ -1,47 +1,39 @@
-use Rattle.hardener.proofs.RowLines.{plain-is}
+-- `hardener::lines::plain_test` meets its contract.
 use borrow.Author.Needs.{needs}
+use Rattle.hardener.proofs.RowLines.{plain-is}
 use Rattle.hardener.proofs.lines.plain_test.Statement.{statement}
 use Rattle.hardener.proofs.lines.plain_test.Tie as tie
-use Rattle.hardener.proofs.lines.plain_test.Reads as reads
-use Rattle.hardener.proofs.lines.plain_test.Lts as lts
-use Rattle.hardener.proofs.line.Line.test.Reads as test-reads
-use Rattle.layout.proofs.row.fields_of.Reads as fields-of-reads
-use Rattle.layout.proofs.spot.base_of.Reads as base-of-reads
-use Rattle.layout.proofs.spot.child_of.Reads as child-of-reads
-use Rattle.layout.proofs.spot.line_past.Reads as line-past-reads
-use Rattle.layout.proofs.spot.spot_of.Reads as spot-of-reads
 
--- src/lines.rt:40:9
 fields-of-requires : tie.Need-fields-of-requires
 fields-of-requires c κs = search needs
 
--- src/lines.rt:41:9
 spot-of-requires : tie.Need-spot-of-requires
 spot-of-requires c κs = search needs
 
--- src/lines.rt:42:9
 child-of-requires : tie.Need-child-of-requires
 child-of-requires c κs = search needs
 
--- src/lines.rt:43:9
 base-of-requires : tie.Need-base-of-requires
 base-of-requires c κs = search needs
 
--- src/lines.rt:44:9
 line-past-requires : tie.Need-line-past-requires
 line-past-requires c κs = search needs
 
--- src/lines.rt:45:49
 add-test : tie.Need-add-test
 add-test c = search needs
 
--- src/lines.rt:45:5
 test-requires : tie.Need-test-requires
 test-requires c κs = search needs
 
--- src/lines.rt:35:1
 returns : tie.Need-returns
-returns c = plain-is (c .before .before .before .before .before .before .fields-of .ensures) (c .before .before .before .before .before .spot-of .ensures) (c .before .before .before .before .child-of .ensures) (c .before .before .before .base-of .ensures) (c .before .before .line-past .ensures) (c .test .ensures)
+returns c =
+    plain-is
+    (c .before .before .before .before .before .before .fields-of .ensures)
+    (c .before .before .before .before .before .spot-of .ensures)
+    (c .before .before .before .before .child-of .ensures)
+    (c .before .before .before .base-of .ensures)
+    (c .before .before .line-past .ensures)
+    (c .test .ensures)
 
 pub plain-test-spec : {M : Type 1} → statement M
 plain-test-spec =

@@ -1,13 +1,11 @@
-use borrow.Author.Needs.{needs}
-use native.Mathlib.Omega.{arith}
+-- `layout::number::row_values` meets its contract. The loop's invariant: the words below i are the values, and `spent` is
+-- what the rows before row i take; the measure is the rows left.
 use Prim.Native.Nat.{_-_}
+use native.Mathlib.Omega.{arith}
+use borrow.Author.Needs.{needs}
 use Rattle.layout.proofs.Numbers.{Valuing, valuings}
 use Rattle.layout.proofs.number.row_values.Statement.{statement}
 use Rattle.layout.proofs.number.row_values.Tie as tie
-use Rattle.layout.proofs.number.row_values.Reads as reads
-use Rattle.layout.proofs.number.row_values.Lts as lts
-use Rattle.layout.proofs.number.spend.Reads as spend-reads
-use Rattle.layout.proofs.number.value.Reads as value-reads
 
 abbrev Inv-loop : tie.InvT-loop
 Inv-loop rows map bases values₀ spent₀ n i₀ values spent i = Valuing rows values₀ values spent i
@@ -15,51 +13,39 @@ Inv-loop rows map bases values₀ spent₀ n i₀ values spent i = Valuing rows 
 abbrev μ-loop : tie.MeasureT-loop
 μ-loop rows map bases values₀ spent₀ n i₀ values spent i = n - i
 
--- src/number.rt:108:5
 loop-holds : tie.Need-loop-holds Inv-loop μ-loop
 loop-holds c = search (valuings, needs)
 
--- src/number.rt:109:45
 slice-aggregate-value : tie.Need-slice-aggregate-value Inv-loop μ-loop
 slice-aggregate-value c = search (valuings, needs)
 
--- src/number.rt:109:21
 value-requires : tie.Need-value-requires Inv-loop μ-loop
 value-requires c κs = search (valuings, needs)
 
--- src/number.rt:109:9
 mul-values : tie.Need-mul-values Inv-loop μ-loop
 mul-values c = search (valuings, needs)
 
--- src/number.rt:109:9
 slice-write-values : tie.Need-slice-write-values Inv-loop μ-loop
 slice-write-values c = search (valuings, needs)
 
--- src/number.rt:110:29
 slice-aggregate-spend : tie.Need-slice-aggregate-spend Inv-loop μ-loop
 slice-aggregate-spend c = search (valuings, needs)
 
--- src/number.rt:110:9
 spend-requires : tie.Need-spend-requires Inv-loop μ-loop
 spend-requires c κs = search (valuings, needs)
 
--- src/number.rt:111:9
 add-i : tie.Need-add-i Inv-loop μ-loop
 add-i c = omega arith
 
--- src/number.rt:108:5
 loop-less : tie.Need-loop-less Inv-loop μ-loop
 loop-less c = omega arith
 
--- src/number.rt:108:5
 loop-again : tie.Need-loop-again Inv-loop μ-loop
 loop-again c = search (valuings, needs)
 
--- src/number.rt:101:1
 same-length : tie.Need-same-length Inv-loop μ-loop
 same-length c = search (valuings, needs)
 
--- src/number.rt:101:1
 returns : tie.Need-returns Inv-loop μ-loop
 returns c = search (valuings, needs)
 

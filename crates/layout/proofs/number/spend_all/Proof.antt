@@ -1,12 +1,11 @@
-use borrow.Author.Needs.{needs}
-use native.Mathlib.Omega.{arith}
+-- `layout::number::spend_all` meets its contract. The loop's invariant: the words are what the rows before row i take; the
+-- measure is the rows left.
 use Prim.Native.Nat.{_-_}
+use native.Mathlib.Omega.{arith}
+use borrow.Author.Needs.{needs}
 use Rattle.layout.proofs.Numbers.{Spending, spendings}
 use Rattle.layout.proofs.number.spend_all.Statement.{statement}
 use Rattle.layout.proofs.number.spend_all.Tie as tie
-use Rattle.layout.proofs.number.spend_all.Reads as reads
-use Rattle.layout.proofs.number.spend_all.Lts as lts
-use Rattle.layout.proofs.number.spend.Reads as spend-reads
 
 abbrev Inv-loop : tie.InvT-loop
 Inv-loop rows map spent₀ n i₀ spent i = Spending rows spent₀ spent i
@@ -14,31 +13,24 @@ Inv-loop rows map spent₀ n i₀ spent i = Spending rows spent₀ spent i
 abbrev μ-loop : tie.MeasureT-loop
 μ-loop rows map spent₀ n i₀ spent i = n - i
 
--- src/number.rt:55:5
 loop-holds : tie.Need-loop-holds Inv-loop μ-loop
 loop-holds c = search (spendings, needs)
 
--- src/number.rt:56:9
 spend-requires : tie.Need-spend-requires Inv-loop μ-loop
 spend-requires c κs = search (spendings, needs)
 
--- src/number.rt:57:9
 add-i : tie.Need-add-i Inv-loop μ-loop
 add-i c = omega arith
 
--- src/number.rt:55:5
 loop-less : tie.Need-loop-less Inv-loop μ-loop
 loop-less c = omega arith
 
--- src/number.rt:55:5
 loop-again : tie.Need-loop-again Inv-loop μ-loop
 loop-again c = search (spendings, needs)
 
--- src/number.rt:49:1
 same-length : tie.Need-same-length Inv-loop μ-loop
 same-length c = search (spendings, needs)
 
--- src/number.rt:49:1
 returns : tie.Need-returns Inv-loop μ-loop
 returns c = search (spendings, needs)
 

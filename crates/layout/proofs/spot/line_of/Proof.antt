@@ -1,16 +1,12 @@
-use Rattle.layout.proofs.Spots.{access}
+-- `layout::spot::line_of` meets its contract.
 use borrow.Author.Needs.{needs}
+use Rattle.layout.proofs.Spots.{access}
 use Rattle.layout.proofs.spot.line_of.Statement.{statement}
 use Rattle.layout.proofs.spot.line_of.Tie as tie
-use Rattle.layout.proofs.spot.line_of.Reads as reads
-use Rattle.layout.proofs.spot.line_of.Lts as lts
-use Rattle.layout.proofs.place.stand.Reads as stand-reads
 
--- src/spot.rt:75:9
 stand-requires : tie.Need-stand-requires
 stand-requires c κs = search needs
 
--- src/spot.rt:71:1
 returns : tie.Need-returns
 returns c = search (access, needs)
 
