@@ -1,0 +1,6 @@
+pub mod Numbering
+pub mod Stores
+pub mod LineRows
+pub mod Passes
+pub mod Compares
+pub mod Finds

@@ -1,0 +1,109 @@
+-- Reading the rows line by line. Assumes nothing.
+use mathlib.Core.Path.{_≡_, refl, sym, ap, _∙_, subst}
+use mathlib.Core.Bool.{Bool, true, false, cond}
+use mathlib.Core.List.{List, [], _∷_, _++_, append-assoc}
+use Prim.Native.Nat.{ℕ, zero, suc, _+_, _*_, _-_, _/_, _≤_, _<_}
+use native.Mathlib.Omega.{arith}
+use lib.ListN.{length, length-append}
+use Rattle.rules.specs.Row.{Row, Table, rowBytes, tableBytes}
+use Rattle.rules.specs.Line.{Line, doLine, tickLine, testLine, leaveLine, outLine, callLine, backLine, retLine, lineWidth, linesIn, lineAt}
+use Rattle.rules.specs.ReadBack.{rowFor, begins, functionRowIf, unreadTo, unread, sourceBytes}
+use Rattle.machine.proofs.Decode.{length-lines}
+use Rattle.reader.specs.Functions.{Short}
+use Rattle.reader.specs.Row.{Added}
+use Rattle.reader.specs.Candidate.{Here, Fronted}
+use Rattle.reader.proofs.Stores.{added-none, added-both, added-length, added-front}
+
+-- ---- bytes of rows
+bytes-append : (s t : Table) → tableBytes (s ++ t) ≡ tableBytes s ++ tableBytes t
+unfolding tableBytes
+bytes-append [] t = refl
+bytes-append (r ∷ s) t = ap (λ x. rowBytes r ++ x) (bytes-append s t) ∙ sym (append-assoc (rowBytes r) (tableBytes s) (tableBytes t))
+
+one-row : (t : Table) → length t ≤ 1 → length (tableBytes t) ≤ 6
+unfolding tableBytes rowBytes
+one-row [] h = omega arith
+one-row (r ∷ []) h = omega arith
+one-row (r ∷ s ∷ t) h = absurd (let z : ⊥ = omega arith in z)
+
+line-rows : (ls : List Line) (k : ℕ) (l : Line) → length (rowFor ls k l) ≤ 1
+unfolding rowFor
+line-rows ls k (doLine o e) = omega arith
+line-rows ls k (tickLine r e a) = omega arith
+line-rows ls k (testLine o r s t e a b c go) = omega arith
+line-rows ls k (leaveLine r s e a b go) = omega arith
+line-rows ls k (outLine r s t e a go) = omega arith
+line-rows ls k (callLine r e a b go) = omega arith
+line-rows ls k (backLine r e a b) = omega arith
+line-rows ls k (retLine e a) = omega arith
+
+function-rows : (b : Bool) → length (functionRowIf b) ≤ 1
+function-rows true = omega arith
+function-rows false = omega arith
+
+-- ---- more lines, more rows
+grows : (ls : List Line) (k d : ℕ) → length (tableBytes (unreadTo ls k)) ≤ length (tableBytes (unreadTo ls (d + k)))
+unfolding unreadTo
+grows ls k zero = subst (λ j. length (tableBytes (unreadTo ls k)) ≤ length (tableBytes (unreadTo ls j))) (let q : k ≡ 0 + k = omega arith in q) (omega arith)
+grows ls k (suc d) =
+    let more = functionRowIf (begins ls (d + k)) ++ rowFor ls (d + k) (lineAt ls (d + k)) in
+    subst (λ j. length (tableBytes (unreadTo ls k)) ≤ length (tableBytes (unreadTo ls j))) (let q : suc (d + k) ≡ suc d + k = omega arith in q)
+    (omega (arith, grows ls k d, ap length (bytes-append (unreadTo ls (d + k)) more), length-append (tableBytes (unreadTo ls (d + k))) (tableBytes more)))
+
+-- ---- the rows of the lines before this one are written
+pub record Reading (bs rows₀ rows : List ℕ) (at line : ℕ) : Type 0 where
+  pub few : line ≤ length bs / lineWidth
+  pub room : at ≤ 6156
+  pub length-is : length rows ≡ 6156
+  pub length-was : length rows₀ ≡ 6156
+  pub added : Added (tableBytes (unreadTo (linesIn bs) line)) rows₀ rows 0 at
+
+pub reading-first : {bs rows : List ℕ} → length rows ≡ 6156 → Reading bs rows rows 0 0
+unfolding unreadTo tableBytes
+reading-first {bs} {rows} h =
+    record { few = omega arith; room = omega arith; length-is = h; length-was = h; added = added-none rows 0 }
+
+-- there is room for the second row of a line
+pub opened-low : (b : Bool) {rows rows′ : List ℕ} {at opened : ℕ} → Added (tableBytes (functionRowIf b)) rows rows′ at opened → opened ≤ at + 6
+opened-low b a = omega (arith, a .to-is, one-row (functionRowIf b) (function-rows b))
+
+pub reading-next : {bs rows₀ rows rows′ rows″ : List ℕ} {at opened to line : ℕ} → Reading bs rows₀ rows at line → line < length bs / lineWidth → at ≤ 6144
+    → Added (tableBytes (functionRowIf (begins (linesIn bs) line))) rows rows′ at opened
+    → Added (tableBytes (rowFor (linesIn bs) line (lineAt (linesIn bs) line))) rows′ rows″ opened to → Reading bs rows₀ rows″ to (line + 1)
+unfolding unreadTo
+reading-next {bs} {rows₀} {rows} {rows′} {rows″} {at} {opened} {to} {line} r l h a b =
+    let ls = linesIn bs in
+    let first = functionRowIf (begins ls line) in
+    let second = rowFor ls line (lineAt ls line) in
+    let q : suc line ≡ line + 1 = omega arith in
+    record {
+      few = omega arith;
+      room = omega (arith, opened-low (begins ls line) a, b .to-is, one-row second (line-rows ls line (lineAt ls line)));
+      length-is = added-length (tableBytes second) b ∙ added-length (tableBytes first) a ∙ r .length-is;
+      length-was = r .length-was;
+      added =
+          subst (λ xs. Added xs rows₀ rows″ 0 to)
+          (ap (λ x. tableBytes (unreadTo ls line) ++ x) (sym (bytes-append first second)) ∙ sym (bytes-append (unreadTo ls line) (first ++ second))
+          ∙ ap (λ k. tableBytes (unreadTo ls k)) q)
+          (added-both (tableBytes (unreadTo ls line)) (tableBytes first ++ tableBytes second) (r .added) (added-both (tableBytes first) (tableBytes second) a b));
+    }
+
+pub reading-last : {bs rows₀ rows : List ℕ} {at line : ℕ} → Reading bs rows₀ rows at line → length bs / lineWidth ≤ line → Fronted bs rows at
+unfolding sourceBytes
+reading-last {bs} {rows₀} {rows} {at} {line} r h =
+    let q : line ≡ length (linesIn bs) = omega (arith, length-lines bs, r .few) in
+    let e : tableBytes (unreadTo (linesIn bs) line) ≡ tableBytes (unread (linesIn bs)) = ap (λ k. tableBytes (unreadTo (linesIn bs) k)) q in
+    record {
+      room = r .room;
+      count-is = omega (arith, r .added .to-is, ap length e);
+      front-is = added-front (tableBytes (unreadTo (linesIn bs) line)) (r .added) (omega (arith, r .added .to-is, r .room, r .length-was)) ∙ e;
+    }
+
+pub reading-long : {bs rows₀ rows : List ℕ} {at line : ℕ} → Reading bs rows₀ rows at line → 6144 < at → 6144 < length (sourceBytes bs)
+unfolding sourceBytes
+reading-long {bs} {rows₀} {rows} {at} {line} r h =
+    let d = length (linesIn bs) - line in
+    let q : d + line ≡ length (linesIn bs) = omega (arith, length-lines bs, r .few) in
+    omega (arith, r .added .to-is, grows (linesIn bs) line d, ap (λ k. length (tableBytes (unreadTo (linesIn bs) k))) q)
+
+pub ruleset readings = (reading-first, reading-next, reading-last, reading-long)

@@ -1,0 +1,57 @@
+use mathlib.Core.Path.{ap, sym, _∙_, refl}
+use denote.Ref.{now}
+use native.Mathlib.Omega.{arith}
+use Rattle.reader.proofs.Numbering.{owner-inside, owner-beyond}
+use Rattle.rules.specs.Line.{linesIn}
+use Rattle.rules.specs.Function.{functionAt}
+use borrow.Author.Needs.{needs}
+use Rattle.reader.proofs.candidate.callee.Statement.{statement}
+use Rattle.reader.proofs.candidate.callee.Tie as tie
+use Rattle.reader.proofs.candidate.callee.Reads as reads
+use Rattle.reader.proofs.candidate.callee.Lts as lts
+use Rattle.reader.proofs.candidate.target.Reads as target-reads
+
+-- src/candidate.rt:134:14
+target-requires : tie.Need-target-requires
+target-requires c κs = search needs
+
+-- src/candidate.rt:134:14
+cast-go : tie.Need-cast-go
+cast-go c = search needs
+
+-- src/candidate.rt:136:16
+mul-result : tie.Need-mul-result
+mul-result c = search needs
+
+-- src/candidate.rt:136:16
+element-copy-out-result : tie.Need-element-copy-out-result
+element-copy-out-result c = search needs
+
+-- src/candidate.rt:136:9
+returns : tie.Need-returns
+returns c = owner-inside (c .before .before .before .before .pre .1) (omega arith) ∙ ap (functionAt (linesIn (now (c .before .before .before .before .args .lines)))) (c .before .before .target .ensures)
+
+-- src/candidate.rt:138:5
+mul-result-2 : tie.Need-mul-result-2
+mul-result-2 c = search needs
+
+-- src/candidate.rt:138:5
+element-copy-out-result-2 : tie.Need-element-copy-out-result-2
+element-copy-out-result-2 c = search needs
+
+-- src/candidate.rt:129:1
+returns-2 : tie.Need-returns-2
+returns-2 c = owner-beyond (c .before .before .before .before .pre .1) (omega arith) ∙ ap (functionAt (linesIn (now (c .before .before .before .before .args .lines)))) (c .before .before .target .ensures)
+
+pub callee-spec : {M : Type 1} → statement M
+callee-spec =
+    tie.close
+    (tie.spec
+    target-requires
+    cast-go
+    mul-result
+    element-copy-out-result
+    returns
+    mul-result-2
+    element-copy-out-result-2
+    returns-2)

@@ -1,0 +1,26 @@
+use denote.Ref.{now}
+use Rattle.machine.specs.Fields.{fieldsAt}
+use Rattle.reader.proofs.Numbering.{chosen, other}
+use borrow.Author.Tests.{lt-ltb, le-ltb}
+use native.Mathlib.Omega.{arith}
+use borrow.Author.Needs.{needs}
+use Rattle.reader.proofs.candidate.out_kind.Statement.{statement}
+use Rattle.reader.proofs.candidate.out_kind.Tie as tie
+use Rattle.reader.proofs.candidate.out_kind.Reads as reads
+use Rattle.reader.proofs.candidate.out_kind.Lts as lts
+use Rattle.reader.proofs.candidate.target.Reads as target-reads
+
+-- src/candidate.rt:122:15
+target-requires : tie.Need-target-requires
+target-requires c κs = search needs
+
+-- src/candidate.rt:123:9
+returns : tie.Need-returns
+returns c = chosen 7 8 (lt-ltb (c .before .before .before .args .line) (fieldsAt (now (c .before .before .before .args .lines)) (c .before .before .before .args .line) .go) (omega (arith, c .before .target .ensures)))
+
+-- src/candidate.rt:118:1
+returns-2 : tie.Need-returns-2
+returns-2 c = other 7 8 (le-ltb (c .before .before .before .args .line) (fieldsAt (now (c .before .before .before .args .lines)) (c .before .before .before .args .line) .go) (omega (arith, c .before .target .ensures)))
+
+pub out-kind-spec : {M : Type 1} → statement M
+out-kind-spec = tie.close (tie.spec target-requires returns returns-2)

@@ -1,0 +1,20 @@
+use Rattle.reader.proofs.Compares.{and-kept, and-lost}
+use mathlib.Core.Path.{ap, sym, _∙_, refl}
+use borrow.Author.Needs.{needs}
+use lib.Dec.{eqb}
+use mathlib.Core.Bool.{_&&_}
+use Rattle.reader.proofs.compare.and_same.Statement.{statement}
+use Rattle.reader.proofs.compare.and_same.Tie as tie
+use Rattle.reader.proofs.compare.and_same.Reads as reads
+use Rattle.reader.proofs.compare.and_same.Lts as lts
+
+-- src/compare.rt:36:9
+returns : tie.Need-returns
+returns c = and-kept (c .before .args .equal) (c .before .args .x) (c .before .args .y) (c .if1 .taken)
+
+-- src/compare.rt:32:1
+returns-2 : tie.Need-returns-2
+returns-2 c = and-lost (c .before .args .equal) (c .before .args .x) (c .before .args .y) (c .if1 .left)
+
+pub and-same-spec : {M : Type 1} → statement M
+and-same-spec = tie.close (tie.spec returns returns-2)

@@ -1,0 +1,25 @@
+use mathlib.Core.Path.{ap, sym, _∙_, refl, subst}
+use denote.Ref.{now}
+use native.Mathlib.Omega.{arith}
+use Rattle.reader.proofs.Finds.{judged}
+use borrow.Author.Needs.{needs}
+use Rattle.reader.proofs.judge.Statement.{statement}
+use Rattle.reader.proofs.judge.Tie as tie
+use Rattle.reader.proofs.judge.Reads as reads
+use Rattle.reader.proofs.judge.Lts as lts
+use Rattle.reader.proofs.compare.hardens_to.Reads as hardens-to-reads
+
+-- src/lib.rt:54:8
+hardens-to-requires : tie.Need-hardens-to-requires
+hardens-to-requires c κs = search needs
+
+-- src/lib.rt:55:9
+returns : tie.Need-returns
+returns c = (refl, judged (now (c .before .before .before .before .args .lines)) (now (c .before .before .before .before .args .rows)) (sym (c .if1 .taken) ∙ c .before .hardens-to .ensures))
+
+-- src/lib.rt:50:1
+returns-2 : tie.Need-returns-2
+returns-2 c = judged (now (c .before .before .before .before .args .lines)) (now (c .before .before .before .before .args .rows)) (sym (c .if1 .left) ∙ c .before .hardens-to .ensures)
+
+pub judge-spec : {M : Type 1} → statement M
+judge-spec = tie.close (tie.spec hardens-to-requires returns returns-2)

@@ -1,0 +1,24 @@
+use Rattle.reader.proofs.Stores.{call-is}
+use mathlib.Core.Path.{ap, sym, _∙_, refl, subst}
+use borrow.Author.Needs.{needs}
+use Rattle.reader.proofs.row.Row.call.Statement.{statement}
+use Rattle.reader.proofs.row.Row.call.Tie as tie
+use Rattle.reader.proofs.row.Row.call.Reads as reads
+use Rattle.reader.proofs.row.Row.call.Lts as lts
+use Rattle.reader.proofs.row.high.Reads as high-reads
+use Rattle.reader.proofs.row.low.Reads as low-reads
+
+-- src/row.rt:71:18
+low-requires : tie.Need-low-requires
+low-requires c κs = search needs
+
+-- src/row.rt:72:19
+high-requires : tie.Need-high-requires
+high-requires c κs = search needs
+
+-- src/row.rt:63:5
+returns : tie.Need-returns
+returns c = call-is (c .before .before .args .kind) (c .before .before .args .function) _ _ (c .before .low .ensures) (c .high .ensures)
+
+pub call-spec : {M : Type 1} → statement M
+call-spec = tie.close (tie.spec low-requires high-requires returns)

@@ -1,0 +1,50 @@
+-- The rows that lines are read back to, as bytes.
+use Prim.Native.Nat.{ℕ, suc, _+_, _*_, _-_, _≤_, _<_}
+use mathlib.Core.Path.{_≡_}
+use mathlib.Core.Bool.{Bool, true, false, cond}
+use mathlib.Core.List.{List}
+use lib.Dec.{ltb}
+use lib.ListN.{length, take}
+use Rattle.rules.specs.Line.{lineWidth, linesIn, lineAt}
+use Rattle.rules.specs.ReadBack.{leavesTo, sourceBytes}
+use Rattle.machine.specs.declared.fields.LineKind.{LineKind}
+use Rattle.machine.specs.declared.fields.LineKind.the-variants.{Do, Tick, Test, Leave, Out, Call, Back, Ret}
+use Rattle.machine.specs.Fields.{fieldsAt}
+use Rattle.reader.specs.declared.candidate.Candidate.{Candidate}
+use Rattle.reader.specs.declared.candidate.Candidate.the-variants.{TooLong, Bytes}
+use Rattle.reader.specs.Functions.{Short}
+
+abbrev pub isLeave : LineKind → Bool
+isLeave Do = false
+isLeave Tick = false
+isLeave Test = false
+isLeave Leave = true
+isLeave Out = false
+isLeave Call = false
+isLeave Back = false
+isLeave Ret = false
+
+-- line k is a line of the table
+pub record Here (bs : List ℕ) (k : ℕ) : Type 0 where
+  pub table : Short bs
+  pub inside : lineWidth * k + lineWidth ≤ length bs
+
+-- the kind bytes of the rows that a test, a leave and an out in line k stand for
+abbrev pub testKind : List ℕ → (k : ℕ) → ℕ
+testKind bs k = cond (leavesTo k (lineAt (linesIn bs) (fieldsAt bs k .go - 1))) 0x05 0x03
+
+abbrev pub leaveKind : List ℕ → (k : ℕ) → ℕ
+leaveKind bs k = cond (ltb (suc k) (fieldsAt bs k .go)) 0x04 0x06
+
+abbrev pub outKind : List ℕ → (k : ℕ) → ℕ
+outKind bs k = cond (ltb k (fieldsAt bs k .go)) 0x07 0x08
+
+-- the rows are at the front of the buffer, or they are more than a table may have
+pub record Fronted (lines rows : List ℕ) (n : ℕ) : Type 0 where
+  pub room : n ≤ 6156
+  pub count-is : n ≡ length (sourceBytes lines)
+  pub front-is : take n rows ≡ sourceBytes lines
+
+abbrev pub CandidateIs : (lines rows : List ℕ) → Candidate → Type 0
+CandidateIs lines rows TooLong = 6144 < length (sourceBytes lines)
+CandidateIs lines rows (Bytes n) = Fronted lines rows n

@@ -1,0 +1,4 @@
+pub mod Functions
+pub mod Row
+pub mod Candidate
+pub mod Found

@@ -1,0 +1,197 @@
+// The rows that lines are read back to, whether or not they are a table.
+ghost use mathlib.Core.Path.{_≡_};
+ghost use Prim.Native.Nat.{_+_, _*_, _≤_};
+ghost use lib.ListN.{length};
+ghost use Rattle.rules.specs.Row.{tableBytes};
+ghost use Rattle.rules.specs.Line.{linesIn, lineAt};
+ghost use Rattle.rules.specs.Function.{functionAt};
+ghost use Rattle.rules.specs.ReadBack.{leavesTo, begins, functionRowIf, rowFor};
+ghost use Rattle.machine.specs.Fields.{fieldsAt};
+ghost use Rattle.reader.specs.Functions.{Short, Numbered};
+ghost use Rattle.reader.specs.Row.{Added};
+ghost use Rattle.reader.specs.Candidate.{isLeave, testKind, leaveKind, outKind, Here, CandidateIs};
+use crate::functions;
+use crate::row::Row;
+use machine::fields;
+use machine::fields::LineKind;
+
+// The bytes of the largest table.
+const LARGEST: usize = 6144;
+
+// The kinds of rows.
+const FUNCTION: u8 = 1;
+
+const DO: u8 = 2;
+
+const IF: u8 = 3;
+
+const ELSE: u8 = 4;
+
+const LOOP: u8 = 5;
+
+const END: u8 = 6;
+
+const BREAK: u8 = 7;
+
+const CONTINUE: u8 = 8;
+
+const CALL: u8 = 9;
+
+pub enum Candidate {
+    // More rows than a table may have.
+    TooLong,
+    // So many bytes of rows.
+    Bytes(usize),
+}
+
+fn is_leave(kind: LineKind) -> bool
+    ensures { λ r. ⌜ r ≡ isLeave kind ⌝ }
+{
+    match kind {
+        LineKind::Do => false,
+        LineKind::Tick => false,
+        LineKind::Test => false,
+        LineKind::Leave => true,
+        LineKind::Out => false,
+        LineKind::Call => false,
+        LineKind::Back => false,
+        LineKind::Ret => false,
+    }
+}
+
+// Where a line goes.
+fn target(lines: &[u8], line: u16) -> u16
+    requires { ⌜ 20 * line + 20 ≤ length (now lines) ⌝ }
+    ensures { λ r. ⌜ r ≡ fieldsAt (now (lines .entry)) line .go ⌝ }
+{
+    fields::word(lines, 20 * (line as usize) + 18)
+}
+
+// Whether the line, where there is one, is a leave to line k.
+fn leaves_to(lines: &[u8], line: u16, k: u16) -> bool
+    requires { ⌜ Short (now lines) ⌝ }
+    ensures { λ r. ⌜ r ≡ leavesTo k (lineAt (linesIn (now (lines .entry))) line) ⌝ }
+{
+    let count = (lines.len() / 20) as u16;
+    if line >= count {
+        return false;
+    }
+    if is_leave(fields::kind_at(lines, line)) {
+        return target(lines, line) == k;
+    }
+    false
+}
+
+// A test is a loop's where the line before its go leaves back to it.
+fn test_kind(lines: &[u8], line: u16) -> u8
+    requires { ⌜ Here (now lines) line ⌝ }
+    ensures { λ r. ⌜ r ≡ testKind (now (lines .entry)) line ⌝ }
+{
+    let go = target(lines, line);
+    if leaves_to(lines, line_before(go), line) {
+        return LOOP;
+    }
+    IF
+}
+
+fn line_before(line: u16) -> u16
+    ensures { λ r. ⌜ r ≡ Prim.Native.Nat._-_ line 1 ⌝ }
+{
+    if line == 0 {
+        return 0;
+    }
+    line - 1
+}
+
+// A leave past the next line is an else's.
+fn leave_kind(lines: &[u8], line: u16) -> u8
+    requires { ⌜ Here (now lines) line ⌝ }
+    ensures { λ r. ⌜ r ≡ leaveKind (now (lines .entry)) line ⌝ }
+{
+    if line + 1 < target(lines, line) {
+        return ELSE;
+    }
+    END
+}
+
+// An out that goes forward is a break.
+fn out_kind(lines: &[u8], line: u16) -> u8
+    requires { ⌜ Here (now lines) line ⌝ }
+    ensures { λ r. ⌜ r ≡ outKind (now (lines .entry)) line ⌝ }
+{
+    if line < target(lines, line) {
+        return BREAK;
+    }
+    CONTINUE
+}
+
+// The function of the line that a call goes to; of the end of the table, where it goes beyond.
+fn callee(lines: &[u8], owners: &[u16; 2049], line: u16) -> u16
+    requires { ⌜ (Here (now lines) line) × (Numbered (now lines) (now owners)) ⌝ }
+    ensures { λ r. ⌜ r ≡ functionAt (linesIn (now (lines .entry))) (fieldsAt (now (lines .entry)) line .go) ⌝ }
+{
+    let count = lines.len() / 20;
+    let go = target(lines, line) as usize;
+    if go < count {
+        return owners[go];
+    }
+    owners[count]
+}
+
+// Puts the function row that stands before a line, where one does.
+fn open(lines: &[u8], line: u16, rows: &mut [u8], at: usize) -> usize
+    requires { ⌜ (Here (now lines) line) × (at + 6 ≤ length (now rows)) ⌝ }
+    ensures { λ r. ⌜ Added (tableBytes (functionRowIf (begins (linesIn (now (lines .entry))) line))) (now (rows .entry)) (now (rows .exit)) at r ⌝ }
+{
+    if begins_function(lines, line) {
+        return Row::bare(FUNCTION).write(rows, at);
+    }
+    at
+}
+
+// A function opens at line 0 and after each ret.
+fn begins_function(lines: &[u8], line: u16) -> bool
+    requires { ⌜ Here (now lines) line ⌝ }
+    ensures { λ r. ⌜ r ≡ begins (linesIn (now (lines .entry))) line ⌝ }
+{
+    if line == 0 {
+        return true;
+    }
+    functions::ends_function(fields::kind_at(lines, line - 1))
+}
+
+// Puts the row that a line stands for; a tick and a back stand for none of their own.
+fn stand(lines: &[u8], owners: &[u16; 2049], line: u16, rows: &mut [u8], at: usize) -> usize
+    requires { ⌜ (Here (now lines) line) × (Numbered (now lines) (now owners)) × (at + 6 ≤ length (now rows)) ⌝ }
+    ensures { λ r. ⌜ Added (tableBytes (rowFor (linesIn (now (lines .entry))) line (lineAt (linesIn (now (lines .entry))) line))) (now (rows .entry)) (now (rows .exit)) at r ⌝ }
+{
+    match fields::kind_at(lines, line) {
+        LineKind::Do => Row::copied(DO, lines, line).write(rows, at),
+        LineKind::Tick => at,
+        LineKind::Test => Row::copied(test_kind(lines, line), lines, line).write(rows, at),
+        LineKind::Leave => Row::bare(leave_kind(lines, line)).write(rows, at),
+        LineKind::Out => Row::bare(out_kind(lines, line)).write(rows, at),
+        LineKind::Call => Row::call(CALL, callee(lines, owners, line)).write(rows, at),
+        LineKind::Back => at,
+        LineKind::Ret => Row::bare(END).write(rows, at),
+    }
+}
+
+// The rows of all lines; of no more lines where the rows are too many already.
+pub fn read_rows(lines: &[u8], owners: &[u16; 2049], rows: &mut [u8]) -> Candidate
+    requires { ⌜ (Short (now lines)) × (Numbered (now lines) (now owners)) × (length (now rows) ≡ 6156) ⌝ }
+    ensures { λ r. ⌜ CandidateIs (now (lines .entry)) (now (rows .exit)) r ⌝ }
+{
+    let count = (lines.len() / 20) as u16;
+    let mut at = 0;
+    let mut line: u16 = 0;
+    while line < count {
+        if at > LARGEST {
+            return Candidate::TooLong;
+        }
+        let opened = open(lines, line, rows, at);
+        at = stand(lines, owners, line, rows, opened);
+        line += 1;
+    }
+    Candidate::Bytes(at)
+}
