@@ -1,11 +1,12 @@
 // The public calls. Each promises one equation with its definition in rules/specs/Calls.antt: number, lengths and every lent
 // buffer, for every input; none has a `requires`.
 ghost use mathlib.Core.Path.{_≡_};
-ghost use Rattle.rules.specs.Calls.{checkCall, hardenCall};
+ghost use Rattle.rules.specs.Calls.{checkCall, hardenCall, checkHardenedCall, readBackCall, shortOutput, writing};
 ghost use Rattle.finuraho.specs.Given.{writes, refusedWith};
 
 mod number;
 
+use reader::Found;
 use rules::answer::Wrote;
 use rules::refusal::Refusal;
 use rules::refusal::Verdict;
@@ -50,5 +51,40 @@ pub fn harden(rows: &[u8], out: &mut [u8]) -> Wrote
     match table::check::check(rows, &mut ends, &mut elses, &mut heads) {
         Verdict::Refused(r) => refused(r),
         Verdict::Accepted => hardener::harden_linked(rows, &ends, &elses, &heads, out),
+    }
+}
+
+// The number that the bytes get as a hardened table: 0 where some source table hardens to them, else 10.
+pub fn check_hardened(lines: &[u8]) -> u8
+    ensures { λ r. ⌜ r ≡ checkHardenedCall (now (lines .entry)) ⌝ }
+{
+    if reader::is_hardened(lines) {
+        return 0;
+    }
+    number::of_refusal(Refusal::NotHardened)
+}
+
+// Copies an answer to the front of the output, where it fits there.
+fn give(answer: &[u8], out: &mut [u8]) -> Wrote
+    ensures { λ r. ⌜ writes r (now (out .exit)) ≡ writing (shortOutput (now (answer .entry)) (now (out .entry))) (now (answer .entry)) (now (out .entry)) ⌝ }
+{
+    if out.len() < answer.len() {
+        return refused(Refusal::ShortOutput);
+    }
+    hardener::line::copy(answer, out, 0);
+    Wrote {
+        number: 0,
+        length: answer.len(),
+    }
+}
+
+// The source table of a hardened one: 01's number and the length of the answer, which stands at the front of `out`.
+pub fn read_back(lines: &[u8], out: &mut [u8]) -> Wrote
+    ensures { λ r. ⌜ writes r (now (out .exit)) ≡ readBackCall (now (lines .entry)) (now (out .entry)) ⌝ }
+{
+    let mut rows = reader::row_bytes();
+    match reader::read(lines, &mut rows) {
+        Found::NotHardened => refused(Refusal::NotHardened),
+        Found::Source(n) => give(&rows[..n], out),
     }
 }

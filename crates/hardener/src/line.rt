@@ -37,7 +37,7 @@ fn high(x: u16) -> u8
 }
 
 // Copies from into to, from byte at on.
-fn copy(from: &[u8], to: &mut [u8], at: usize)
+pub fn copy(from: &[u8], to: &mut [u8], at: usize)
     requires { ⌜ at + length (now from) ≤ length (now to) ⌝ }
     ensures { λ _. ⌜ now (to .exit) ≡ paste (now (to .entry)) at (now (from .entry)) (length (now (from .entry))) ⌝ }
 {

@@ -53,6 +53,10 @@ hardenCall rows out =
 abbrev pub notHardened : (lines : List ℕ) → Verdict
 notHardened lines = refuseIf (not (isHardened lines)) NotHardened
 
+-- check a hardened table: the number that the bytes get, 0 or 10
+abbrev pub checkHardenedCall : (lines : List ℕ) → ℕ
+checkHardenedCall lines = numberOf (notHardened lines)
+
 -- read back: "Hardened bytes meet 10 in place of 1 to 7, before 8"
 unfoldable pub readBackCall : (lines out : List ℕ) → Writing
 readBackCall lines out =
