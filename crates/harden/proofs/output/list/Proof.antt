@@ -8,7 +8,7 @@ use Rattle.harden.proofs.output.list.Statement.{statement}
 use Rattle.harden.proofs.output.list.Tie as tie
 use Rattle.harden.proofs.output.list.Reads as reads
 use Rattle.harden.proofs.output.list.Lts as lts
-use Rattle.harden.proofs.output.least.Reads as least-reads
+use Rattle.console.proofs.output.least.Reads as least-reads
 use Rattle.harden.proofs.output.some_lines.Reads as some-lines-reads
 
 abbrev Inv-loop : tie.InvT-loop

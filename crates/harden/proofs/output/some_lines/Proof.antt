@@ -10,7 +10,7 @@ use Rattle.harden.proofs.output.some_lines.Statement.{statement}
 use Rattle.harden.proofs.output.some_lines.Tie as tie
 use Rattle.harden.proofs.output.some_lines.Reads as reads
 use Rattle.harden.proofs.output.some_lines.Lts as lts
-use Rattle.harden.proofs.output.within.Reads as within-reads
+use Rattle.console.proofs.output.within.Reads as within-reads
 use Rattle.io.proofs.write_all.Reads as write-all-reads
 use Rattle.text.proofs.write.listing.Reads as listing-reads
 

@@ -5,19 +5,19 @@ use Rattle.text.specs.Reading.{Sane}
 use Prim.Native.Nat.{ℕ, _+_, _*_, _-_, _≤_, _<_}
 use lib.ListN.{length}
 use borrow.Author.Needs.{needs}
-use Rattle.harden.proofs.input.read_all.Statement.{statement}
-use Rattle.harden.proofs.input.read_all.Tie as tie
-use Rattle.harden.proofs.input.read_all.Reads as reads
-use Rattle.harden.proofs.input.read_all.Lts as lts
+use Rattle.console.proofs.input.read_all.Statement.{statement}
+use Rattle.console.proofs.input.read_all.Tie as tie
+use Rattle.console.proofs.input.read_all.Reads as reads
+use Rattle.console.proofs.input.read_all.Lts as lts
 use Rattle.io.proofs.read_full.Reads as read-full-reads
 use Rattle.text.proofs.read.feed.Reads as feed-reads
 use Rattle.text.proofs.read.start.Reads as start-reads
 
 abbrev Inv-loop : tie.InvT-loop
-Inv-loop chunk₀ rows₀ r₀ reads₀ chunk rows r reads = (length chunk ≡ length chunk₀) × (length rows ≡ length rows₀) × (length rows₀ ≡ 6150) × (Sane 12 r rows)
+Inv-loop digits chunk₀ bytes₀ r₀ reads₀ chunk bytes r reads = (length chunk ≡ length chunk₀) × (length bytes ≡ length bytes₀) × (digits ≤ 40) × (Sane digits r bytes)
 
 abbrev μ-loop : tie.MeasureT-loop
-μ-loop chunk₀ rows₀ r₀ reads₀ chunk rows r reads = 18446744073709551615 - reads
+μ-loop digits chunk₀ bytes₀ r₀ reads₀ chunk bytes r reads = 18446744073709551615 - reads
 
 -- src/input.rt:34:9
 start-requires : tie.Need-start-requires Inv-loop μ-loop
@@ -25,7 +25,7 @@ start-requires c κs = search needs
 
 -- src/input.rt:36:5
 loop-holds : tie.Need-loop-holds Inv-loop μ-loop
-loop-holds c = (search needs, search needs, search needs, c .start .ensures .sane 12 _ (omega arith))
+loop-holds c = (search needs, search needs, search needs, c .start .ensures .sane _ _ (omega arith))
 
 -- src/input.rt:37:13
 read-full-requires : tie.Need-read-full-requires Inv-loop μ-loop

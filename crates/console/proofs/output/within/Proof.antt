@@ -4,11 +4,11 @@ use lib.Seq.{length-take-le}
 use Prim.Native.Nat.{ℕ, _+_, _*_, _-_, _≤_, _<_}
 use lib.ListN.{length}
 use borrow.Author.Needs.{needs}
-use Rattle.harden.proofs.output.within.Statement.{statement}
-use Rattle.harden.proofs.output.within.Tie as tie
-use Rattle.harden.proofs.output.within.Reads as reads
-use Rattle.harden.proofs.output.within.Lts as lts
-use Rattle.harden.proofs.output.least.Reads as least-reads
+use Rattle.console.proofs.output.within.Statement.{statement}
+use Rattle.console.proofs.output.within.Tie as tie
+use Rattle.console.proofs.output.within.Reads as reads
+use Rattle.console.proofs.output.within.Lts as lts
+use Rattle.console.proofs.output.least.Reads as least-reads
 
 -- src/output.rt:42:5
 least-requires : tie.Need-least-requires

@@ -1,0 +1,40 @@
+// Reading lines of hexadecimal digits to the end of the input, in constant memory.
+ghost use mathlib.Core.Path.{_≡_};
+ghost use Prim.Native.Nat.{_≤_};
+ghost use lib.ListN.{length};
+ghost use Rattle.text.specs.Reading.{Sane};
+use text::read;
+use text::read::Reader;
+
+// What was read: how many bytes, or that some line is malformed. Bytes that the buffer does not hold are not counted.
+pub enum Read {
+    Bytes(usize),
+    Unreadable,
+}
+
+// Each line has so many digits.
+pub fn take(digits: usize, chunk: &mut [u8], bytes: &mut [u8]) -> Read
+    requires { ⌜ digits ≤ 40 ⌝ }
+{
+    let r = read_all(digits, chunk, bytes);
+    if read::is_good(r, digits) {
+        return Read::Bytes(r.length);
+    }
+    Read::Unreadable
+}
+
+fn read_all(digits: usize, chunk: &mut [u8], bytes: &mut [u8]) -> Reader
+    requires { ⌜ digits ≤ 40 ⌝ }
+{
+    let mut r = read::start();
+    let mut reads: u64 = 0;
+    while reads < 18446744073709551615 {
+        let n = io::read_full(0, chunk);
+        if n == 0 {
+            return r;
+        }
+        r = read::feed(&chunk[..n], digits, r, bytes);
+        reads += 1;
+    }
+    r
+}
