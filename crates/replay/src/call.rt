@@ -11,12 +11,17 @@ pub fn answer(s: Asked, rows: &[u8], out: &mut [u8])
     requires { ⌜ (length (now rows) ≡ 65536) × (length (now out) ≡ 65536) × (Within s) ⌝ }
 {
     let n = s.length;
+    let room = s.number;
     if s.kind == b'c' {
         check(&rows[..n]);
+        return;
     }
     if s.kind == b'h' {
-        let room = s.number;
         harden(&rows[..n], &mut out[..room]);
+        return;
+    }
+    if s.kind == b'r' {
+        read_back(&rows[..n], &mut out[..room]);
     }
 }
 
@@ -30,6 +35,13 @@ fn check(rows: &[u8]) {
 fn harden(rows: &[u8], out: &mut [u8]) {
     fill(out, 0xa5);
     let w = finuraho::harden(rows, out);
+    wrote(w, out);
+}
+
+// `read OUTLEN LINES`
+fn read_back(lines: &[u8], out: &mut [u8]) {
+    fill(out, 0xa5);
+    let w = finuraho::read_back(lines, out);
     wrote(w, out);
 }
 

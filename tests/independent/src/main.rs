@@ -13,6 +13,7 @@ const USAGE: &str = "usage:
   independent readback                          lines on stdin, rows on stdout
   independent replay SEED COUNT DIR             tests of check and harden
   independent replay-read SEED COUNT DIR        tests of reading back
+  independent replay-bytes DIR                  one byte of the listing, every way
   independent replay-run SEED COUNT DIR [long]  tests of runs";
 
 fn main() -> ExitCode {
@@ -23,6 +24,7 @@ fn main() -> ExitCode {
         ["readback"] => text::read_back(io::stdin().lock()).and_then(|text| print(&text)),
         ["replay", seed, count, to] => files(replay::tests, seed, count, to, Vec::new()),
         ["replay-read", seed, count, to] => files(replay_read::tests, seed, count, to, Vec::new()),
+        ["replay-bytes", to] => replay::write(&replay_read::every_byte(), Path::new(to)),
         ["replay-run", seed, count, to] => files(replay_run::tests, seed, count, to, Vec::new()),
         ["replay-run", seed, count, to, "long"] => {
             files(replay_run::tests, seed, count, to, replay_run::long_tests())

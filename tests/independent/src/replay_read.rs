@@ -60,6 +60,20 @@ fn listing_changes(rng: &mut Random) -> Vec<Test> {
     (0..listing.len()).map(|at| protocol::read(36, &changed(at, rng))).collect()
 }
 
+/// Every other value of every byte of the listing's answer: 140 x 255 tests.
+pub fn every_byte() -> Vec<Test> {
+    let listing = damage::hardened(&limits::worked_listing());
+    let mut tests = Vec::new();
+    for at in 0..listing.len() {
+        for step in 1..=255 {
+            let mut bytes = listing.clone();
+            bytes[at] = bytes[at].wrapping_add(step);
+            tests.push(protocol::read(36, &bytes));
+        }
+    }
+    tests
+}
+
 /// A hardened table as it is, or damaged, or damaged twice.
 fn random_test(rng: &mut Random) -> Test {
     let rows = some_table(rng);
