@@ -166,7 +166,7 @@ module _ (ls : List Line) (held : List ℕ) (sd : Sound ls) (m : Map) (mp : Mapp
             own-is = caller-own;
           },
           waiting-saved ls (p .places) (p .functions) opened-words d (k + 1) (p .hot .function) d (s .callers) (omega arith)
-              (waiting-same ls (p .places) (p .functions) (p .words) opened-words d (s .callers) below-same (st .waiting)),
+          (waiting-same ls (p .places) (p .functions) (p .words) opened-words d (s .callers) below-same (st .waiting)),
         )
 
     opens : GoesOn ls held (p .hot .traced) opened (opening (functionAt ls (l .go)) (l .go) (put 0 (l .b) clear) (goTo (suc k) (put (l .r) (l .a) (s .running .own)) s))
@@ -177,7 +177,7 @@ module _ (ls : List Line) (held : List ℕ) (sd : Sound ls) (m : Map) (mp : Mapp
           went = refl;
           stands = λ n. record {
             sizes = record { deep = deep; places-are = simp length-set (st .sizes .places-are); functions-are = simp length-set (st .sizes .functions-are); words-are = opened-long };
-            function-is = mp .owner-is (l .go) (go .in-table);
+            function-is = mp .located .owner-is (l .go) (go .in-table);
             at-is = refl;
             inside = record { known = sd .known (l .go) (go .in-table); not-before = go .not-before; not-after = omega (arith, go .not-after) };
             own-is = own-fresh checked-words (d + 1) (l .b) open-fits;

@@ -40,7 +40,7 @@ module _ (bs : List ℕ) (m : Map) (rd : Ready bs m) (held : List ℕ) (p : Part
   -- ---- the line of the running function's place
   last-line : lastLine m (p .hot) ≡ finishOf ls f
   last-line =
-      ap (λ n. getD (m .starts) n 0) (add-one (p .hot .function) ∙ ap suc (st .function-is)) ∙ rd .mapped .start-is (suc f) (st .inside .known)
+      ap (λ n. getD (m .starts) n 0) (add-one (p .hot .function) ∙ ap suc (st .function-is)) ∙ rd .mapped .located .start-is (suc f) (st .inside .known)
 
   before-last : p .hot .place ≢ finishOf ls f → p .hot .place < finishOf ls f
   before-last n = by (s .running .at) (st .at-is) (st .inside .not-after)

@@ -4,5 +4,6 @@ pub mod fields;
 pub mod guard;
 pub mod line;
 pub mod machine;
+pub mod run;
 pub mod variables;
 pub mod words;
