@@ -166,7 +166,7 @@ module _ (ls : List Line) (held : List ℕ) (sd : Sound ls) (m : Map) (mp : Mapp
             own-is = caller-own;
           },
           waiting-saved ls (p .places) (p .functions) opened-words d (k + 1) (p .hot .function) d (s .callers) (omega arith)
-          (waiting-same ls (p .places) (p .functions) (p .words) opened-words d (s .callers) below-same (st .waiting)),
+              (waiting-same ls (p .places) (p .functions) (p .words) opened-words d (s .callers) below-same (st .waiting)),
         )
 
     opens : GoesOn ls held (p .hot .traced) opened (opening (functionAt ls (l .go)) (l .go) (put 0 (l .b) clear) (goTo (suc k) (put (l .r) (l .a) (s .running .own)) s))

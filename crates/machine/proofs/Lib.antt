@@ -10,3 +10,5 @@ pub mod AgreeDo
 pub mod AgreeCall
 pub mod Steps
 pub mod Runs
+pub mod Sound
+pub mod Survey

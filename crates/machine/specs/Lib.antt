@@ -5,3 +5,4 @@ pub mod Ready
 pub mod Step
 pub mod Run
 pub mod Stands
+pub mod Map

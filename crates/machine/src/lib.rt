@@ -4,6 +4,7 @@ pub mod fields;
 pub mod guard;
 pub mod line;
 pub mod machine;
+pub mod map;
 pub mod run;
 pub mod variables;
 pub mod words;

@@ -37,10 +37,7 @@ pub struct Stopped {
 pub fn stay(step: Step, hot: Hot) -> Moved
     ensures { λ r. ⌜ r ≡ moved step hot ⌝ }
 {
-    Moved {
-        step,
-        hot,
-    }
+    Moved { step, hot }
 }
 
 // One more function is open, and the run goes on in it.

@@ -55,11 +55,11 @@ loop-less c = omega (arith, c .before .before .before .before .before .before .b
 -- src/run.rt:31:5
 loop-again : tie.Need-loop-again Inv-loop μ-loop
 loop-again c = record {
-      going = going-on _ _ (c .before .before .before .before .before .before .before .before .before .before .before .before .before .before .before .before .before .before .before .before .before .before .before .before .pre .0) _ _ (c .before .before .before .before .before .before .before .before .before .before .before .before .before .before .before .before .loop .inv .going) (c .before .before .before .before .before .before .before .before .before .before .before .before .before .before .before .loop-test .taken) _ (c .before .before .before .before .before .before .before .before .line .ensures) _ (c .before .s .given .1);
-      same = c .before .before .before .before .before .before .before .before .before .before .before .before .before .before .before .before .loop .inv .same ∙ run-went _ _ _ _ (c .before .before .before .before .before .before .before .before .before .before .before .before .before .before .before .loop-test .taken) _ (c .before .before .before .before .before .before .before .before .line .ensures) _ (c .before .s .given .1);
-      words-long = c .before .before .before .before .before .before .before .before .line .kept .1 .1 .1 .1 .1 .1 .1 .1 .0 ∙ c .before .before .before .before .before .before .before .before .before .before .before .before .before .before .before .before .loop .inv .words-long;
-      slots-long = c .before .before .before .before .before .before .before .before .line .kept .1 .1 .1 .1 .1 .1 .1 .1 .1 .0 ∙ c .before .before .before .before .before .before .before .before .before .before .before .before .before .before .before .before .loop .inv .slots-long;
-    }
+  going = going-on _ _ (c .before .before .before .before .before .before .before .before .before .before .before .before .before .before .before .before .before .before .before .before .before .before .before .before .pre .0) _ _ (c .before .before .before .before .before .before .before .before .before .before .before .before .before .before .before .before .loop .inv .going) (c .before .before .before .before .before .before .before .before .before .before .before .before .before .before .before .loop-test .taken) _ (c .before .before .before .before .before .before .before .before .line .ensures) _ (c .before .s .given .1);
+  same = c .before .before .before .before .before .before .before .before .before .before .before .before .before .before .before .before .loop .inv .same ∙ run-went _ _ _ _ (c .before .before .before .before .before .before .before .before .before .before .before .before .before .before .before .loop-test .taken) _ (c .before .before .before .before .before .before .before .before .line .ensures) _ (c .before .s .given .1);
+  words-long = c .before .before .before .before .before .before .before .before .line .kept .1 .1 .1 .1 .1 .1 .1 .1 .0 ∙ c .before .before .before .before .before .before .before .before .before .before .before .before .before .before .before .before .loop .inv .words-long;
+  slots-long = c .before .before .before .before .before .before .before .before .line .kept .1 .1 .1 .1 .1 .1 .1 .1 .1 .0 ∙ c .before .before .before .before .before .before .before .before .before .before .before .before .before .before .before .before .loop .inv .slots-long;
+}
 
 -- src/run.rt:13:1
 same-length-3 : tie.Need-same-length-3 Inv-loop μ-loop
