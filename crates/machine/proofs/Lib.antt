@@ -12,3 +12,5 @@ pub mod Steps
 pub mod Runs
 pub mod Sound
 pub mod Survey
+pub mod Struck
+pub mod Whole

@@ -22,7 +22,7 @@ use Rattle.machine.proofs.Agree.{GoesOn, EndsAs, IsEnd, Agrees}
 use Rattle.machine.proofs.Steps.{can-step, step-agrees}
 
 -- ---- a run by what its first step answers
-onward-end : {A : Type 0} (o : Step) → IsEnd o → (f : ℕ → A) (z : A) → onward o f z ≡ z
+pub onward-end : {A : Type 0} (o : Step) → IsEnd o → (f : ℕ → A) (z : A) → onward o f z ≡ z
 onward-end (Went k) n f z = absurd (n k refl)
 onward-end Finished n f z = refl
 onward-end Alarm n f z = refl
@@ -103,7 +103,7 @@ pub record Ended (ls : List Line) (held : List ℕ) (a : After) (x : Answer Coun
   pub still-stands : (k : ℕ) → x .step ≡ Went k → Stands ls held (a .parts) (x .state)
   pub traced-few : (k : ℕ) → x .step ≡ Went k → a .parts .hot .traced ≤ a .parts .hot .steps
 
-ended-by : (ls : List Line) (held : List ℕ) (p : Parts) (k : ℕ) → p .hot .steps ≡ k → (a : After) (f : ℕ → After) (g : Hardened → Answer Counters)
+pub ended-by : (ls : List Line) (held : List ℕ) (p : Parts) (k : ℕ) → p .hot .steps ≡ k → (a : After) (f : ℕ → After) (g : Hardened → Answer Counters)
     → (t : Turn Counters) → Agrees ls held (p .hot .traced) a t
     → ((j : ℕ) (s : Hardened) → a .step ≡ Went j → GoesOn ls held (p .hot .traced) a s → Ended ls held (f j) (g s))
     → Ended ls held (onward (a .step) f (stopsAfter (p .hot .steps + 1) a)) (after k t g)

@@ -6,3 +6,4 @@ pub mod Step
 pub mod Run
 pub mod Stands
 pub mod Map
+pub mod Struck

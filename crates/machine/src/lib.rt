@@ -6,5 +6,7 @@ pub mod line;
 pub mod machine;
 pub mod map;
 pub mod run;
+pub mod strike;
+pub mod table;
 pub mod variables;
 pub mod words;
