@@ -1,8 +1,8 @@
 -- What the machine runs is sound: told of every accepted table, and so of all bytes that are a hardened table. Assumes nothing.
 use mathlib.Core.Path.{_≡_, refl, sym, ap, _∙_, subst}
 use mathlib.Core.Bool.{Bool, true, false, cond}
-use mathlib.Core.List.{List, [], _∷_}
-use Prim.Native.Nat.{ℕ, zero, suc, _+_, _-_, _≤_, _<_}
+use mathlib.Core.List.{List, []}
+use Prim.Native.Nat.{ℕ, zero, suc, _-_, _<_}
 use native.Mathlib.Nat.{le-refl, not-suc-le-zero}
 use native.Mathlib.Omega.{arith}
 use lib.Dec.{eqb}
@@ -12,7 +12,7 @@ use Rattle.rules.specs.Bytes.{AreBytes}
 use Rattle.rules.specs.Row.{Table, tableOf}
 use Rattle.rules.specs.Scan.{functionCount, functionRow, endOf}
 use Rattle.rules.specs.Line.{Line, linesIn, lineAt, isRet}
-use Rattle.rules.specs.Harden.{lineOf, harden}
+use Rattle.rules.specs.Harden.{harden}
 use Rattle.rules.specs.Function.{functionAt, startOf, finishOf, aOfRet, retValue}
 use Rattle.rules.specs.Bounds.{Within}
 use Rattle.rules.specs.ReadBack.{isHardened}
@@ -20,7 +20,7 @@ use Rattle.rules.proofs.Search.{Found, hit, miss, found, first-now}
 use Rattle.rules.proofs.Accepted.{Proper, proper}
 use Rattle.rules.proofs.Harden.{line-mono}
 use Rattle.rules.proofs.Function.{some-function, function-end}
-use Rattle.rules.proofs.Place.{function-outside, lines-all, finish-is, start-finish, line-of}
+use Rattle.rules.proofs.Place.{function-at-next, function-outside, lines-all, finish-is, start-finish, line-of}
 use Rattle.rules.proofs.FunctionLine.{line-number, placed}
 use Rattle.rules.proofs.Bounds.{bounds}
 use Rattle.rules.proofs.Reading.{lines-of, recognises}
@@ -72,13 +72,6 @@ sound bs w h =
     subst Sound (sym (lines-of (g .rows)) ∙ ap linesIn (g .hardens))
     (sound-table (tableOf (g .rows)) (proper (g .rows) (g .accepted)) (bounds (g .rows) (g .are-bytes) (g .accepted)))
 
--- ---- the number of a line's function, line by line
-pub function-next : (ls : List Line) (k : ℕ) → k < length ls → functionAt ls (suc k) ≡ cond (isRet (lineAt ls k)) 1 0 + functionAt ls k
-unfolding functionAt
-function-next [] k h = absurd (not-suc-le-zero h)
-function-next (l ∷ ls) zero h = refl
-function-next (l ∷ ls) (suc k) h = omega (arith, function-next ls k (omega arith))
-
 -- ---- the last line of function 0 is a ret
 module _ (ls : List Line) (so : Sound ls) where
   pub some-place : 0 < finishOf ls 0
@@ -108,7 +101,7 @@ module _ (ls : List Line) (so : Sound ls) where
           let n = so .numbered 0 k i (omega arith) in
           let q : suc k - 1 ≡ k = omega arith in
           subst (λ x. isRet (lineAt ls x) ≡ true) (sym q)
-          (ret-by (isRet (lineAt ls k)) (omega (arith, n, function-next ls k l, subst (λ x. 0 < functionAt ls x) e reached)))
+          (ret-by (isRet (lineAt ls k)) (omega (arith, n, function-at-next ls k l, subst (λ x. 0 < functionAt ls x) e reached)))
 
 -- so that its a is the word that the fields have
 ret-a : (kd : LineKind) (l : Fields) → isRet (asLine kd l) ≡ true → l .a ≡ aOfRet (asLine kd l)

@@ -1,13 +1,11 @@
 -- A run of the code with a jump agrees with the hardened machine's. Assumes a hardened table.
-use mathlib.Core.Logic.{_≢_}
 use mathlib.Core.Path.{_≡_, refl, sym, ap, _∙_, subst}
 use mathlib.Core.Bool.{Bool, true, false, cond, not, _&&_}
 use mathlib.Core.List.{List, []}
 use Prim.Native.Nat.{ℕ, zero, suc, _+_, _-_, _≤_, _<_}
 use native.Mathlib.Nat.{add-zero, zero-add, suc-add}
-use native.Mathlib.Numerals.{add-one}
 use native.Mathlib.Omega.{arith}
-use lib.Dec.{eqb, leb, ltb}
+use lib.Dec.{eqb, leb}
 use lib.ListN.{length, getD}
 use borrow.Author.Tests.{eq-eqb, ne-eqb, leb-true, leb-false, le-ltb, le-leb, lt-leb}
 use Rattle.rules.specs.declared.step.Step.{Step}
@@ -16,20 +14,17 @@ use Rattle.rules.specs.Limits.{noStep}
 use Rattle.rules.specs.Line.{Line, linesIn}
 use Rattle.rules.specs.Function.{startOf, finishOf, lastPlace}
 use Rattle.rules.specs.State.{goTo}
-use Rattle.rules.specs.Run.{Turn, on, ends, untaken, next, Answer, after, run, outcomeOf}
-use Rattle.rules.specs.Hardened.{Counters, Hardened, hardenedStep, none, jump, strikeBy, placeLine, land, struck, strikingStep, hardenedStart, hardenedRun}
-use Rattle.rules.specs.Demands.{before, strikes}
-use Rattle.rules.proofs.Jump.{not-struck}
+use Rattle.rules.specs.Run.{Turn, on, untaken, next, after, run, outcomeOf}
+use Rattle.rules.specs.Hardened.{Counters, Hardened, hardenedStep, none, jump, strikeBy, placeLine, struck, strikingStep, hardenedStart, hardenedRun}
+use Rattle.rules.specs.Demands.{before}
+use Rattle.rules.proofs.Jump.{not-now, after-same, not-struck}
 use Rattle.machine.specs.Step.{Map, Parts, After, lastLine, stepOf}
 use Rattle.machine.specs.Run.{partsAt, onward, stopsAfter, runOf}
-use Rattle.machine.specs.Stands.{Inside, Ready, Stands, Going}
+use Rattle.machine.specs.Stands.{Ready, Stands, Going}
 use Rattle.machine.specs.Struck.{firstLine, placesIn, landOf, landsAfter, struckOf}
-use Rattle.machine.proofs.Agree.{GoesOn, IsEnd, Agrees}
-use Rattle.machine.proofs.Steps.{step-agrees}
-use Rattle.machine.proofs.Runs.{Ended, onward-end, going-on, ended-by, run-agrees}
-
-went-same : {x y : ℕ} → Went x ≡ Went y → x ≡ y
-went-same e = cc
+use Rattle.machine.proofs.Agree.{GoesOn, IsEnd}
+use Rattle.machine.proofs.Steps.{last-line, step-agrees}
+use Rattle.machine.proofs.Runs.{went-same, Ended, onward-end, going-on, ended-by, run-agrees}
 
 -- ---- a run that went on to the end of its budget
 pub going-run : (bs : List ℕ) (m : Map) → Ready bs m → (b c : ℕ) (p : Parts) → Going (linesIn bs) (b + c) p → (j : ℕ) → runOf bs m b p .step ≡ Went j
@@ -42,9 +37,6 @@ going-run bs m rd (suc b) c p g j e =
     (subst (λ n. Going (linesIn bs) n (partsAt (stepOf bs m p .parts) k (p .hot .steps + 1))) (let z : suc b + c - 1 ≡ b + c = omega arith in z)
     (going-on bs m rd (suc b + c) p g (omega arith) (stepOf bs m p) refl k q)) j e′)
   where
-    stopped : After
-    stopped = stopsAfter (p .hot .steps + 1) (stepOf bs m p)
-
     by : (o : Step) → stepOf bs m p .step ≡ o → onward o (λ k. runOf bs m b (partsAt (stepOf bs m p .parts) k (p .hot .steps + 1))) (stopsAfter (p .hot .steps + 1) (stepOf bs m p)) .step ≡ Went j
         → ((k : ℕ) → stepOf bs m p .step ≡ Went k → runOf bs m b (partsAt (stepOf bs m p .parts) k (p .hot .steps + 1)) .step ≡ Went j → Going (linesIn bs) c (runOf bs m b (partsAt (stepOf bs m p .parts) k (p .hot .steps + 1)) .parts))
         → Going (linesIn bs) c (onward o (λ k. runOf bs m b (partsAt (stepOf bs m p .parts) k (p .hot .steps + 1))) (stopsAfter (p .hot .steps + 1) (stepOf bs m p)) .parts)
@@ -83,22 +75,18 @@ module _ (bs : List ℕ) (m : Map) (rd : Ready bs m) (held : List ℕ) (p : Part
   first-line : firstLine m (p .hot) ≡ startOf ls f
   first-line = ap (λ n. getD (m .starts) n 0) (st .function-is) ∙ rd .mapped .located .start-is f (omega (arith, st .inside .known))
 
-  last-line : lastLine m (p .hot) ≡ finishOf ls f
-  last-line =
-      ap (λ n. getD (m .starts) n 0) (add-one (p .hot .function) ∙ ap suc (st .function-is)) ∙ rd .mapped .located .start-is (suc f) (st .inside .known)
-
   places-are : placesIn m (p .hot) ≡ lastPlace ls f
-  places-are = ap (λ x. x - firstLine m (p .hot)) last-line ∙ ap (λ x. finishOf ls f - x) first-line
+  places-are = ap (λ x. x - firstLine m (p .hot)) (last-line bs m rd held p s st) ∙ ap (λ x. finishOf ls f - x) first-line
 
   -- what the code needs to tell the place
   pub function-in : p .hot .function < 32
   function-in = omega (arith, st .function-is, st .inside .known, rd .sound .within .few-functions)
 
   pub first-before-last : firstLine m (p .hot) ≤ lastLine m (p .hot)
-  first-before-last = omega (arith, first-line, last-line, rd .sound .ordered f (st .inside .known))
+  first-before-last = omega (arith, first-line, last-line bs m rd held p s st, rd .sound .ordered f (st .inside .known))
 
   pub last-few : lastLine m (p .hot) ≤ 2048
-  last-few = omega (arith, last-line, rd .sound .finish-in f (st .inside .known), rd .sound .within .few-lines)
+  last-few = omega (arith, last-line bs m rd held p s st, rd .sound .finish-in f (st .inside .known), rd .sound .within .few-lines)
 
   pub stands-there : (place n : ℕ) → place ≤ placesIn m (p .hot) → Stands ls held (partsAt p (firstLine m (p .hot) + place) n) (goTo (placeLine ls place s) (s .running .own) s)
   stands-there place n h =
@@ -132,14 +120,6 @@ going-there bs m rd left p g place h =
     }
 
 -- ---- the jump is past
-after-same : (k : ℕ) (r : Turn Counters) (f g : Hardened → Answer Counters) → ((h : Hardened) → f h ≡ g h) → after k r f ≡ after k r g
-after-same k (on h) f g e = e h
-after-same k (ends o h) f g e = refl
-after-same k (untaken o h) f g e = refl
-
-not-now : (ls : List Line) (j place k : ℕ) (s : Hardened) → j ≢ k → struck ls (jump j place) k s ≡ on s
-not-now ls j place k s x = rw (ne-eqb j k x)
-
 jump-past : (ls : List Line) (j place b k : ℕ) (s : Hardened) → j < k → run (strikingStep ls (jump j place)) b k s ≡ run (strikingStep ls none) b k s
 unfolding run
 jump-past ls j place zero k s h = refl

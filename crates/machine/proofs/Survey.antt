@@ -3,7 +3,7 @@ use mathlib.Core.Logic.{_⊎_, inl, inr}
 use mathlib.Core.Path.{_≡_, refl, sym, ap, _∙_, subst}
 use mathlib.Core.Bool.{Bool, true, false, cond}
 use mathlib.Core.List.{List}
-use Prim.Native.Nat.{ℕ, zero, suc, _+_, _≤_, _<_}
+use Prim.Native.Nat.{ℕ, suc, _+_, _≤_, _<_}
 use native.Mathlib.Nat.{eq-or-lt-of-le}
 use native.Mathlib.Omega.{arith}
 use lib.Dec.{eqb}
@@ -13,15 +13,14 @@ use borrow.Author.Tests.{eq-eqb, ne-eqb}
 use Rattle.rules.specs.Line.{Line, linesIn, lineAt, isRet}
 use Rattle.rules.specs.Function.{functionAt, startOf}
 use Rattle.rules.proofs.Search.{first-is}
-use Rattle.rules.proofs.Place.{function-at-mono}
+use Rattle.rules.proofs.Place.{function-at-next, function-at-mono}
 use Rattle.machine.specs.declared.fields.Fields.{Fields}
 use Rattle.machine.specs.declared.fields.LineKind.{LineKind}
 use Rattle.machine.specs.declared.fields.LineKind.the-variants.{Do, Tick, Test, Leave, Out, Call, Back, Ret}
 use Rattle.machine.specs.Fields.{lineKindAt, fieldsAt, asLine}
-use Rattle.machine.specs.Map.{endsFunction, passed, passedOf}
+use Rattle.machine.specs.Map.{endsFunction, Passed, passed, passedOf}
 use Rattle.machine.specs.Stands.{Sound, Located}
 use Rattle.machine.proofs.Decode.{line-is}
-use Rattle.machine.proofs.Sound.{function-next}
 
 pub record Surveyed (ls : List Line) (starts owners : List ℕ) (f k : ℕ) : Type 0 where
   pub function-is : f ≡ functionAt ls k
@@ -88,10 +87,10 @@ module _ (ls : List Line) (so : Sound ls) (starts owners : List ℕ) (f k : ℕ)
           ∙ sym (start-after ls k l r) ∙ ap (startOf ls) q)
       by (inr q) = getD-set-other starts (f + 1) n (k + 1) 0 (λ e. omega arith) ∙ s .starts-are n (omega arith)
 
-  next-number : (b : Bool) → isRet (lineAt ls k) ≡ b → functionAt ls (suc k) ≡ cond b 1 0 + functionAt ls k
-  next-number b e = function-next ls k l ∙ ap (λ x. cond x 1 0 + functionAt ls k) e
+  next-number : (b : Bool) → isRet (lineAt ls k) ≡ b → functionAt ls (suc k) ≡ functionAt ls k + cond b 1 0
+  next-number b e = function-at-next ls k l ∙ ap (λ x. functionAt ls k + cond x 1 0) e
 
-  pub next-by : (b : Bool) → isRet (lineAt ls k) ≡ b → (x : Rattle.machine.specs.Map.Passed) → x ≡ cond b (passed (f + 1) (set starts (f + 1) (k + 1))) (passed f starts)
+  pub next-by : (b : Bool) → isRet (lineAt ls k) ≡ b → (x : Passed) → x ≡ cond b (passed (f + 1) (set starts (f + 1) (k + 1))) (passed f starts)
       → Surveyed ls (x .starts) (set owners k f) (x .function) (k + 1)
   next-by true e x q =
       let r = next-number true e in

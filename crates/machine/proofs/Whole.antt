@@ -2,7 +2,7 @@
 -- table.
 use mathlib.Core.Path.{_≡_, refl, sym, ap, _∙_, subst}
 use mathlib.Core.List.{List, [], _++_}
-use Prim.Native.Nat.{ℕ, _+_, _≤_, _<_}
+use Prim.Native.Nat.{ℕ, _≤_}
 use native.Mathlib.Omega.{arith}
 use lib.ListN.{length, length-set, drop}
 use Rattle.rules.specs.declared.answer.Ran.{Ran}
@@ -13,7 +13,7 @@ use Rattle.rules.specs.Hardened.{clear, put, strikeBy, hardenedStart, hardenedR
 use Rattle.rules.specs.Calls.{running, zeros, countersAfter}
 use Rattle.machine.specs.declared.machine.Machine.{Machine}
 use Rattle.machine.specs.declared.machine.Stopped.{Stopped}
-use Rattle.machine.specs.Words.{zeroed, freshAt}
+use Rattle.machine.specs.Words.{freshAt}
 use Rattle.machine.specs.Step.{Map, partsOf}
 use Rattle.machine.specs.Run.{partsIn, stoppedWith}
 use Rattle.machine.specs.Stands.{Own, Sound, Ready, Stands, Going}

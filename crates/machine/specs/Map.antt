@@ -1,10 +1,8 @@
 -- One pass over the lines: where functions begin and which function each line belongs to.
-use Prim.Native.Nat.{ℕ, _+_, _≤_, _<_}
-use mathlib.Core.Path.{_≡_}
+use Prim.Native.Nat.{ℕ, _+_}
 use mathlib.Core.Bool.{Bool, true, false, cond}
 use mathlib.Core.List.{List}
-use lib.ListN.{length, set}
-use Rattle.rules.specs.Line.{Line}
+use lib.ListN.{set}
 use Rattle.machine.specs.declared.fields.LineKind.{LineKind}
 use Rattle.machine.specs.declared.fields.LineKind.the-variants.{Do, Tick, Test, Leave, Out, Call, Back, Ret}
 

@@ -12,7 +12,7 @@ use Rattle.rules.specs.Limits.{maxOpen}
 use Rattle.rules.specs.Line.{linesIn}
 use Rattle.rules.specs.Run.{outcomeOf}
 use Rattle.rules.specs.Hardened.{strikeBy, hardenedRun}
-use Rattle.rules.specs.Calls.{Running, running, HardenedRunning}
+use Rattle.rules.specs.Calls.{running, HardenedRunning}
 use Rattle.machine.specs.declared.machine.Hot.{Hot}
 use Rattle.machine.specs.declared.machine.Machine.{Machine}
 use Rattle.machine.specs.declared.machine.Stopped.{Stopped}

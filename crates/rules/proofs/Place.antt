@@ -28,7 +28,7 @@ use Rattle.rules.proofs.Harden.{line-mono, line-suc, line-next, line-at
 use Rattle.rules.proofs.Function.{isBody, Formed, formed, FunctionAt, function-at, functions-mono, opens-function, InFunction, function-end, not-past-end, not-silent, after-it, Somewhere, somewhere}
 
 -- ---- the rets of some lines
-abbrev one-if : Bool → ℕ
+abbrev pub one-if : Bool → ℕ
 one-if b = cond b 1 0
 
 rets : List Line → ℕ
@@ -45,7 +45,7 @@ unfolding rets functionAt
 function-at-seam [] b = refl
 function-at-seam (x ∷ a) b = ap (λ k. one-if (isRet x) + k) (function-at-seam a b)
 
-function-at-next : (ls : List Line) (k : ℕ) → k < length ls → functionAt ls (suc k) ≡ functionAt ls k + one-if (isRet (lineAt ls k))
+pub function-at-next : (ls : List Line) (k : ℕ) → k < length ls → functionAt ls (suc k) ≡ functionAt ls k + one-if (isRet (lineAt ls k))
 unfolding functionAt
 function-at-next [] k h = absurd (not-suc-le-zero h)
 function-at-next (l ∷ ls) zero h = omega arith

@@ -1,10 +1,9 @@
 -- `machine::map::home_of` meets its contract. Assumes nothing.
-use mathlib.Core.Path.{_≡_, ap, _∙_}
-use Prim.Native.Nat.{_-_, _≤_}
+use mathlib.Core.Path.{ap, _∙_}
+use Prim.Native.Nat.{_-_}
 use native.Mathlib.Omega.{arith}
 use denote.Ref.{now}
 use borrow.Author.Needs.{needs}
-use Rattle.rules.specs.Line.{linesIn}
 use Rattle.machine.specs.Fields.{fieldsAt}
 use Rattle.machine.proofs.Decode.{line-bytes}
 use Rattle.machine.proofs.Sound.{some-place, home-in, home-is}

@@ -1,5 +1,5 @@
 -- `machine::map::survey` meets its contract. Assumes nothing.
-use Prim.Native.Nat.{_-_, _≤_, _<_, _/_}
+use Prim.Native.Nat.{_-_, _<_}
 use native.Mathlib.Omega.{arith}
 use denote.Ref.{now}
 use borrow.Author.Needs.{needs}

@@ -1,6 +1,5 @@
 use native.Mathlib.Omega.{arith}
-use mathlib.Core.Path.{_≡_, refl, sym, ap, _∙_}
-use borrow.Author.Needs.{needs}
+use mathlib.Core.Path.{refl, sym, _∙_}
 use Rattle.machine.specs.Step.{mapOf, partsOf}
 use Rattle.machine.proofs.Runs.{Running, run-none, run-went, run-stops, going-steps, going-on, not-went}
 use Rattle.machine.proofs.run.run_lines.Statement.{statement}

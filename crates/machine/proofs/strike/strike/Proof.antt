@@ -1,5 +1,5 @@
 -- `machine::strike::strike` meets its contract. Assumes nothing.
-use mathlib.Core.Path.{_≡_, _∙_}
+use mathlib.Core.Path.{_∙_}
 use native.Mathlib.Omega.{arith}
 use Rattle.machine.proofs.Runs.{not-went}
 use Rattle.machine.proofs.Struck.{going-fewer, going-left, struck-none, struck-stopped, struck-there}

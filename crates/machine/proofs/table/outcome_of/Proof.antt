@@ -1,5 +1,5 @@
 -- `machine::table::outcome_of` meets its contract. Assumes nothing.
-use mathlib.Core.Path.{_≡_, sym, ap}
+use mathlib.Core.Path.{sym, ap}
 use Rattle.rules.specs.Run.{outcomeOf}
 use borrow.Author.Needs.{needs}
 use Rattle.machine.proofs.table.outcome_of.Statement.{statement}
