@@ -2,6 +2,7 @@
 ghost use mathlib.Core.Path.{_≡_};
 ghost use Prim.Native.Nat.{_<_};
 ghost use Rattle.machine.specs.Step.{moved, openedOf, closedOf};
+ghost use Rattle.machine.specs.Run.{stoppedAt};
 ghost use Rattle.machine.specs.Struck.{Begun, machineAt};
 use rules::step::Step;
 
@@ -33,6 +34,25 @@ pub struct Moved {
 pub struct Stopped {
     pub step: Step,
     pub machine: Machine,
+}
+
+// The machine put together where a run stops.
+pub fn at_end(
+    step: Step,
+    places: [u16; 16],
+    functions: [u8; 16],
+    variables: [u16; 16],
+    hot: Hot,
+) -> Stopped
+    ensures { λ r. ⌜ r ≡ stoppedAt step places functions variables hot ⌝ }
+{
+    let machine = Machine {
+        places,
+        functions,
+        variables,
+        hot,
+    };
+    Stopped { step, machine }
 }
 
 pub fn stay(step: Step, hot: Hot) -> Moved

@@ -5,6 +5,7 @@ ghost use Rattle.machine.specs.Step.{mapOf};
 ghost use Rattle.machine.specs.Run.{partsIn, stoppedWith, runOf};
 ghost use Rattle.machine.specs.Stands.{Ready, Going};
 use crate::line;
+use crate::machine;
 use crate::machine::Machine;
 use crate::machine::Stopped;
 use rules::step::Step;
@@ -46,28 +47,12 @@ pub fn run_lines(
         h = t.hot;
         h.steps = steps;
         let Step::Went(k) = s else {
-            return Stopped {
-                step: s,
-                machine: Machine {
-                    places,
-                    functions,
-                    variables,
-                    hot: h,
-                },
-            };
+            return machine::at_end(s, places, functions, variables, h);
         };
         h.place = k;
         left -= 1;
     }
-    Stopped {
-        step: Step::Went(h.place),
-        machine: Machine {
-            places,
-            functions,
-            variables,
-            hot: h,
-        },
-    }
+    machine::at_end(Step::Went(h.place), places, functions, variables, h)
 }
 
 // One step is a run of one.
