@@ -5,10 +5,10 @@ use mathlib.Core.List.{List, [], _∷_}
 use Prim.Native.Nat.{ℕ, zero, suc, _+_, _*_, _≤_, _<_}
 use native.Mathlib.Omega.{arith}
 use lib.Dec.{eqb}
-use lib.ListN.{length, getD, set}
+use lib.ListN.{length, set}
 use lib.Seq.{getD-set-other}
 use Rattle.rules.specs.declared.step.Step.{Step}
-use Rattle.rules.specs.declared.step.Step.the-variants.{Went, Finished, Alarm, TooManyOpen, Beyond}
+use Rattle.rules.specs.declared.step.Step.the-variants.{Went, Finished, Alarm, TooManyOpen}
 use Rattle.rules.specs.Line.{Line}
 use Rattle.rules.specs.State.{Frame, goTo}
 use Rattle.rules.specs.Run.{Turn, on, ends, untaken}
@@ -16,9 +16,9 @@ use Rattle.rules.specs.Hardened.{Counters, Hardened, must, check}
 use Rattle.rules.specs.Bounds.{LineIn}
 use Rattle.machine.specs.Words.{counter}
 use Rattle.machine.specs.Guard.{Counted, counted}
-use Rattle.machine.specs.Step.{Parts, partsOf, After, guarded}
+use Rattle.machine.specs.Step.{Parts, After, guarded}
 use Rattle.machine.specs.Run.{partsAt}
-use Rattle.machine.specs.Stands.{Inside, Own, WaitsAt, Waiting, Sizes, Traced, Stands}
+use Rattle.machine.specs.Stands.{Inside, Own, Waiting, Traced, Stands}
 use Rattle.machine.proofs.Own.{SameBelow, waiting-same}
 
 -- ---- agreement

@@ -9,23 +9,22 @@ use lib.Dec.{eqb, ltb}
 use lib.ListN.{length, length-set, getD, set}
 use lib.Seq.{getD-set-same}
 use borrow.Author.Tests.{ltb-true, lt-ltb, le-ltb}
-use Rattle.rules.specs.declared.step.Step.the-variants.{Went, Finished, Alarm, TooManyOpen}
+use Rattle.rules.specs.declared.step.Step.the-variants.{Finished, Alarm, TooManyOpen}
 use Rattle.rules.specs.Line.{Line}
 use Rattle.rules.specs.Function.{functionAt, retValue}
 use Rattle.rules.specs.State.{Frame, frame, goTo, opening, returning, depth}
 use Rattle.rules.specs.Run.{Turn, on, ends}
 use Rattle.rules.specs.Hardened.{Counters, Hardened, put, clear, must, check, leaves, lineStep}
-use Rattle.rules.specs.Bounds.{Fits, LineIn}
+use Rattle.rules.specs.Bounds.{Fits}
 use Rattle.machine.specs.declared.fields.Fields.{Fields}
 use Rattle.machine.specs.declared.fields.LineKind.the-variants.{Call, Ret}
 use Rattle.machine.specs.Fields.{asLine}
-use Rattle.machine.specs.Words.{counter, withCounter, zeroed, freshAt}
-use Rattle.machine.specs.Guard.{counted}
-use Rattle.machine.specs.Step.{moved, openedOf, closedOf, Shifted, shifted, callOf, returnOf, Settled, settled, retOf, Map, Parts, partsOf, After, after, guarded, settling, lineOf, returnedOf}
+use Rattle.machine.specs.Words.{counter, withCounter, freshAt}
+use Rattle.machine.specs.Step.{moved, openedOf, closedOf, Shifted, shifted, callOf, returnOf, settled, retOf, Map, Parts, partsOf, After, after, settling, lineOf, returnedOf}
 use Rattle.machine.specs.Stands.{Inside, Sound, Mapped, Own, WaitsAt, Waiting, Stands}
 use Rattle.machine.proofs.Lists.{length-zeroed}
 use Rattle.machine.proofs.Own.{SameBelow, set-below, below-both, own-same, waiting-same, own-put, own-fresh, fresh-below}
-use Rattle.machine.proofs.Agree.{Agrees, GoesOn, EndsAs, alarm-ends, finished-ends, too-many-ends, inside-line, waiting-length, waiting-saved, ends-as}
+use Rattle.machine.proofs.Agree.{Agrees, GoesOn, alarm-ends, finished-ends, too-many-ends, inside-line, waiting-length, waiting-saved, ends-as}
 
 -- ---- a return
 module _ (ls : List Line) (held : List ℕ) (m : Map) (mp : Mapped ls m) (p : Parts) (s : Hardened) (st : Stands ls held p s) where
@@ -177,7 +176,7 @@ module _ (ls : List Line) (held : List ℕ) (sd : Sound ls) (m : Map) (mp : Mapp
           went = refl;
           stands = λ n. record {
             sizes = record { deep = deep; places-are = simp length-set (st .sizes .places-are); functions-are = simp length-set (st .sizes .functions-are); words-are = opened-long };
-            function-is = mp .owner-is (l .go) (go .in-table);
+            function-is = mp .located .owner-is (l .go) (go .in-table);
             at-is = refl;
             inside = record { known = sd .known (l .go) (go .in-table); not-before = go .not-before; not-after = omega (arith, go .not-after) };
             own-is = own-fresh checked-words (d + 1) (l .b) open-fits;

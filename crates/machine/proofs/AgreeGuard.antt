@@ -6,23 +6,23 @@ use Prim.Native.Nat.{ℕ, suc, _+_, _*_, _-_, _≤_, _<_}
 use native.Mathlib.Numerals.{add-one}
 use native.Mathlib.Omega.{arith}
 use lib.Dec.{eqb}
-use lib.ListN.{length, length-set, set}
-use Rattle.rules.specs.declared.step.Step.the-variants.{Went, Alarm}
+use lib.ListN.{length, length-set}
+use Rattle.rules.specs.declared.step.Step.the-variants.{Went}
 use Rattle.rules.specs.Line.{Line}
 use Rattle.rules.specs.Variables.{holdsOn}
 use Rattle.rules.specs.Run.{Turn}
-use Rattle.rules.specs.Hardened.{Counters, Hardened, put, clearFrom, moved, must, lineStep}
+use Rattle.rules.specs.Hardened.{Counters, Hardened, put, clearFrom, moved, lineStep}
 use Rattle.rules.specs.Bounds.{Fits}
 use Rattle.machine.specs.declared.fields.Fields.{Fields}
 use Rattle.machine.specs.declared.fields.LineKind.the-variants.{Tick, Test, Leave, Out, Back}
 use Rattle.machine.specs.Fields.{operandsOf, asLine}
-use Rattle.machine.specs.Words.{counter, withCounter, zeroed}
-use Rattle.machine.specs.Guard.{Counted, counted, tickOf, testOf, leaveOf, outOf, backOf}
+use Rattle.machine.specs.Words.{withCounter, zeroed}
+use Rattle.machine.specs.Guard.{counted, tickOf, testOf, leaveOf, outOf, backOf}
 use Rattle.machine.specs.Step.{Map, Parts, guarded, lineOf}
 use Rattle.machine.specs.Stands.{Own, Stands}
 use Rattle.machine.proofs.Lists.{length-zeroed}
 use Rattle.machine.proofs.Own.{SameBelow, set-below, zeroed-below, below-both, own-put, own-clear}
-use Rattle.machine.proofs.Agree.{Agrees, alarm-ends, ends-as, moves-on, both, checks}
+use Rattle.machine.proofs.Agree.{Agrees, moves-on, both, checks}
 
 module _ (ls : List Line) (held : List ℕ) (m : Map) (p : Parts) (s : Hardened) (st : Stands ls held p s) (l : Fields) where
   abbrev d : ℕ

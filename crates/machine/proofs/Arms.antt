@@ -2,8 +2,8 @@
 use mathlib.Core.Logic.{_≢_}
 use mathlib.Core.Path.{_≡_, refl, sym, ap, _∙_, subst}
 use mathlib.Core.List.{List}
-use Prim.Native.Nat.{ℕ, _+_, _*_, _≤_, _<_}
-use lib.ListN.{length, getD}
+use Prim.Native.Nat.{ℕ, _+_}
+use lib.ListN.{getD}
 use borrow.Author.Tests.{eq-eqb, ne-eqb}
 use Rattle.rules.specs.declared.step.Step.{Step}
 use Rattle.machine.specs.declared.fields.Fields.{Fields}
@@ -12,9 +12,9 @@ use Rattle.machine.specs.declared.fields.LineKind.the-variants.{Do, Tick
 use Rattle.machine.specs.declared.machine.Hot.{Hot}
 use Rattle.machine.specs.declared.machine.Moved.{Moved}
 use Rattle.machine.specs.Fields.{fieldsAt, lineKindAt}
-use Rattle.machine.specs.Ready.{FieldsIn, LineHere, CanStep}
+use Rattle.machine.specs.Ready.{FieldsIn, CanStep}
 use Rattle.machine.specs.Guard.{Counted, counted, tickOf, leaveOf, outOf, backOf}
-use Rattle.machine.specs.Step.{moved, returnOf, callOf, shifted, Settled, settled, retOf, testedOf, done, doOf, Map, mapOf, Parts, partsOf, after, guarded, settling, lineOf, lastLine, stepOf}
+use Rattle.machine.specs.Step.{moved, returnOf, callOf, shifted, Settled, settled, retOf, testedOf, done, doOf, Map, Parts, after, guarded, settling, lineOf, lastLine, stepOf}
 
 -- ---- the fields of a line of a known kind are in range
 pub fields-in : (bs ss ws tr : List ℕ) (h : Hot) → CanStep bs ss h ws tr → h .place ≢ getD ss (h .function + 1) 0

@@ -10,3 +10,7 @@ pub mod AgreeDo
 pub mod AgreeCall
 pub mod Steps
 pub mod Runs
+pub mod Sound
+pub mod Survey
+pub mod Struck
+pub mod Whole

@@ -1,8 +1,8 @@
 -- Laws of lists that the proofs cite. Assumes nothing.
-use Prim.Native.Nat.{ℕ, zero, suc, _+_, _*_, _-_, _≤_, _<_}
+use Prim.Native.Nat.{ℕ, _+_, _-_, _≤_}
 use native.Mathlib.Omega.{arith}
-use mathlib.Core.Path.{_≡_, refl}
-use mathlib.Core.List.{List, [], _∷_}
+use mathlib.Core.Path.{_≡_}
+use mathlib.Core.List.{List, []}
 use lib.ListN.{length, length-append, length-take, length-replicate, length-drop}
 use borrow.Rule.Slice.PartMut.{putMid, midOf, mid-len, post-is}
 use Rattle.rules.specs.Calls.{zeros}

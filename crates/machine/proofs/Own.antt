@@ -1,22 +1,19 @@
 -- The counters of a function after a store, and after words were cleared; those of the functions below stay. Assumes nothing.
-use mathlib.Core.Logic.{_≢_}
 use mathlib.Core.Path.{_≡_, refl, sym, ap, _∙_, subst}
 use mathlib.Core.Bool.{Bool, true, false, cond, _&&_}
 use mathlib.Core.List.{List, [], _∷_, _++_}
 use Prim.Native.Nat.{ℕ, zero, suc, _+_, _*_, _-_, _≤_, _<_}
-use native.Mathlib.Nat.{add-zero}
-use native.Mathlib.Decide.{decLt}
 use native.Mathlib.Omega.{arith}
 use lib.Dec.{eqb, leb}
 use lib.ListN.{length, getD, set, take, drop, getD-replicate, List·getD-append}
 use lib.Seq.{length-take-le, getD-append-add, getD-take, getD-drop, getD-set-same, getD-set-other}
-use borrow.Author.Tests.{eqb-true, eqb-false, leb-true, leb-false, le-leb, lt-leb}
+use borrow.Author.Tests.{eqb-true, eqb-false, leb-true, leb-false}
 use Rattle.rules.specs.Line.{Line}
 use Rattle.rules.specs.State.{Frame}
 use Rattle.rules.specs.Hardened.{Counters, clear, put, clearFrom}
 use Rattle.rules.specs.Calls.{zeros}
 use Rattle.machine.specs.Words.{counter, withCounter, zeroed, freshAt}
-use Rattle.machine.specs.Stands.{Own, WaitsAt, Waiting}
+use Rattle.machine.specs.Stands.{Own, Waiting}
 use Rattle.machine.proofs.Lists.{length-zeros, length-zeroed}
 
 -- ---- words that were cleared

@@ -1,6 +1,6 @@
 -- What a call and a return come to, by what was tested on the way. Assumes nothing.
 use mathlib.Core.Logic.{_≢_}
-use mathlib.Core.Path.{_≡_, refl, sym, ap, _∙_}
+use mathlib.Core.Path.{_≡_}
 use mathlib.Core.List.{List}
 use Prim.Native.Nat.{ℕ, _+_, _*_, _-_, _≤_, _<_}
 use lib.ListN.{getD, set}
@@ -9,7 +9,7 @@ use Rattle.rules.specs.declared.step.Step.the-variants.{Finished, Alarm, TooMan
 use Rattle.machine.specs.declared.fields.Fields.{Fields}
 use Rattle.machine.specs.declared.machine.Hot.{Hot}
 use Rattle.machine.specs.declared.machine.Moved.{Moved}
-use Rattle.machine.specs.Words.{counter, freshAt}
+use Rattle.machine.specs.Words.{freshAt}
 use Rattle.machine.specs.Step.{moved, openedOf, closedOf, shifted, callOf, returnOf, settled, retOf}
 
 module _ (l : Fields) (os : List ℕ) (h : Hot) (i : ℕ) (ps fs ws : List ℕ) (at : i ≡ 64 * h .depth + l .r) where

@@ -3,7 +3,6 @@ use mathlib.Core.Logic.{⊎-elim}
 use mathlib.Core.Path.{_≡_, refl, sym, ap, _∙_, subst}
 use mathlib.Core.List.{List, [], _∷_}
 use Prim.Native.Nat.{ℕ, zero, suc, _+_, _-_, _≤_, _<_}
-use native.Mathlib.Numerals.{add-one}
 use native.Mathlib.Omega.{arith}
 use lib.ListN.{length}
 use types.Run.{OneOf}
@@ -18,11 +17,14 @@ use Rattle.machine.specs.Ready.{CanStep}
 use Rattle.machine.specs.Step.{Map, Parts, After, stepOf}
 use Rattle.machine.specs.Run.{partsAt, onward, stopsAfter, runOf}
 use Rattle.machine.specs.Stands.{Ready, Traced, Stands, Going}
-use Rattle.machine.proofs.Agree.{GoesOn, EndsAs, IsEnd, Agrees}
+use Rattle.machine.proofs.Agree.{GoesOn, IsEnd, Agrees}
 use Rattle.machine.proofs.Steps.{can-step, step-agrees}
 
+pub went-same : {x y : ℕ} → Went x ≡ Went y → x ≡ y
+went-same e = cc
+
 -- ---- a run by what its first step answers
-onward-end : {A : Type 0} (o : Step) → IsEnd o → (f : ℕ → A) (z : A) → onward o f z ≡ z
+pub onward-end : {A : Type 0} (o : Step) → IsEnd o → (f : ℕ → A) (z : A) → onward o f z ≡ z
 onward-end (Went k) n f z = absurd (n k refl)
 onward-end Finished n f z = refl
 onward-end Alarm n f z = refl
@@ -75,9 +77,6 @@ going-by ls left p g h a k z (on s) r =
       slots = omega (arith, g .slots);
       traced = omega (arith, g .traced, r .traced-more);
     }
-  where
-    went-same : {x y : ℕ} → Went x ≡ Went y → x ≡ y
-    went-same e = cc
 going-by ls left p g h a k z (ends o s) r = absurd (r .is-end k (sym (r .is) ∙ z))
 going-by ls left p g h a k z (untaken o s) r = absurd r
 
@@ -103,7 +102,7 @@ pub record Ended (ls : List Line) (held : List ℕ) (a : After) (x : Answer Coun
   pub still-stands : (k : ℕ) → x .step ≡ Went k → Stands ls held (a .parts) (x .state)
   pub traced-few : (k : ℕ) → x .step ≡ Went k → a .parts .hot .traced ≤ a .parts .hot .steps
 
-ended-by : (ls : List Line) (held : List ℕ) (p : Parts) (k : ℕ) → p .hot .steps ≡ k → (a : After) (f : ℕ → After) (g : Hardened → Answer Counters)
+pub ended-by : (ls : List Line) (held : List ℕ) (p : Parts) (k : ℕ) → p .hot .steps ≡ k → (a : After) (f : ℕ → After) (g : Hardened → Answer Counters)
     → (t : Turn Counters) → Agrees ls held (p .hot .traced) a t
     → ((j : ℕ) (s : Hardened) → a .step ≡ Went j → GoesOn ls held (p .hot .traced) a s → Ended ls held (f j) (g s))
     → Ended ls held (onward (a .step) f (stopsAfter (p .hot .steps + 1) a)) (after k t g)
@@ -138,9 +137,6 @@ run-agrees bs m rd held (suc b) k p s st n d h =
     ended-by (linesIn bs) held p k n (stepOf bs m p) _ _ (hardenedStep (linesIn bs) s) (step-agrees bs m rd held p s st (omega arith))
     (λ j s′ z r. next j s′ r (went-same (sym (r .went) ∙ z)) (λ p′ s″ st′ n′ d′. run-agrees bs m rd held b (suc k) p′ s″ st′ n′ d′ (omega arith)))
   where
-    went-same : {x y : ℕ} → Went x ≡ Went y → x ≡ y
-    went-same e = cc
-
     next : (j : ℕ) (s′ : Hardened) (r : GoesOn (linesIn bs) held (p .hot .traced) (stepOf bs m p) s′) → r .place ≡ j
         → ((p′ : Parts) (s″ : Hardened) → Stands (linesIn bs) held p′ s″ → p′ .hot .steps ≡ suc k → p′ .hot .traced ≤ suc k → Ended (linesIn bs) held (runOf bs m b p′) (run (strikingStep (linesIn bs) none) b (suc k) s″))
         → Ended (linesIn bs) held (runOf bs m b (partsAt (stepOf bs m p .parts) j (p .hot .steps + 1))) (run (strikingStep (linesIn bs) none) b (suc k) s′)

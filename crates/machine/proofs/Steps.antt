@@ -2,15 +2,15 @@
 use mathlib.Core.Logic.{_≢_}
 use mathlib.Core.Path.{_≡_, refl, sym, ap, _∙_, subst}
 use mathlib.Core.Bool.{Bool, true, false, cond}
-use mathlib.Core.List.{List, _++_}
-use Prim.Native.Nat.{ℕ, suc, _+_, _*_, _-_, _≤_, _<_}
+use mathlib.Core.List.{List}
+use Prim.Native.Nat.{ℕ, suc, _≤_, _<_}
 use native.Mathlib.Numerals.{add-one}
 use native.Mathlib.Omega.{arith}
 use lib.Dec.{eqb}
 use lib.ListN.{length, getD, drop, length-append, length-drop}
-use borrow.Author.Tests.{eqb-true, eqb-false}
+use borrow.Author.Tests.{eqb-false}
 use Rattle.rules.specs.Line.{Line, linesIn, lineAt}
-use Rattle.rules.specs.Function.{functionAt, startOf, finishOf}
+use Rattle.rules.specs.Function.{functionAt, finishOf}
 use Rattle.rules.specs.Hardened.{Hardened, leaves, lineStep, hardenedStep}
 use Rattle.rules.specs.Bounds.{Fits}
 use Rattle.rules.specs.Calls.{over}
@@ -38,9 +38,9 @@ module _ (bs : List ℕ) (m : Map) (rd : Ready bs m) (held : List ℕ) (p : Part
   f = s .running .function
 
   -- ---- the line of the running function's place
-  last-line : lastLine m (p .hot) ≡ finishOf ls f
+  pub last-line : lastLine m (p .hot) ≡ finishOf ls f
   last-line =
-      ap (λ n. getD (m .starts) n 0) (add-one (p .hot .function) ∙ ap suc (st .function-is)) ∙ rd .mapped .start-is (suc f) (st .inside .known)
+      ap (λ n. getD (m .starts) n 0) (add-one (p .hot .function) ∙ ap suc (st .function-is)) ∙ rd .mapped .located .start-is (suc f) (st .inside .known)
 
   before-last : p .hot .place ≢ finishOf ls f → p .hot .place < finishOf ls f
   before-last n = by (s .running .at) (st .at-is) (st .inside .not-after)

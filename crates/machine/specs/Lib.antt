@@ -5,3 +5,5 @@ pub mod Ready
 pub mod Step
 pub mod Run
 pub mod Stands
+pub mod Map
+pub mod Struck

@@ -15,6 +15,10 @@ partsIn m ws tr = partsOf (m .hot) (m .places) (m .functions) (m .variables) ws 
 abbrev pub stoppedWith : Stopped → (words slots : List ℕ) → After
 stoppedWith x ws tr = record { step = x .step; parts = partsIn (x .machine) ws tr }
 
+-- the machine put together where a run stops
+abbrev pub stoppedAt : Step → (places functions vars : List ℕ) → Hot → Stopped
+stoppedAt s ps fs vs h = record { step = s; machine = record { places = ps; functions = fs; variables = vs; hot = h } }
+
 -- the numbers with the place and the steps set
 abbrev pub hotAt : Hot → (place steps : ℕ) → Hot
 hotAt h k n =

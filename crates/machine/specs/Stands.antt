@@ -29,10 +29,13 @@ pub record Sound (ls : List Line) : Type 0 where
   pub ordered : (f : ℕ) → f < functionAt ls (length ls) → startOf ls f ≤ finishOf ls f
   pub finish-in : (f : ℕ) → f < functionAt ls (length ls) → finishOf ls f ≤ length ls
 
--- the map says where the functions of these lines are
+-- the first line of each function, and the function of each line
+pub record Located (ls : List Line) (starts owners : List ℕ) : Type 0 where
+  pub start-is : (n : ℕ) → n ≤ functionAt ls (length ls) → getD starts n 0 ≡ startOf ls n
+  pub owner-is : (k : ℕ) → k < length ls → getD owners k 0 ≡ functionAt ls k
+
 pub record Mapped (ls : List Line) (m : Map) : Type 0 where
-  pub start-is : (n : ℕ) → n ≤ functionAt ls (length ls) → getD (m .starts) n 0 ≡ startOf ls n
-  pub owner-is : (k : ℕ) → k < length ls → getD (m .owners) k 0 ≡ functionAt ls k
+  pub located : Located ls (m .starts) (m .owners)
   pub home-is : m .home ≡ retValue ls 0
 
 pub record Ready (bs : List ℕ) (m : Map) : Type 0 where

@@ -2,6 +2,8 @@
 ghost use mathlib.Core.Path.{_≡_};
 ghost use Prim.Native.Nat.{_<_};
 ghost use Rattle.machine.specs.Step.{moved, openedOf, closedOf};
+ghost use Rattle.machine.specs.Run.{stoppedAt};
+ghost use Rattle.machine.specs.Struck.{Begun, machineAt};
 use rules::step::Step;
 
 // The numbers of a run. The functions that wait for the running one are as many as its depth.
@@ -34,6 +36,25 @@ pub struct Stopped {
     pub machine: Machine,
 }
 
+// The machine put together where a run stops.
+pub fn at_end(
+    step: Step,
+    places: [u16; 16],
+    functions: [u8; 16],
+    variables: [u16; 16],
+    hot: Hot,
+) -> Stopped
+    ensures { λ r. ⌜ r ≡ stoppedAt step places functions variables hot ⌝ }
+{
+    let machine = Machine {
+        places,
+        functions,
+        variables,
+        hot,
+    };
+    Stopped { step, machine }
+}
+
 pub fn stay(step: Step, hot: Hot) -> Moved
     ensures { λ r. ⌜ r ≡ moved step hot ⌝ }
 {
@@ -61,4 +82,43 @@ pub fn closed(h: Hot, function: u8, place: u16, v: u16) -> Moved
     n.function = function;
     n.last = v;
     stay(Step::Went(place), n)
+}
+
+// The machine that a run starts in: function 0 is open, at line 0.
+pub fn begun(variables: [u16; 16]) -> Machine
+    ensures { λ r. ⌜ Begun r variables ⌝ }
+{
+    let places = [0; 16];
+    let functions = [0; 16];
+    let hot = Hot {
+        depth: 0,
+        function: 0,
+        place: 0,
+        last: 0,
+        steps: 0,
+        traced: 0,
+    };
+    Machine {
+        places,
+        functions,
+        variables,
+        hot,
+    }
+}
+
+// The running function goes to another place.
+pub fn at_place(m: Machine, place: u16) -> Machine
+    ensures { λ r. ⌜ r ≡ machineAt m place ⌝ }
+{
+    let places = m.places;
+    let functions = m.functions;
+    let variables = m.variables;
+    let mut hot = m.hot;
+    hot.place = place;
+    Machine {
+        places,
+        functions,
+        variables,
+        hot,
+    }
 }

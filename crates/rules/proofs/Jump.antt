@@ -30,10 +30,10 @@ use Rattle.rules.proofs.Unstruck.{lineMachine}
 use Rattle.rules.proofs.Alarm.{Keeps, Caught, at-once, one-later, catches}
 
 -- ---- a step that the jump does not name
-not-now : (ls : List Line) (j p k : ℕ) (h : Hardened) → j ≢ k → struck ls (jump j p) k h ≡ on h
+pub not-now : (ls : List Line) (j p k : ℕ) (h : Hardened) → j ≢ k → struck ls (jump j p) k h ≡ on h
 not-now ls j p k h x = rw (ne-eqb j k x)
 
-after-same : (k : ℕ) (r : Turn Counters) (f g : Hardened → Answer Counters) → ((h : Hardened) → f h ≡ g h) → after k r f ≡ after k r g
+pub after-same : (k : ℕ) (r : Turn Counters) (f g : Hardened → Answer Counters) → ((h : Hardened) → f h ≡ g h) → after k r f ≡ after k r g
 after-same k (on h) f g e = e h
 after-same k (ends o h) f g e = refl
 after-same k (untaken o h) f g e = refl

@@ -1,6 +1,5 @@
 use Rattle.machine.proofs.Returns.{call-alarm, call-deep, call-opens}
 use lib.ListN.{length-set}
-use native.Mathlib.Omega.{arith}
 use mathlib.Core.Path.{_∙_}
 use borrow.Author.Needs.{needs}
 use Rattle.machine.proofs.call.call.Statement.{statement}

@@ -1,6 +1,6 @@
 use Rattle.machine.proofs.Guards.{test-held, test-failed}
 use Rattle.machine.specs.Guard.{testOf}
-use borrow.Author.Tests.{ne-eqb, eq-eqb}
+use borrow.Author.Tests.{ne-eqb}
 use lib.ListN.{length-set}
 use mathlib.Core.Path.{_∙_}
 use borrow.Author.Needs.{needs}

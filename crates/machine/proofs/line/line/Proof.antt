@@ -1,5 +1,5 @@
 use Rattle.machine.proofs.Arms.{fields-in, at-last, do-arm, tick-arm, test-arm, leave-arm, out-arm, call-arm, back-arm, ret-arm}
-use Rattle.machine.specs.declared.fields.LineKind.the-variants.{Do, Tick, Test, Leave, Out, Call, Back, Ret}
+use Rattle.machine.specs.declared.fields.LineKind.the-variants.{Do, Tick, Test, Leave, Out, Call, Back}
 use borrow.Author.Needs.{needs}
 use Rattle.machine.proofs.line.line.Statement.{statement}
 use Rattle.machine.proofs.line.line.Tie as tie

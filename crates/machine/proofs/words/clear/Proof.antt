@@ -1,12 +1,11 @@
 use denote.Ref.{now}
 use Rattle.rules.specs.Calls.{zeros}
 use borrow.Author.Needs.{needs}
-use borrow.Author.Fill.{fill-none, fill-more}
-use mathlib.Core.Path.{_≡_, _∙_, ap, refl}
+use borrow.Author.Fill.{fill-more}
+use mathlib.Core.Path.{_≡_, _∙_}
 use mathlib.Core.List.{_++_, append-nil}
 use Prim.Native.Nat.{_≤_, _-_}
 use native.Mathlib.Omega.{arith}
-use native.Mathlib.Nat.{le-antisymm}
 use lib.ListN.{length, length-set, replicate, drop}
 use lib.Seq.{drop-length}
 use Rattle.machine.proofs.words.clear.Statement.{statement}

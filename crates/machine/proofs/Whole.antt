@@ -1,0 +1,90 @@
+-- A whole run of the code: what it starts in stands for the start, and what it answers is what the definitions say. Assumes a hardened
+-- table.
+use mathlib.Core.Path.{_≡_, refl, sym, ap, _∙_, subst}
+use mathlib.Core.List.{List, [], _++_}
+use Prim.Native.Nat.{ℕ, _≤_}
+use native.Mathlib.Omega.{arith}
+use lib.ListN.{length, length-set, drop}
+use Rattle.rules.specs.declared.answer.Ran.{Ran}
+use Rattle.rules.specs.declared.refusal.Verdict.the-variants.{Accepted}
+use Rattle.rules.specs.Line.{Line, linesIn}
+use Rattle.rules.specs.Run.{outcomeOf}
+use Rattle.rules.specs.Hardened.{clear, put, strikeBy, hardenedStart, hardenedRun}
+use Rattle.rules.specs.Calls.{running, zeros, countersAfter}
+use Rattle.machine.specs.declared.machine.Machine.{Machine}
+use Rattle.machine.specs.declared.machine.Stopped.{Stopped}
+use Rattle.machine.specs.Words.{freshAt}
+use Rattle.machine.specs.Step.{Map, partsOf}
+use Rattle.machine.specs.Run.{partsIn, stoppedWith}
+use Rattle.machine.specs.Stands.{Own, Sound, Ready, Stands, Going}
+use Rattle.machine.specs.Struck.{firstHot, Begun, struckOf, ranOf, ranWith, acceptedRun}
+use Rattle.machine.proofs.Lists.{length-zeros, length-zeroed}
+use Rattle.machine.proofs.Own.{own-fresh}
+use Rattle.machine.proofs.Runs.{Ended}
+use Rattle.machine.proofs.Struck.{whole-agrees}
+
+-- ---- the start
+stands-first : (ls : List Line) → Sound ls → (ps fs vs ws tr : List ℕ) → length ps ≡ 16 → length fs ≡ 16 → length ws ≡ 1024 → Own ws 0 (put 0 1 clear)
+    → Stands ls tr (partsOf firstHot ps fs vs ws tr) (hardenedStart vs)
+stands-first ls so ps fs vs ws tr a b c o =
+    record {
+      sizes = record { deep = omega arith; places-are = a; functions-are = b; words-are = c };
+      function-is = refl;
+      at-is = refl;
+      inside = so .first;
+      own-is = o;
+      waiting = tt;
+      last-is = refl;
+      vars-are = refl;
+      traces = record { slots-are = refl; traced-is = refl };
+    }
+
+module _ (bs vs ws tr : List ℕ) (x : Machine) (so : Sound (linesIn bs)) (bg : Begun x vs) (long : length ws ≡ 1024) (b : ℕ) (h : b ≤ length tr) (few : b ≤ 65535) where
+  fresh-long : length (freshAt ws 0 1) ≡ 1024
+  fresh-long = simp length-set (length-zeroed ws 0 64 (omega arith) ∙ long)
+
+  pub stands-start : Stands (linesIn bs) tr (partsIn x (freshAt ws 0 1) tr) (hardenedStart vs)
+  stands-start =
+      subst (λ hot. Stands (linesIn bs) tr (partsOf hot (x .places) (x .functions) (x .variables) (freshAt ws 0 1) tr) (hardenedStart vs)) (sym (bg .hot-is))
+      (subst (λ y. Stands (linesIn bs) tr (partsOf firstHot (x .places) (x .functions) y (freshAt ws 0 1) tr) (hardenedStart vs)) (sym (bg .vars-are))
+      (stands-first (linesIn bs) so (x .places) (x .functions) vs (freshAt ws 0 1) tr (bg .places-are) (bg .functions-are) fresh-long (own-fresh ws 0 1 (omega arith))))
+
+  no-steps : x .hot .steps ≡ 0
+  no-steps = ap (λ hot. hot .steps) (bg .hot-is)
+
+  none-traced : x .hot .traced ≡ 0
+  none-traced = ap (λ hot. hot .traced) (bg .hot-is)
+
+  pub going-start : Going (linesIn bs) b (partsIn x (freshAt ws 0 1) tr)
+  going-start =
+      record {
+        state = hardenedStart vs;
+        held = tr;
+        stands = stands-start;
+        few = omega (arith, no-steps);
+        slots = omega (arith, no-steps);
+        traced = omega (arith, none-traced);
+      }
+
+-- ---- the end
+all-same : (o o′ n n′ t t′ : ℕ) (vs vs′ tr tr′ ws ws′ : List ℕ) → o ≡ o′ → n ≡ n′ → t ≡ t′ → vs ≡ vs′ → tr ≡ tr′ → ws ≡ ws′
+    → ranWith (record { number = 0; outcome = o; steps = n; traced = t; variables = vs }) tr ws
+    ≡ ranWith (record { number = 0; outcome = o′; steps = n′; traced = t′; variables = vs′ }) tr′ ws′
+all-same o o′ n n′ t t′ vs vs′ tr tr′ ws ws′ a b c d e f = rw (a, b, c, d, e, f)
+
+pub answer-is : (bs : List ℕ) (m : Map) → Ready bs m → (vs ws tr : List ℕ) (b k place : ℕ) (x : Machine) → Begun x vs → length ws ≡ 1024 → b ≤ length tr → b ≤ 65535
+    → (y : Stopped) (ws′ tr′ : List ℕ) → stoppedWith y ws′ tr′ ≡ struckOf bs m b k place (partsIn x (freshAt ws 0 1) tr)
+    → (r : Ran) → r ≡ ranOf y → (ws″ : List ℕ) → ws″ ≡ zeros 1024 → ranWith r tr′ ws″ ≡ acceptedRun bs vs b k place tr (zeros 1024)
+unfolding running
+answer-is bs m rd vs ws tr b k place x bg long h few y ws′ tr′ e r q ws″ z =
+    let st = stands-start bs vs ws tr x (rd .sound) bg long b h few in
+    let w : Ended (linesIn bs) tr (stoppedWith y ws′ tr′) (hardenedRun (linesIn bs) (strikeBy k place) b vs) =
+    subst (λ a. Ended (linesIn bs) tr a (hardenedRun (linesIn bs) (strikeBy k place) b vs)) (sym e)
+    (whole-agrees bs m rd tr vs b k place (partsIn x (freshAt ws 0 1) tr) st (ap (λ hot. hot .steps) (bg .hot-is)) (ap (λ hot. hot .traced) (bg .hot-is)) h few) in
+    ap (λ a. ranWith a tr′ ws″) q
+    ∙ all-same _ _ _ _ _ _ _ _ _ _ _ _ (ap outcomeOf (w .step-is)) (w .steps-are) (w .traces .traced-is) (w .vars-are) (w .traces .slots-are) z
+
+-- ---- the words beyond the first 1,024 stay
+pub words-after : (ws : List ℕ) → zeros 1024 ++ drop 1024 ws ≡ countersAfter Accepted ws
+unfolding countersAfter
+words-after ws = ap (λ n. zeros 1024 ++ drop n ws) (sym (length-zeros 1024))

@@ -1,0 +1,52 @@
+// Where the functions of a hardened table are: one pass over its lines.
+ghost use mathlib.Core.Path.{_≡_};
+ghost use Prim.Native.Nat.{_+_, _*_, _≤_, _<_};
+ghost use lib.ListN.{length};
+ghost use Rattle.rules.specs.Line.{linesIn};
+ghost use Rattle.rules.specs.Function.{retValue};
+ghost use Rattle.machine.specs.Fields.{lineKindAt};
+ghost use Rattle.machine.specs.Map.{passed, passedOf};
+ghost use Rattle.machine.specs.Stands.{Sound, Located};
+use crate::fields;
+use crate::fields::LineKind;
+
+// A line of a function is passed: the function of the next line.
+fn pass(lines: &[u8], line: u16, function: u8, starts: &mut [u16; 33]) -> u8
+    requires { ⌜ (20 * line + 20 ≤ length (now lines)) × (line < 65535) × (function < 32) ⌝ }
+    ensures { λ r. ⌜ passed r (now (starts .exit)) ≡ passedOf (lineKindAt (now (lines .entry)) line) line function (now (starts .entry)) ⌝ }
+{
+    let kind = fields::kind_at(lines, line);
+    let LineKind::Ret = kind else {
+        return function;
+    };
+    let next = function + 1;
+    let n = next as usize;
+    starts[n] = line + 1;
+    next
+}
+
+pub fn survey(lines: &[u8], starts: &mut [u16; 33], owners: &mut [u8; 2049])
+    requires { ⌜ (Sound (linesIn (now lines))) × (length (now starts) ≡ 33) × (length (now owners) ≡ 2049) ⌝ }
+    ensures { λ _. ⌜ Located (linesIn (now (lines .entry))) (now (starts .exit)) (now (owners .exit)) ⌝ }
+{
+    let count = (lines.len() / 20) as u16;
+    starts[0] = 0;
+    let mut function: u8 = 0;
+    let mut line: u16 = 0;
+    while line < count {
+        let k = line as usize;
+        owners[k] = function;
+        function = pass(lines, line, function, starts);
+        line += 1;
+    }
+}
+
+// The a of function 0's ret.
+pub fn home_of(lines: &[u8], starts: &[u16; 33], owners: &[u8; 2049]) -> u16
+    requires { ⌜ (Sound (linesIn (now lines))) × (Located (linesIn (now lines)) (now starts) (now owners)) ⌝ }
+    ensures { λ r. ⌜ r ≡ retValue (linesIn (now (lines .entry))) 0 ⌝ }
+{
+    let finish = starts[1];
+    let l = fields::fields_at(lines, finish - 1);
+    l.a
+}
