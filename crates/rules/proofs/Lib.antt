@@ -33,6 +33,7 @@ pub mod ReadBack
 pub mod Reading
 pub mod Calls
 pub mod Demand3
+pub mod Promise
 pub mod Instance
 pub mod Compute
 pub mod Cases

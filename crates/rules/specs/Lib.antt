@@ -23,6 +23,7 @@ pub mod Arithmetic
 pub mod Checks
 pub mod Match
 pub mod Demands
+pub mod Promise
 pub mod Reading
 pub mod Bounds
 pub mod Links
