@@ -1,19 +1,23 @@
 -- The public calls by what the table gets: what a refusal gives back, and what is left to do for an accepted table. Assumes nothing.
-use mathlib.Core.Path.{_≡_, refl, ap}
-use mathlib.Core.Bool.{Bool, true, false, cond, not}
+use mathlib.Core.Path.{_≡_, refl, ap, _∙_}
+use mathlib.Core.Bool.{Bool, true, false, cond, not, _||_}
 use mathlib.Core.List.{List}
 use Prim.Native.Nat.{ℕ, _≤_, _<_}
 use lib.ListN.{length}
 use borrow.Author.Tests.{lt-ltb, le-ltb}
 use Rattle.rules.specs.declared.refusal.Refusal.{Refusal}
-use Rattle.rules.specs.declared.refusal.Refusal.the-variants.{ShortOutput, NotHardened}
+use Rattle.rules.specs.declared.refusal.Refusal.the-variants.{ShortOutput, ShortRoom, NotHardened}
 use Rattle.rules.specs.declared.refusal.Verdict.{Verdict}
 use Rattle.rules.specs.declared.refusal.Verdict.the-variants.{Accepted, Refused}
 use Rattle.rules.specs.Refusal.{numberOf, refuseIf, andThen}
 use Rattle.rules.specs.Check.{verdictOf}
 use Rattle.rules.specs.Harden.{hardenedBytes}
 use Rattle.rules.specs.ReadBack.{sourceBytes, isHardened}
-use Rattle.rules.specs.Calls.{over, Writing, writing, shortOutput, hardenCall, checkHardenedCall, readBackCall}
+use Rattle.rules.specs.Row.{tableOf}
+use Rattle.rules.specs.Line.{linesIn}
+use Rattle.rules.specs.Source.{sourceRun}
+use Rattle.rules.specs.Hardened.{strikeBy, hardenedRun}
+use Rattle.rules.specs.Calls.{over, Writing, writing, shortOutput, hardenCall, checkHardenedCall, readBackCall, Running, running, shortTrace, runSourceCall, shortCounters, countersAfter, HardenedRunning, hardenedVerdict, runHardenedCall}
 
 pub harden-refused : (rows out : List ℕ) (r : Refusal) → verdictOf rows ≡ Refused r
     → hardenCall rows out ≡ record { wrote = record { number = numberOf (Refused r); length = 0 }; out = out }
@@ -51,3 +55,69 @@ pub write-fits : (answer out : List ℕ) → length answer ≤ length out
     → writing (shortOutput answer out) answer out ≡ record { wrote = record { number = 0; length = length answer }; out = over answer out }
 unfolding writing
 write-fits answer out h = ap (λ b. writing (refuseIf b ShortOutput) answer out) (le-ltb (length out) (length answer) h)
+
+-- ---- runs: what a refusal gives back, and what is left to do
+-- "Returned: number, zeros, variables as given. Unchanged: all."
+abbrev pub refusedRunning : Refusal → (vars slots : List ℕ) → Running
+refusedRunning r vs slots =
+    record { ran = record { number = numberOf (Refused r); outcome = 0; steps = 0; traced = 0; variables = vs }; trace = slots }
+
+pub run-source-refused : (rows vs : List ℕ) (b : ℕ) (slots : List ℕ) (r : Refusal) → verdictOf rows ≡ Refused r
+    → runSourceCall rows vs b slots ≡ refusedRunning r vs slots
+unfolding runSourceCall running
+run-source-refused rows vs b slots r e =
+    ap (λ v. running (andThen v (refuseIf (shortTrace b slots) ShortRoom)) (sourceRun (tableOf rows) b vs) vs slots) e
+
+pub run-source-short : (rows vs : List ℕ) (b : ℕ) (slots : List ℕ) → verdictOf rows ≡ Accepted → length slots < b
+    → runSourceCall rows vs b slots ≡ refusedRunning ShortRoom vs slots
+unfolding runSourceCall running
+run-source-short rows vs b slots e h =
+    ap (λ v. running (andThen v (refuseIf (shortTrace b slots) ShortRoom)) (sourceRun (tableOf rows) b vs) vs slots) e
+    ∙ ap (λ x. running (refuseIf x ShortRoom) (sourceRun (tableOf rows) b vs) vs slots) (lt-ltb (length slots) b h)
+
+pub run-source-accepted : (rows vs : List ℕ) (b : ℕ) (slots : List ℕ) → verdictOf rows ≡ Accepted → b ≤ length slots
+    → runSourceCall rows vs b slots ≡ running Accepted (sourceRun (tableOf rows) b vs) vs slots
+unfolding runSourceCall
+run-source-accepted rows vs b slots e h =
+    ap (λ v. running (andThen v (refuseIf (shortTrace b slots) ShortRoom)) (sourceRun (tableOf rows) b vs) vs slots) e
+    ∙ ap (λ x. running (refuseIf x ShortRoom) (sourceRun (tableOf rows) b vs) vs slots) (le-ltb (length slots) b h)
+
+module _ (lines vs : List ℕ) (b k p : ℕ) (slots words : List ℕ) where
+  -- by what the lines, the slots and the words get
+  hardened-by : {v : Verdict} → hardenedVerdict lines b slots words ≡ v
+      → runHardenedCall lines vs b k p slots words
+      ≡ record { run = running v (hardenedRun (linesIn lines) (strikeBy k p) b vs) vs slots; words = countersAfter v words }
+  unfolding runHardenedCall
+  hardened-by e =
+      ap (λ v. record { run = running v (hardenedRun (linesIn lines) (strikeBy k p) b vs) vs slots; words = countersAfter v words }) e
+
+  room-verdict : {x y : Bool} → isHardened lines ≡ true → shortTrace b slots ≡ x → shortCounters words ≡ y
+      → hardenedVerdict lines b slots words ≡ refuseIf (x || y) ShortRoom
+  unfolding hardenedVerdict
+  room-verdict {x} {y} e f g =
+      ap (λ c. andThen (refuseIf (not c) NotHardened) (refuseIf (shortTrace b slots || shortCounters words) ShortRoom)) e
+      ∙ ap (λ c. refuseIf (c || shortCounters words) ShortRoom) f ∙ ap (λ c. refuseIf (x || c) ShortRoom) g
+
+  pub run-hardened-refused : isHardened lines ≡ false
+      → runHardenedCall lines vs b k p slots words ≡ record { run = refusedRunning NotHardened vs slots; words = words }
+  unfolding hardenedVerdict running countersAfter
+  run-hardened-refused e =
+      hardened-by (ap (λ c. andThen (refuseIf (not c) NotHardened) (refuseIf (shortTrace b slots || shortCounters words) ShortRoom)) e)
+
+  pub run-hardened-no-slots : isHardened lines ≡ true → length slots < b
+      → runHardenedCall lines vs b k p slots words ≡ record { run = refusedRunning ShortRoom vs slots; words = words }
+  unfolding running countersAfter
+  run-hardened-no-slots e h = hardened-by (room-verdict e (lt-ltb (length slots) b h) refl)
+
+  pub run-hardened-no-words : isHardened lines ≡ true → b ≤ length slots → length words < 1024
+      → runHardenedCall lines vs b k p slots words ≡ record { run = refusedRunning ShortRoom vs slots; words = words }
+  unfolding running countersAfter
+  run-hardened-no-words e h g = hardened-by (room-verdict e (le-ltb (length slots) b h) (lt-ltb (length words) 1024 g))
+
+  pub run-hardened-accepted : isHardened lines ≡ true → b ≤ length slots → 1024 ≤ length words
+      → runHardenedCall lines vs b k p slots words
+      ≡ record {
+        run = running Accepted (hardenedRun (linesIn lines) (strikeBy k p) b vs) vs slots;
+        words = countersAfter Accepted words;
+      }
+  run-hardened-accepted e h g = hardened-by (room-verdict e (le-ltb (length slots) b h) (le-ltb (length words) 1024 g))
