@@ -1,0 +1,75 @@
+use Rattle.source.proofs.run.run_rows.Statement.{statement}
+use Rattle.source.proofs.run.run_rows.Tie as tie
+use Rattle.source.proofs.run.run_rows.Reads as reads
+use Rattle.source.proofs.run.run_rows.Lts as lts
+use Rattle.source.proofs.step.row.Reads as row-reads
+
+abbrev Inv-loop : tie.InvT-loop
+Inv-loop rows map ends elses heads budget trace₀ places₀ functions₀ variables₀ h₀ left₀ trace places functions variables h left =
+    ?
+
+abbrev μ-loop : tie.MeasureT-loop
+μ-loop rows map ends elses heads budget trace₀ places₀ functions₀ variables₀ h₀ left₀ trace places functions variables h left =
+    ?
+
+-- src/run.rt:29:5
+loop-holds : tie.Need-loop-holds Inv-loop μ-loop
+loop-holds c = ?
+
+-- src/run.rt:30:21
+add-steps : tie.Need-add-steps Inv-loop μ-loop
+add-steps c = ?
+
+-- src/run.rt:31:13
+row-requires : tie.Need-row-requires Inv-loop μ-loop
+row-requires c κs = ?
+
+-- src/run.rt:46:24
+enum-known-s : tie.Need-enum-known-s Inv-loop μ-loop
+enum-known-s c = ?
+
+-- src/run.rt:47:13
+same-length : tie.Need-same-length Inv-loop μ-loop
+same-length c = ?
+
+-- src/run.rt:47:13
+returns : tie.Need-returns Inv-loop μ-loop
+returns c = ?
+
+-- src/run.rt:58:9
+sub-left : tie.Need-sub-left Inv-loop μ-loop
+sub-left c = ?
+
+-- src/run.rt:29:5
+loop-less : tie.Need-loop-less Inv-loop μ-loop
+loop-less c = ?
+
+-- src/run.rt:29:5
+loop-again : tie.Need-loop-again Inv-loop μ-loop
+loop-again c = ?
+
+-- src/run.rt:11:1
+same-length-2 : tie.Need-same-length-2 Inv-loop μ-loop
+same-length-2 c = ?
+
+-- src/run.rt:11:1
+returns-2 : tie.Need-returns-2 Inv-loop μ-loop
+returns-2 c = ?
+
+pub run-rows-spec : {M : Type 1} → statement M
+run-rows-spec =
+    tie.close
+    (tie.spec
+    Inv-loop
+    μ-loop
+    loop-holds
+    add-steps
+    row-requires
+    enum-known-s
+    same-length
+    returns
+    sub-left
+    loop-less
+    loop-again
+    same-length-2
+    returns-2)

@@ -1,0 +1,69 @@
+// A run of at most as many steps as its budget.
+ghost use Rattle.rules.specs.Row.{tableOf};
+ghost use Rattle.source.specs.Step.{Known};
+ghost use Rattle.source.specs.Run.{partsIn, stoppedWith, Going, Ended};
+use crate::step;
+use machine::machine::Machine;
+use machine::machine::Stopped;
+use rules::step::Step;
+
+// Takes the machine apart, so that its numbers stay in registers, and puts it together where it stops.
+pub fn run_rows(
+    rows: &[u8],
+    map: &[u16],
+    ends: &[u16],
+    elses: &[u16],
+    heads: &[u16],
+    start: Machine,
+    budget: u16,
+    trace: &mut [u16],
+) -> Stopped
+    requires { ⌜ (Known (now rows) (now map) (now ends) (now elses) (now heads)) × (Going (now rows) budget (partsIn start (now trace))) ⌝ }
+    ensures { λ r. ⌜ Ended (tableOf (now (rows .entry))) budget (partsIn start (now (trace .entry))) (stoppedWith r (now (trace .exit))) ⌝ }
+{
+    let mut places = start.places;
+    let mut functions = start.functions;
+    let mut variables = start.variables;
+    let mut h = start.hot;
+    let mut left = budget;
+    while 0 < left {
+        let steps = h.steps + 1;
+        let t = step::row(
+            rows,
+            map,
+            ends,
+            elses,
+            heads,
+            h,
+            &mut places,
+            &mut functions,
+            &mut variables,
+            trace,
+        );
+        let s = t.step;
+        h = t.hot;
+        h.steps = steps;
+        let Step::Went(k) = s else {
+            return Stopped {
+                step: s,
+                machine: Machine {
+                    places,
+                    functions,
+                    variables,
+                    hot: h,
+                },
+            };
+        };
+        h.place = k;
+        left -= 1;
+    }
+    Stopped {
+        step: Step::Went(h.place),
+        machine: Machine {
+            places,
+            functions,
+            variables,
+            hot: h,
+        },
+    }
+}
