@@ -1,3 +1,5 @@
+use Rattle.rules.specs.Run.{outcomeOf}
+use mathlib.Core.Path.{sym, ap}
 use borrow.Author.Needs.{needs}
 use Rattle.source.proofs.outcome_of.Statement.{statement}
 use Rattle.source.proofs.outcome_of.Tie as tie
@@ -26,23 +28,28 @@ enum-told-5 c = search needs
 
 -- src/lib.rt:24:1
 returns : tie.Need-returns
-returns c = ?
+unfolding outcomeOf
+returns c = sym (ap outcomeOf (c .enum-told .given .1))
 
 -- src/lib.rt:24:1
 returns-2 : tie.Need-returns-2
-returns-2 c = ?
+unfolding outcomeOf
+returns-2 c = sym (ap outcomeOf (c .enum-told2 .given .1))
 
 -- src/lib.rt:24:1
 returns-3 : tie.Need-returns-3
-returns-3 c = ?
+unfolding outcomeOf
+returns-3 c = sym (ap outcomeOf (c .enum-told3 .given .1))
 
 -- src/lib.rt:24:1
 returns-4 : tie.Need-returns-4
-returns-4 c = ?
+unfolding outcomeOf
+returns-4 c = sym (ap outcomeOf (c .enum-told4 .given .1))
 
 -- src/lib.rt:24:1
 returns-5 : tie.Need-returns-5
-returns-5 c = ?
+unfolding outcomeOf
+returns-5 c = sym (ap outcomeOf (c .enum-told5 .given .1))
 
 pub outcome-of-spec : {M : Type 1} → statement M
 outcome-of-spec =

@@ -1,3 +1,8 @@
+use native.Mathlib.Omega.{arith}
+use mathlib.Core.Path.{_∙_}
+use Rattle.machine.proofs.Runs.{not-went}
+use Rattle.source.specs.Step.{partsOf}
+use Rattle.source.proofs.Runs.{Running, run-starts, can-step, run-again, run-ends, run-spent}
 use Rattle.source.proofs.run.run_rows.Statement.{statement}
 use Rattle.source.proofs.run.run_rows.Tie as tie
 use Rattle.source.proofs.run.run_rows.Reads as reads
@@ -6,55 +11,54 @@ use Rattle.source.proofs.step.row.Reads as row-reads
 
 abbrev Inv-loop : tie.InvT-loop
 Inv-loop rows map ends elses heads budget trace₀ places₀ functions₀ variables₀ h₀ left₀ trace places functions variables h left =
-    ?
+    Running rows budget (partsOf h₀ places₀ functions₀ variables₀ trace₀) left (partsOf h places functions variables trace)
 
 abbrev μ-loop : tie.MeasureT-loop
-μ-loop rows map ends elses heads budget trace₀ places₀ functions₀ variables₀ h₀ left₀ trace places functions variables h left =
-    ?
+μ-loop rows map ends elses heads budget trace₀ places₀ functions₀ variables₀ h₀ left₀ trace places functions variables h left = left
 
 -- src/run.rt:29:5
 loop-holds : tie.Need-loop-holds Inv-loop μ-loop
-loop-holds c = ?
+loop-holds c = run-starts (c .before .before .before .before .before .before .before .before .before .before .pre .1)
 
 -- src/run.rt:30:21
 add-steps : tie.Need-add-steps Inv-loop μ-loop
-add-steps c = ?
+add-steps c = omega (arith, c .before .before .loop .inv .going .few)
 
 -- src/run.rt:31:13
 row-requires : tie.Need-row-requires Inv-loop μ-loop
-row-requires c κs = ?
+row-requires c κs = (c .before .before .before .before .before .before .before .before .before .before .before .before .before .before .before .before .before .pre .0, can-step (c .before .before .before .before .before .before .before .before .before .before .before .before .before .before .before .before .before .pre .0) (c .before .before .before .before .before .before .loop .inv) (c .before .before .before .before .before .loop-test .taken))
 
 -- src/run.rt:46:24
 enum-known-s : tie.Need-enum-known-s Inv-loop μ-loop
-enum-known-s c = ?
+enum-known-s c = c .match .keys1
 
 -- src/run.rt:47:13
 same-length : tie.Need-same-length Inv-loop μ-loop
-same-length c = ?
+same-length c = c .before .before .before .before .row .kept .1 .1 .1 .1 .1 .1 .1 .1 .1 .0 ∙ c .before .before .before .before .before .before .before .before .before .before .before .loop .inv .kept .same-length
 
 -- src/run.rt:47:13
 returns : tie.Need-returns Inv-loop μ-loop
-returns c = ?
+returns c = run-ends (c .before .before .before .before .before .before .before .before .before .before .before .before .before .before .before .before .before .before .before .before .before .before .pre .0) (c .before .before .before .before .before .before .before .before .before .before .before .loop .inv) (c .before .before .before .before .before .before .before .before .before .before .loop-test .taken) _ (c .before .before .before .before .row .ensures) (not-went _ (c .match .keys2))
 
 -- src/run.rt:58:9
 sub-left : tie.Need-sub-left Inv-loop μ-loop
-sub-left c = ?
+sub-left c = omega (arith, c .before .before .before .before .before .before .before .before .before .before .before .before .loop-test .taken)
 
 -- src/run.rt:29:5
 loop-less : tie.Need-loop-less Inv-loop μ-loop
-loop-less c = ?
+loop-less c = omega (arith, c .before .before .before .before .before .before .before .before .before .before .before .before .loop-test .taken)
 
 -- src/run.rt:29:5
 loop-again : tie.Need-loop-again Inv-loop μ-loop
-loop-again c = ?
+loop-again c = run-again (c .before .before .before .before .before .before .before .before .before .before .before .before .before .before .before .before .before .before .before .before .before .before .before .before .pre .0) (c .before .before .before .before .before .before .before .before .before .before .before .before .before .loop .inv) (c .before .before .before .before .before .before .before .before .before .before .before .before .loop-test .taken) _ (c .before .before .before .before .before .before .row .ensures) _ (c .before .s .given .1)
 
 -- src/run.rt:11:1
 same-length-2 : tie.Need-same-length-2 Inv-loop μ-loop
-same-length-2 c = ?
+same-length-2 c = c .before .loop .inv .kept .same-length
 
 -- src/run.rt:11:1
 returns-2 : tie.Need-returns-2 Inv-loop μ-loop
-returns-2 c = ?
+returns-2 c = run-spent (c .before .before .before .before .before .before .before .before .before .before .before .before .pre .0) (c .before .loop .inv) (c .loop-test .left)
 
 pub run-rows-spec : {M : Type 1} → statement M
 run-rows-spec =
