@@ -17,6 +17,7 @@ use Rattle.rules.specs.Run as Runs
 use Rattle.rules.specs.Source.{sourceStep, sourceRun}
 use Rattle.rules.specs.Calls.{over, running}
 use Rattle.layout.specs.Place.{Surveyed}
+use Rattle.machine.specs.declared.machine.Machine.{Machine}
 use Rattle.machine.specs.declared.machine.Stopped.{Stopped}
 use Rattle.machine.specs.Run.{onward}
 use Rattle.machine.proofs.Agree.{IsEnd}
@@ -113,9 +114,21 @@ module _ {bs map ends elses heads : List ℕ} (k : Known bs map ends elses heads
   run-spent h = record { answer-is = r .same ∙ run-none (tableOf bs) left p h; kept = r .kept }
 
 -- ---- the whole run
-pub starts : (bs slots vs : List ℕ) (budget : ℕ) → verdictOf bs ≡ Accepted → budget ≤ length slots → budget < 65536 → Going bs budget (partsIn (startOf vs) slots)
-starts bs slots vs budget a h l =
+pub knows : {bs map ends elses heads : List ℕ} → Surveyed bs map → Links (tableOf bs) ends elses heads → 1024 ≤ length ends → 1024 ≤ length elses → 32 ≤ length heads
+    → Known bs map ends elses heads
+knows s l a b c =
     record {
+      surveyed = s;
+      ends-known = record { room = a; each = l .ends-are };
+      elses-known = record { room = b; each = l .elses-are };
+      heads-known = record { room = c; each = l .heads-are };
+    }
+
+pub starts : {bs slots vs : List ℕ} {budget : ℕ} {m : Machine} → verdictOf bs ≡ Accepted → budget ≤ length slots → budget < 65536 → m ≡ startOf vs
+    → Going bs budget (partsIn m slots)
+starts {bs} {slots} {vs} {budget} a h l e =
+    subst (λ m. Going bs budget (partsIn m slots)) (sym e)
+    (record {
       fits = record {
         deep = omega arith;
         places-are = length-replicate {A = ℕ} 16 0;
@@ -126,18 +139,18 @@ starts bs slots vs budget a h l =
       few = omega arith;
       room = omega arith;
       traced = omega arith;
-    }
+    })
 
-pub answers : (bs slots vs held : List ℕ) (budget o : ℕ) (x : Stopped) → Ended (tableOf bs) budget (partsIn (startOf vs) held) (stoppedWith x slots) → o ≡ outcomeOf (x .step)
+pub answers : (bs slots vs held : List ℕ) (budget o : ℕ) (m : Machine) (x : Stopped) → m ≡ startOf vs → Ended (tableOf bs) budget (partsIn m held) (stoppedWith x slots) → o ≡ outcomeOf (x .step)
     → ranWith (record { number = 0; outcome = o; steps = x .machine .hot .steps; traced = x .machine .hot .traced; variables = x .machine .variables }) slots
     ≡ running Accepted (sourceRun (tableOf bs) budget vs) vs held
 unfolding running
-answers bs slots vs held budget o x e q =
+answers bs slots vs held budget o m x b e q =
     let n = x .machine .hot .traced in
     let l : length (take n slots) ≡ n = length-take-le n slots (e .kept .in-slots) in
     let w : slots ≡ over (take n slots) held
-    = sym (take-append-drop n slots) ∙ ap (λ y. take n slots ++ y) (e .kept .same-rest) ∙ ap (λ m. take n slots ++ drop m held) (sym l) in
+    = sym (take-append-drop n slots) ∙ ap (λ y. take n slots ++ y) (e .kept .same-rest) ∙ ap (λ y. take n slots ++ drop y held) (sym l) in
     ap (λ y. ranWith (record { number = 0; outcome = y; steps = x .machine .hot .steps; traced = n; variables = x .machine .variables }) slots) q
     ∙ ap (λ y. ranWith (record { number = 0; outcome = outcomeOf (x .step); steps = x .machine .hot .steps; traced = y; variables = x .machine .variables }) slots) (sym l)
     ∙ ap (λ y. ranWith (record { number = 0; outcome = outcomeOf (x .step); steps = x .machine .hot .steps; traced = length (take n slots); variables = x .machine .variables }) y) w
-    ∙ sym (ap (λ y. running Accepted y vs held) (e .answer-is))
+    ∙ sym (ap (λ y. running Accepted y vs held) (ap (λ y. runFrom (tableOf bs) budget (partsIn y held)) (sym b) ∙ e .answer-is))

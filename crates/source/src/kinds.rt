@@ -15,11 +15,11 @@ ghost use Rattle.source.specs.Step.{goesTo, Standing, HasSlot, afterDo, 
 use layout::row;
 use layout::spot;
 use machine::fields::Fields;
+use machine::machine::Hot;
+use machine::machine::Moved;
 use machine::machine::closed;
 use machine::machine::opened;
 use machine::machine::stay;
-use machine::machine::Hot;
-use machine::machine::Moved;
 use machine::variables;
 use rules::step::Step;
 
@@ -149,13 +149,7 @@ fn returned(h: Hot, places: &[u16; 16], functions: &[u8; 16]) -> Moved
 }
 
 // The end of a function, of a loop, or of an if.
-pub fn end_row(
-    rows: &[u8],
-    map: &[u16],
-    h: Hot,
-    places: &[u16; 16],
-    functions: &[u8; 16],
-) -> Moved
+pub fn end_row(rows: &[u8], map: &[u16], h: Hot, places: &[u16; 16], functions: &[u8; 16]) -> Moved
     requires { ⌜ (Standing (now rows) h) × (Surveyed (now rows) (now map)) × (h .depth < 16) ⌝ }
     ensures { λ r. ⌜ r ≡ afterEnd (tableOf (now (rows .entry))) h (now (places .entry)) (now (functions .entry)) ⌝ }
 {
