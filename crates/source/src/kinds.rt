@@ -61,6 +61,7 @@ fn to_row(i: usize, h: Hot) -> Moved
     stay(Step::Went(i as u16), h)
 }
 
+// The run goes on at the next row.
 pub fn next_row(h: Hot) -> Moved
     requires { ⌜ h .place < 1024 ⌝ }
     ensures { λ r. ⌜ r ≡ goesTo h (suc (h .place)) ⌝ }
@@ -81,6 +82,7 @@ pub fn do_row(rows: &[u8], h: Hot, variables: &mut [u16; 16], trace: &mut [u16])
     next_row(n)
 }
 
+// To the then part, the else part, or past the end where there is none.
 pub fn if_row(rows: &[u8], ends: &[u16], elses: &[u16], h: Hot, variables: &[u16; 16]) -> Moved
     requires { ⌜ (Standing (now rows) h) × (kindAt (tableOf (now rows)) (h .place) ≡ Kind.If) ⌝ }
     requires { ⌜ (Ends (now rows) (now ends)) × (Elses (now rows) (now elses)) ⌝ }
@@ -97,6 +99,7 @@ pub fn if_row(rows: &[u8], ends: &[u16], elses: &[u16], h: Hot, variables: &[u16
     to_row(x + 1, h)
 }
 
+// To the loop's body, or past its end.
 pub fn loop_row(rows: &[u8], ends: &[u16], h: Hot, variables: &[u16; 16]) -> Moved
     requires { ⌜ (Standing (now rows) h) × (kindAt (tableOf (now rows)) (h .place) ≡ Kind.Loop) × (Ends (now rows) (now ends)) ⌝ }
     ensures { λ r. ⌜ r ≡ afterLoop (tableOf (now (rows .entry))) h (now (variables .entry)) ⌝ }
@@ -119,16 +122,18 @@ pub fn else_row(rows: &[u8], map: &[u16], ends: &[u16], h: Hot) -> Moved
     to_row(e + 1, h)
 }
 
+// Past the end of the innermost loop.
 pub fn break_row(rows: &[u8], map: &[u16], ends: &[u16], h: Hot) -> Moved
     requires { ⌜ (Standing (now rows) h) × (Surveyed (now rows) (now map)) × (Ends (now rows) (now ends)) ⌝ }
     requires { ⌜ kindAt (tableOf (now rows)) (h .place) ≡ Kind.Break ⌝ }
     ensures { λ r. ⌜ r ≡ afterBreak (tableOf (now (rows .entry))) h ⌝ }
 {
-    let o = spot::loop_of(rows, map, row::index(h.place));
-    let e = end_of(rows, ends, o);
-    to_row(e + 1, h)
+    let test = spot::loop_of(rows, map, row::index(h.place));
+    let end = end_of(rows, ends, test);
+    to_row(end + 1, h)
 }
 
+// Back to the innermost loop's test.
 pub fn continue_row(rows: &[u8], map: &[u16], h: Hot) -> Moved
     requires { ⌜ (Standing (now rows) h) × (Surveyed (now rows) (now map)) × (kindAt (tableOf (now rows)) (h .place) ≡ Kind.Continue) ⌝ }
     ensures { λ r. ⌜ r ≡ afterContinue (tableOf (now (rows .entry))) h ⌝ }
@@ -164,6 +169,7 @@ pub fn end_row(rows: &[u8], map: &[u16], h: Hot, places: &[u16; 16], functions: 
     next_row(h)
 }
 
+// The running function waits at the next row, and the callee opens; the call that is one too many is not made.
 pub fn call_row(
     rows: &[u8],
     map: &[u16],
