@@ -1,32 +1,27 @@
 -- The lines of else, end, break and continue rows, from what the code reads of the row. Assumes nothing.
-use mathlib.Core.Path.{_≡_, refl, sym, ap, _∙_, subst}
+use mathlib.Core.Path.{_≡_, refl, sym, ap, _∙_}
 use mathlib.Core.Bool.{Bool, true, false}
 use mathlib.Core.List.{List, [], _∷_}
-use Prim.Native.Nat.{ℕ, suc, _+_, _-_, _≤_, _<_}
+use Prim.Native.Nat.{ℕ, suc, _+_, _-_, _<_}
 use native.Mathlib.Nat.{add-zero}
 use native.Mathlib.Omega.{arith}
 use lib.ListN.{length}
-use lib.Dec.{eqb}
-use borrow.Author.Tests.{eqb-true, eqb-false}
-use Rattle.rules.specs.declared.kind.Kind.{Kind}
-use Rattle.rules.specs.declared.kind.Kind.the-variants.{Function, Do, If, Else, Loop, End, Break, Continue, Call, Unknown}
+use Rattle.rules.specs.declared.kind.Kind.the-variants.{Else, End, Break, Continue}
 use Rattle.rules.specs.Row.{Table, tableOf, kindAt}
-use Rattle.rules.specs.Scan.{Part, body, thenPart, elsePart, loopBody, Open, pushes, shapeOf, openAt, regions, partOf, openerOf, regionOf, bodyRegion, around, isLoopBody, fromLoop, local, endOf}
-use Rattle.rules.specs.Value.{value, valueIn}
-use Rattle.rules.specs.Check.{isOutside, isThen, misplacedIn}
+use Rattle.rules.specs.Scan.{Part, body, thenPart, elsePart, loopBody, Open, openAt, regions, partOf, openerOf, regionOf, bodyRegion, around, isLoopBody, fromLoop, local, endOf}
+use Rattle.rules.specs.Value.{value}
+use Rattle.rules.specs.Check.{isOutside}
 use Rattle.rules.specs.Line.{leaveLine, outLine, retLine}
 use Rattle.rules.specs.Harden.{lineOf, openerValue, leaveOf, outOf, endLine, rowLines}
-use Rattle.rules.proofs.Logic.{clash, not-false}
-use Rattle.rules.proofs.Scan.{Chain, chain, body-least, origin}
-use Rattle.rules.proofs.Value.{AllHeld, held}
+use Rattle.rules.proofs.Logic.{clash}
+use Rattle.rules.proofs.Scan.{chain}
 use Rattle.rules.proofs.Accepted.{proper, table-length}
-use Rattle.rules.proofs.Function.{Formed, formed, isBody, placed-in}
+use Rattle.rules.proofs.Function.{formed, isBody, placed-in}
 use Rattle.layout.specs.declared.spot.Spot.{Spot}
 use Rattle.layout.specs.Place.{Surveyed}
 use Rattle.layout.specs.Number.{valueOf}
 use Rattle.layout.specs.Spot.{Inside, InLoop, SpotIs, childOf, inBody, isLoop, OpenerIs, LoopIs}
-use Rattle.layout.proofs.Survey.{is-then}
-use Rattle.layout.proofs.Around.{outer, same-body, not-outermost, from-loop}
+use Rattle.layout.proofs.Around.{outer, same-body, from-loop}
 use Rattle.layout.proofs.Parts.{then-within, body-part, not-body, part-not-body, part-loop}
 use Rattle.hardener.specs.declared.line.Line as Declared
 use Rattle.hardener.specs.Line.{struct}

@@ -1,24 +1,21 @@
 -- The lines of do, if and loop rows, from what the code reads of the row. Assumes nothing.
 use mathlib.Core.Path.{_≡_, refl, sym, ap, _∙_, subst}
-use mathlib.Core.Bool.{Bool, true, false, cond}
+use mathlib.Core.Bool.{false}
 use mathlib.Core.List.{List, [], _∷_}
-use Prim.Native.Nat.{ℕ, suc, _+_, _-_, _/_, _≤_, _<_}
+use Prim.Native.Nat.{ℕ, suc, _+_, _-_, _≤_, _<_}
 use native.Mathlib.Omega.{arith}
 use lib.ListN.{length, getD}
-use lib.Dec.{ltb}
 use borrow.Author.Tests.{ltb-true}
 use Rattle.rules.specs.declared.kind.Kind.{Kind}
 use Rattle.rules.specs.declared.kind.Kind.the-variants.{Do, If, Else, Loop}
 use Rattle.rules.specs.Row.{Table, Operands, tableOf, kindAt, operandsAt}
-use Rattle.rules.specs.Scan.{thenPart, loopBody, Open, openAt, regions, bodyRegion, openerOf, local, endOf, elseOf, hasElse, isElseOf}
-use Rattle.rules.specs.Bytes.{first}
+use Rattle.rules.specs.Scan.{Open, openAt, regions, bodyRegion, openerOf, local, endOf, elseOf}
 use Rattle.rules.specs.Value.{base}
 use Rattle.rules.specs.Check.{isOutside, misplacedIn}
 use Rattle.rules.specs.Line.{Line, doLine, tickLine, testLine, lineAt}
 use Rattle.rules.specs.Harden.{lineOf, testOf, rowLines}
 use Rattle.rules.specs.Links.{isOpening, elseLink}
 use Rattle.rules.proofs.Logic.{clash}
-use Rattle.rules.proofs.Search.{Found, hit, miss, found}
 use Rattle.rules.proofs.Scan.{Chain, chain, body-least}
 use Rattle.rules.proofs.Value.{AllHeld, held}
 use Rattle.rules.proofs.Accepted.{proper, table-length}

@@ -5,7 +5,6 @@ use mathlib.Core.List.{List}
 use Prim.Native.Nat.{ℕ, suc, _+_, _-_, _≤_, _<_}
 use native.Mathlib.Numerals.{add-one}
 use native.Mathlib.Omega.{arith}
-use lib.Dec.{ltb}
 use lib.ListN.{length, getD, set}
 use borrow.Author.Tests.{lt-ltb, le-ltb, ltb-true}
 use Rattle.rules.specs.declared.kind.Kind.{Kind}
@@ -24,7 +23,7 @@ use Rattle.rules.proofs.Logic.{clash}
 use Rattle.rules.proofs.Scan.{chain}
 use Rattle.rules.proofs.Accepted.{proper, table-length}
 use Rattle.rules.proofs.Close.{end-is}
-use Rattle.rules.proofs.Function.{formed, isBody, placed-in, callee-known, function-at}
+use Rattle.rules.proofs.Function.{formed, isBody, placed-in, callee-known}
 use Rattle.rules.proofs.FieldBound.{word-bound, do-fields, test-fields}
 use Rattle.rules.proofs.RegionBound.{functions-bound}
 use Rattle.layout.specs.declared.row.Fields as Read

@@ -7,7 +7,7 @@ use Rattle.rules.specs.declared.kind.Kind.the-variants.{Function, Do, If, Else,
 use Rattle.rules.specs.Row.{tableOf, kindAt}
 use Rattle.machine.specs.declared.machine.Moved.{Moved}
 use Rattle.machine.specs.Step.{done}
-use Rattle.source.specs.Step.{goesTo, afterIf, afterLoop, afterElse, afterBreak, afterContinue, afterEnd, called, afterCall, afterDo, Parts, After, after, moving, rowOf, stepOf}
+use Rattle.source.specs.Step.{goesTo, afterIf, afterLoop, afterElse, afterBreak, afterContinue, afterEnd, called, afterCall, afterDo, Parts, after, moving, rowOf, stepOf}
 
 pub kind-is : (bs : List ℕ) {i j : ℕ} {k K : Kind} → i ≡ j → k ≡ kindAt (tableOf bs) i → k ≡ K → kindAt (tableOf bs) j ≡ K
 kind-is bs e q c = ap (kindAt (tableOf bs)) (sym e) ∙ sym q ∙ c

@@ -1,10 +1,10 @@
 -- Runs of the code: what its loop keeps, and what it gives back. Assumes that the table is accepted, where it says so.
 use mathlib.Core.Path.{_≡_, refl, sym, ap, _∙_, subst}
-use mathlib.Core.List.{List, [], _∷_, _++_}
+use mathlib.Core.List.{List, [], _++_}
 use Prim.Native.Nat.{ℕ, zero, suc, _+_, _-_, _≤_, _<_}
 use native.Mathlib.Numerals.{add-one}
 use native.Mathlib.Omega.{arith}
-use lib.ListN.{length, getD, take, drop, length-replicate, take-append-drop}
+use lib.ListN.{length, take, drop, length-replicate, take-append-drop}
 use lib.Seq.{length-take-le}
 use Rattle.rules.specs.declared.refusal.Verdict.the-variants.{Accepted}
 use Rattle.rules.specs.declared.step.Step.{Step}
@@ -22,7 +22,7 @@ use Rattle.machine.specs.declared.machine.Stopped.{Stopped}
 use Rattle.machine.specs.Run.{onward}
 use Rattle.machine.proofs.Agree.{IsEnd}
 use Rattle.source.specs.Step.{Known, CanStep, Parts, After, stepOf}
-use Rattle.source.specs.Run.{partsIn, stoppedWith, partsAt, stateOf, turnOf, answerOf, runFrom, Fits, Going, Kept, Ended, startOf, ranWith}
+use Rattle.source.specs.Run.{partsIn, stoppedWith, partsAt, stateOf, turnOf, answerOf, runFrom, Going, Kept, Ended, startOf, ranWith}
 use Rattle.source.proofs.Rows.{first-inside}
 use Rattle.source.proofs.Steps.{Steps, steps}
 

@@ -3,7 +3,7 @@
 use mathlib.Core.Logic.{_⊎_, inl, inr}
 use mathlib.Core.Path.{_≡_, refl, sym, ap, _∙_, subst}
 use mathlib.Core.Bool.{Bool, true, false, cond}
-use mathlib.Core.List.{List, [], _∷_, _++_}
+use mathlib.Core.List.{List, [], _∷_}
 use Prim.Native.Nat.{ℕ, zero, suc, _+_, _-_, _≤_, _<_}
 use native.Mathlib.Numerals.{add-one}
 use native.Mathlib.Nat.{eq-or-lt-of-le}
@@ -17,26 +17,23 @@ use Rattle.rules.specs.declared.kind.Kind.the-variants.{Function, Do, If, Else,
 use Rattle.rules.specs.declared.refusal.Verdict.the-variants.{Accepted}
 use Rattle.rules.specs.declared.step.Step.{Step}
 use Rattle.rules.specs.declared.step.Step.the-variants.{Went, Finished, TooManyOpen}
-use Rattle.rules.specs.Limits.{maxOpen}
 use Rattle.rules.specs.Row.{Table, tableOf, kindAt, operandsAt}
-use Rattle.rules.specs.Scan.{Part, body, thenPart, elsePart, loopBody, pushes, openAt, partOf, openerOf, functionRow}
+use Rattle.rules.specs.Scan.{Part, body, thenPart, elsePart, loopBody, openAt, partOf, openerOf, functionRow}
 use Rattle.rules.specs.Check.{verdictOf}
 use Rattle.rules.specs.Variables.{doneOn, holdsOn}
-use Rattle.rules.specs.State.{Frame, frame, did, opening, depth}
+use Rattle.rules.specs.State.{frame, did, opening, depth}
 use Rattle.rules.specs.Run.{Turn, on, ends}
 use Rattle.rules.specs.Links.{isOpening}
-use Rattle.rules.specs.Source.{Source, toRow, returnRow, endRow, callRow, rowStep, sourceStep}
-use Rattle.rules.proofs.Logic.{clash}
+use Rattle.rules.specs.Source.{toRow, returnRow, endRow, callRow, rowStep, sourceStep}
 use Rattle.rules.proofs.Value.{Silent, a-function}
 use Rattle.rules.proofs.Accepted.{proper, table-length}
 use Rattle.rules.proofs.Function.{isBody, not-silent, not-unknown}
 use Rattle.layout.specs.Spot.{Inside}
 use Rattle.layout.proofs.Survey.{some-open}
-use Rattle.machine.specs.declared.machine.Moved.{Moved}
 use Rattle.machine.specs.Step.{moved, openedOf, closedOf}
 use Rattle.machine.proofs.Agree.{IsEnd, finished-ends, too-many-ends}
-use Rattle.source.specs.Step.{goesTo, afterIf, afterLoop, afterElse, afterBreak, afterContinue, afterReturn, afterPart, afterEnd, Called, called, afterCall, afterDo, Parts, partsOf, After, after, moving, rowOf, stepOf}
-use Rattle.source.specs.Run.{partsAt, framesOf, stateOf, turnOf, Fits, Kept}
+use Rattle.source.specs.Step.{goesTo, afterIf, afterLoop, afterElse, afterBreak, afterContinue, afterReturn, afterPart, afterEnd, Called, called, afterCall, afterDo, Parts, After, after, moving, rowOf, stepOf}
+use Rattle.source.specs.Run.{framesOf, stateOf, turnOf, Fits, Kept}
 use Rattle.source.proofs.Rows.{stays-inside, pushes-inside, passes-inside, past-inside, false-inside, repeats-inside, continue-inside, callee-inside, else-inside, break-inside}
 
 -- ---- a step of both

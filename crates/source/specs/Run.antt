@@ -4,7 +4,6 @@ use mathlib.Core.Path.{_≡_}
 use mathlib.Core.List.{List, [], _∷_}
 use lib.ListN.{length, getD, take, drop, replicate}
 use Rattle.rules.specs.declared.answer.Ran.{Ran}
-use Rattle.rules.specs.declared.step.Step.{Step}
 use Rattle.rules.specs.Limits.{maxOpen}
 use Rattle.rules.specs.Row.{Table}
 use Rattle.rules.specs.State.{Frame, frame}
@@ -12,7 +11,6 @@ use Rattle.rules.specs.Run.{Turn, on, ends, Answer, run}
 use Rattle.rules.specs.Source.{Source, sourceStep}
 use Rattle.rules.specs.Calls.{Running}
 use Rattle.layout.specs.Spot.{Inside}
-use Rattle.machine.specs.declared.machine.Hot.{Hot}
 use Rattle.machine.specs.declared.machine.Machine.{Machine}
 use Rattle.machine.specs.declared.machine.Stopped.{Stopped}
 use Rattle.machine.specs.Run.{hotAt, onward}

@@ -17,6 +17,7 @@ use rules::answer::Ran;
 use rules::step::Step;
 
 pub mod kinds;
+pub mod numbers;
 pub mod run;
 pub mod step;
 
