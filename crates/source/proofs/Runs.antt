@@ -17,12 +17,13 @@ use Rattle.rules.specs.Run as Runs
 use Rattle.rules.specs.Source.{sourceStep, sourceRun}
 use Rattle.rules.specs.Calls.{over, running}
 use Rattle.layout.specs.Place.{Surveyed}
+use Rattle.machine.specs.declared.machine.Hot.{Hot}
 use Rattle.machine.specs.declared.machine.Machine.{Machine}
 use Rattle.machine.specs.declared.machine.Stopped.{Stopped}
-use Rattle.machine.specs.Run.{onward}
+use Rattle.machine.specs.Run.{hotAt, onward}
 use Rattle.machine.proofs.Agree.{IsEnd}
 use Rattle.source.specs.Step.{Known, CanStep, Parts, After, stepOf}
-use Rattle.source.specs.Run.{partsIn, stoppedWith, partsAt, stateOf, turnOf, answerOf, runFrom, Going, Kept, Ended, startOf, ranWith}
+use Rattle.source.specs.Run.{stoppedAt, partsIn, stoppedWith, partsAt, stateOf, turnOf, answerOf, runFrom, Going, Kept, Ended, startOf, ranWith}
 use Rattle.source.proofs.Rows.{first-inside}
 use Rattle.source.proofs.Steps.{Steps, steps}
 
@@ -51,7 +52,10 @@ run-went t p (suc b) h a e i z =
     ∙ ap (λ c. run (λ k s. sourceStep t s) (suc b - 1) c (stateOf (partsAt (a .parts) i 0))) (sym (add-one (p .hot .steps)))
 
 -- a step that ends a run is counted too
-abbrev pub counted : Parts → After → After
+abbrev countedHot : Parts → After → Hot
+countedHot p a = hotAt (a .parts .hot) (a .parts .hot .place) (p .hot .steps + 1)
+
+abbrev counted : Parts → After → After
 counted p a = record { step = a .step; parts = partsAt (a .parts) (a .parts .hot .place) (p .hot .steps + 1) }
 
 run-stops : (t : Table) (p : Parts) (left : ℕ) → 0 < left → (a : After) → turnOf a ≡ sourceStep t (stateOf p) → IsEnd (a .step)
@@ -103,15 +107,23 @@ module _ {bs map ends elses heads : List ℕ} (k : Known bs map ends elses heads
           kept = record { in-slots = kept-on .in-slots; same-length = kept-on .same-length; same-rest = kept-on .same-rest };
         }
 
-    pub run-ends : IsEnd (a .step) → Ended (tableOf bs) budget start (counted p a)
-    run-ends n =
-        record {
+    pub run-ends : IsEnd (a .step) → (x : Stopped) → x ≡ stoppedAt (a .step) (a .parts .places) (a .parts .functions) (a .parts .vars) (countedHot p a)
+        → Ended (tableOf bs) budget start (stoppedWith x (a .parts .slots))
+    run-ends n x q =
+        subst (λ y. Ended (tableOf bs) budget start (stoppedWith y (a .parts .slots))) (sym q)
+        (record {
           answer-is = r .same ∙ run-stops (tableOf bs) p left h a (step-is .turn) n;
           kept = record { in-slots = kept-on .in-slots; same-length = kept-on .same-length; same-rest = kept-on .same-rest };
-        }
+        })
 
-  pub run-spent : left ≤ 0 → Ended (tableOf bs) budget start (record { step = Went (p .hot .place); parts = p })
-  run-spent h = record { answer-is = r .same ∙ run-none (tableOf bs) left p h; kept = r .kept }
+  pub run-spent : left ≤ 0 → (x : Stopped) → x ≡ stoppedAt (Went (p .hot .place)) (p .places) (p .functions) (p .vars) (p .hot)
+      → Ended (tableOf bs) budget start (stoppedWith x (p .slots))
+  run-spent h x q =
+      subst (λ y. Ended (tableOf bs) budget start (stoppedWith y (p .slots))) (sym q)
+      (record {
+        answer-is = r .same ∙ run-none (tableOf bs) left p h;
+        kept = record { in-slots = r .kept .in-slots; same-length = r .kept .same-length; same-rest = r .kept .same-rest };
+      })
 
 -- ---- the whole run
 pub knows : {bs map ends elses heads : List ℕ} → Surveyed bs map → Links (tableOf bs) ends elses heads → 1024 ≤ length ends → 1024 ≤ length elses → 32 ≤ length heads
