@@ -1,32 +1,28 @@
 -- The lines of else, end, break and continue rows, from what the code reads of the row. Assumes nothing.
-use mathlib.Core.Path.{_≡_, refl, sym, ap, _∙_, subst}
+use mathlib.Core.Path.{_≡_, refl, sym, ap, _∙_}
 use mathlib.Core.Bool.{Bool, true, false}
 use mathlib.Core.List.{List, [], _∷_}
-use Prim.Native.Nat.{ℕ, suc, _+_, _-_, _≤_, _<_}
+use Prim.Native.Nat.{ℕ, suc, _+_, _-_, _<_}
 use native.Mathlib.Nat.{add-zero}
 use native.Mathlib.Omega.{arith}
 use lib.ListN.{length}
-use lib.Dec.{eqb}
-use borrow.Author.Tests.{eqb-true, eqb-false}
-use Rattle.rules.specs.declared.kind.Kind.{Kind}
-use Rattle.rules.specs.declared.kind.Kind.the-variants.{Function, Do, If, Else, Loop, End, Break, Continue, Call, Unknown}
+use Rattle.rules.specs.declared.kind.Kind.the-variants.{Else, End, Break, Continue}
 use Rattle.rules.specs.Row.{Table, tableOf, kindAt}
-use Rattle.rules.specs.Scan.{Part, body, thenPart, elsePart, loopBody, Open, pushes, shapeOf, openAt, regions, partOf, openerOf, regionOf, bodyRegion, around, isLoopBody, fromLoop, local, endOf}
-use Rattle.rules.specs.Value.{value, valueIn}
-use Rattle.rules.specs.Check.{isOutside, isThen, misplacedIn}
+use Rattle.rules.specs.Scan.{Part, body, thenPart, elsePart, loopBody, Open, openAt, regions, partOf, openerOf, regionOf, bodyRegion, around, isLoopBody, fromLoop, local, endOf}
+use Rattle.rules.specs.Value.{value}
+use Rattle.rules.specs.Check.{isOutside}
 use Rattle.rules.specs.Line.{leaveLine, outLine, retLine}
 use Rattle.rules.specs.Harden.{lineOf, openerValue, leaveOf, outOf, endLine, rowLines}
-use Rattle.rules.proofs.Logic.{clash, not-false}
-use Rattle.rules.proofs.Scan.{Chain, chain, body-least, origin}
-use Rattle.rules.proofs.Value.{AllHeld, held}
+use Rattle.rules.proofs.Logic.{clash}
+use Rattle.rules.proofs.Scan.{chain}
 use Rattle.rules.proofs.Accepted.{proper, table-length}
-use Rattle.rules.proofs.Function.{Formed, formed, isBody, placed-in}
+use Rattle.rules.proofs.Function.{formed, isBody, placed-in}
 use Rattle.layout.specs.declared.spot.Spot.{Spot}
 use Rattle.layout.specs.Place.{Surveyed}
 use Rattle.layout.specs.Number.{valueOf}
 use Rattle.layout.specs.Spot.{Inside, InLoop, SpotIs, childOf, inBody, isLoop, OpenerIs, LoopIs}
-use Rattle.layout.proofs.Survey.{is-then}
-use Rattle.layout.proofs.Around.{outer, same-body, not-outermost, from-loop}
+use Rattle.layout.proofs.Around.{outer, same-body, from-loop}
+use Rattle.layout.proofs.Parts.{then-within, body-part, not-body, part-not-body, part-loop}
 use Rattle.hardener.specs.declared.line.Line as Declared
 use Rattle.hardener.specs.Line.{struct}
 use Rattle.hardener.specs.Emit.{rowLine}
@@ -76,11 +72,6 @@ leave-is d w p h u q =
     same-leave (h .r-is) (around-r u w) (h .e-is) (q ∙ ap (λ x. x + d) e) (ap (λ x. x + 1) e) refl
 
 -- ---- else rows
-then-within : (t : Table) (fs : List Open) → Formed t fs → misplacedIn Else fs ≡ false → isOutside (around fs) ≡ false
-unfolding misplacedIn
-then-within t [] g e = clash refl e
-then-within t (f ∷ fs) g e = not-outermost t f fs g (ap isBody (is-then (f .part) (not-false _ e)))
-
 module _ {bs m : List ℕ} {i o : ℕ} (s : Surveyed bs m) (n : Inside bs i) (e : kindAt (tableOf bs) i ≡ Else) (p : OpenerIs bs i o) where
   else-within : Within bs i o
   else-within =
@@ -100,56 +91,6 @@ module _ {bs m : List ℕ} {i o : ℕ} (s : Surveyed bs m) (n : Inside bs i) (e 
       ∙ ap struct (line-of (tableOf bs) i 0 e)
 
 -- ---- end rows
--- which part an end row closes
-body-part : (t : Table) (b : ℕ) (fs : List Open) → Formed t fs → Chain b fs → isOutside fs ≡ false → eqb (regionOf fs) (bodyRegion fs) ≡ true → partOf fs ≡ body
-body-part t b [] g k n e = clash refl n
-body-part t b (f ∷ []) g k n e = g .0
-body-part t b (f ∷ h ∷ hs) g k n e =
-    absurd (bad (eqb-true (f .region) (bodyRegion (h ∷ hs)) e) (body-least (f .region) h hs (k .1)))
-  where
-    bad : f .region ≡ bodyRegion (h ∷ hs) → bodyRegion (h ∷ hs) ≤ h .region → ⊥
-    bad x y = omega arith
-
-not-body : (fs : List Open) → isOutside fs ≡ false → eqb (regionOf fs) (bodyRegion fs) ≡ false → isOutside (around fs) ≡ false
-not-body [] n e = clash refl n
-not-body (f ∷ []) n e = absurd (eqb-false (f .region) (f .region) e refl)
-not-body (f ∷ h ∷ hs) n e = refl
-
-part-not-body : (t : Table) (fs : List Open) → Formed t fs → isOutside (around fs) ≡ false → isBody (partOf fs) ≡ false
-part-not-body t [] g e = clash refl e
-part-not-body t (f ∷ []) g e = clash refl e
-part-not-body t (f ∷ h ∷ hs) g e = g .0
-
-pushes-loop : (k : Kind) (p : Part) → shapeOf k ≡ pushes (origin p) → isLoop k ≡ isLoopBody p
-pushes-loop Function body e = refl
-pushes-loop Function thenPart e = refl
-pushes-loop Function elsePart e = refl
-pushes-loop Function loopBody e = cc
-pushes-loop Do p e = cc
-pushes-loop If body e = refl
-pushes-loop If thenPart e = refl
-pushes-loop If elsePart e = refl
-pushes-loop If loopBody e = cc
-pushes-loop Else p e = cc
-pushes-loop Loop body e = cc
-pushes-loop Loop thenPart e = cc
-pushes-loop Loop elsePart e = cc
-pushes-loop Loop loopBody e = refl
-pushes-loop End p e = cc
-pushes-loop Break p e = cc
-pushes-loop Continue p e = cc
-pushes-loop Call p e = cc
-pushes-loop Unknown p e = cc
-
-pushed-by : (t : Table) (i : ℕ) (fs : List Open) → AllHeld t i fs → isOutside fs ≡ false → shapeOf (kindAt t (openerOf fs)) ≡ pushes (origin (partOf fs))
-pushed-by t i [] g e = clash refl e
-pushed-by t i (f ∷ fs) g e = g .0 .by
-
-part-loop : {bs : List ℕ} {i o : ℕ} {k : Bool} → Inside bs i → OpenerIs bs i o → k ≡ isLoop (kindAt (tableOf bs) o) → k ≡ isLoopBody (partOf (openAt (tableOf bs) i))
-part-loop {bs} {i} {o} n p q =
-    q ∙ pushes-loop (kindAt (tableOf bs) o) (partOf (openAt (tableOf bs) i))
-    (ap (λ x. shapeOf (kindAt (tableOf bs) x)) (p .is) ∙ pushed-by (tableOf bs) i (openAt (tableOf bs) i) (held (tableOf bs) i) (n .within))
-
 -- a loop's end; an if's, whether its then or its else part ends
 loop-end-line : (t : Table) (i : ℕ) (fs : List Open) (p : Part) → isLoopBody p ≡ true → leaveOf t i fs 0 (lineOf t (openerOf fs)) ≡ endLine t i fs p
 loop-end-line t i fs body e = clash e refl

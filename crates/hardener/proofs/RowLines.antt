@@ -1,24 +1,21 @@
 -- The lines of do, if and loop rows, from what the code reads of the row. Assumes nothing.
 use mathlib.Core.Path.{_≡_, refl, sym, ap, _∙_, subst}
-use mathlib.Core.Bool.{Bool, true, false, cond}
+use mathlib.Core.Bool.{false}
 use mathlib.Core.List.{List, [], _∷_}
-use Prim.Native.Nat.{ℕ, suc, _+_, _-_, _/_, _≤_, _<_}
+use Prim.Native.Nat.{ℕ, suc, _+_, _-_, _≤_, _<_}
 use native.Mathlib.Omega.{arith}
 use lib.ListN.{length, getD}
-use lib.Dec.{ltb}
 use borrow.Author.Tests.{ltb-true}
 use Rattle.rules.specs.declared.kind.Kind.{Kind}
 use Rattle.rules.specs.declared.kind.Kind.the-variants.{Do, If, Else, Loop}
 use Rattle.rules.specs.Row.{Table, Operands, tableOf, kindAt, operandsAt}
-use Rattle.rules.specs.Scan.{thenPart, loopBody, Open, openAt, regions, bodyRegion, openerOf, local, endOf, elseOf, hasElse, isElseOf}
-use Rattle.rules.specs.Bytes.{first}
+use Rattle.rules.specs.Scan.{Open, openAt, regions, bodyRegion, openerOf, local, endOf, elseOf}
 use Rattle.rules.specs.Value.{base}
 use Rattle.rules.specs.Check.{isOutside, misplacedIn}
 use Rattle.rules.specs.Line.{Line, doLine, tickLine, testLine, lineAt}
 use Rattle.rules.specs.Harden.{lineOf, testOf, rowLines}
 use Rattle.rules.specs.Links.{isOpening, elseLink}
 use Rattle.rules.proofs.Logic.{clash}
-use Rattle.rules.proofs.Search.{Found, hit, miss, found}
 use Rattle.rules.proofs.Scan.{Chain, chain, body-least}
 use Rattle.rules.proofs.Value.{AllHeld, held}
 use Rattle.rules.proofs.Accepted.{proper, table-length}
@@ -33,6 +30,7 @@ use Rattle.layout.specs.Number.{valueOf}
 use Rattle.layout.specs.Spot.{Inside, Opens, Grows, SpotIs, childOf, Elses}
 use Rattle.layout.proofs.Survey.{some-open}
 use Rattle.layout.proofs.Around.{same-body}
+use Rattle.layout.proofs.Parts.{no-else, an-else}
 use Rattle.layout.proofs.Spots.{grows}
 use Rattle.hardener.specs.declared.line.Line as Declared
 use Rattle.hardener.specs.Line.{struct}
@@ -99,31 +97,6 @@ if-opens o e = record { row = o .row; opening = ap isOpening e }
 
 pub if-grows : {bs m : List ℕ} {i : ℕ} → Surveyed bs m → Inside bs i → kindAt (tableOf bs) i ≡ If → Grows bs i
 if-grows s o e = grows s o e refl
-
--- the else row comes later, so that the link is 0 only where there is none
-later : (t : Table) (i : ℕ) → i < elseOf t i
-unfolding elseOf
-later t i = by (elseOf t i) (found (isElseOf t i) (length t - i) (suc i))
-  where
-    by : (r : ℕ) → Found (isElseOf t i) (length t - i) (suc i) r → i < r
-    by r (hit h a b f) = omega arith
-    by r (miss q f) = omega arith
-
-no-else : (t : Table) (i : ℕ) → elseLink t i ≡ 0 → hasElse t i ≡ false
-unfolding elseLink
-no-else t i e = by (hasElse t i) refl e
-  where
-    by : (b : Bool) → hasElse t i ≡ b → cond b (elseOf t i) 0 ≡ 0 → hasElse t i ≡ false
-    by true q x = absurd (let l = later t i in omega arith)
-    by false q x = q
-
-an-else : (t : Table) (i : ℕ) → (elseLink t i ≡ 0 → ⊥) → (hasElse t i ≡ true) × (elseLink t i ≡ elseOf t i)
-unfolding elseLink
-an-else t i e = by (hasElse t i) refl e
-  where
-    by : (b : Bool) → hasElse t i ≡ b → (cond b (elseOf t i) 0 ≡ 0 → ⊥) → (hasElse t i ≡ true) × (cond b (elseOf t i) 0 ≡ elseOf t i)
-    by true q x = (q, refl)
-    by false q x = absurd (x refl)
 
 module _ {bs elses : List ℕ} {i x : ℕ} (ls : Elses bs elses) (o : Inside bs i) (e : kindAt (tableOf bs) i ≡ If) (q : x ≡ getD elses i 0) where
   link-is : x ≡ elseLink (tableOf bs) i

@@ -4,4 +4,5 @@ pub mod Survey
 pub mod Takes
 pub mod Numbers
 pub mod Around
+pub mod Parts
 pub mod Spots

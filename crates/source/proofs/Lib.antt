@@ -1,0 +1,5 @@
+pub mod Answers
+pub mod Arms
+pub mod Rows
+pub mod Steps
+pub mod Runs

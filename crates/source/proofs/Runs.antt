@@ -1,0 +1,168 @@
+-- Runs of the code: what its loop keeps, and what it gives back. Assumes that the table is accepted, where it says so.
+use mathlib.Core.Path.{_≡_, refl, sym, ap, _∙_, subst}
+use mathlib.Core.List.{List, [], _++_}
+use Prim.Native.Nat.{ℕ, zero, suc, _+_, _-_, _≤_, _<_}
+use native.Mathlib.Numerals.{add-one}
+use native.Mathlib.Omega.{arith}
+use lib.ListN.{length, take, drop, length-replicate, take-append-drop}
+use lib.Seq.{length-take-le}
+use Rattle.rules.specs.declared.refusal.Verdict.the-variants.{Accepted}
+use Rattle.rules.specs.declared.step.Step.{Step}
+use Rattle.rules.specs.declared.step.Step.the-variants.{Went, Finished, Alarm, TooManyOpen, Beyond}
+use Rattle.rules.specs.Row.{Table, tableOf}
+use Rattle.rules.specs.Check.{verdictOf}
+use Rattle.rules.specs.Links.{Links}
+use Rattle.rules.specs.Run.{on, ends, outcomeOf, run}
+use Rattle.rules.specs.Run as Runs
+use Rattle.rules.specs.Source.{sourceStep, sourceRun}
+use Rattle.rules.specs.Calls.{over, running}
+use Rattle.layout.specs.Place.{Surveyed}
+use Rattle.machine.specs.declared.machine.Hot.{Hot}
+use Rattle.machine.specs.declared.machine.Machine.{Machine}
+use Rattle.machine.specs.declared.machine.Stopped.{Stopped}
+use Rattle.machine.specs.Run.{hotAt, onward}
+use Rattle.machine.proofs.Agree.{IsEnd}
+use Rattle.source.specs.Step.{Known, CanStep, Parts, After, stepOf}
+use Rattle.source.specs.Run.{stoppedAt, partsIn, stoppedWith, partsAt, stateOf, turnOf, answerOf, runFrom, Going, Kept, Ended, startOf, ranWith}
+use Rattle.source.proofs.Rows.{first-inside}
+use Rattle.source.proofs.Steps.{Steps, steps}
+
+-- ---- a run by what its first step answers
+onward-end : {A : Type 0} (o : Step) → IsEnd o → (f : ℕ → A) (z : A) → onward o f z ≡ z
+onward-end (Went k) n f z = absurd (n k refl)
+onward-end Finished n f z = refl
+onward-end Alarm n f z = refl
+onward-end (TooManyOpen k) n f z = refl
+onward-end (Beyond k) n f z = refl
+
+run-none : (t : Table) (b : ℕ) (p : Parts) → b ≤ 0 → runFrom t b p ≡ answerOf (record { step = Went (p .hot .place); parts = p })
+unfolding run
+run-none t zero p h = refl
+run-none t (suc b) p h = absurd (let z : ⊥ = omega arith in z)
+
+run-went : (t : Table) (p : Parts) (left : ℕ) → 0 < left → (a : After) → turnOf a ≡ sourceStep t (stateOf p) → (i : ℕ) → a .step ≡ Went i
+    → runFrom t left p ≡ runFrom t (left - 1) (partsAt (a .parts) i (p .hot .steps + 1))
+unfolding run
+run-went t p zero h a e i z = absurd (let q : ⊥ = omega arith in q)
+run-went t p (suc b) h a e i z =
+    let q : suc b - 1 ≡ b = omega arith in
+    ap (λ u. Runs.after (p .hot .steps) u (λ s. run (λ k s. sourceStep t s) b (suc (p .hot .steps)) s)) (sym e)
+    ∙ ap (λ o. Runs.after (p .hot .steps) (onward o (λ j. on (stateOf (partsAt (a .parts) j 0))) (ends (a .step) (stateOf (a .parts)))) (λ s. run (λ k s. sourceStep t s) b (suc (p .hot .steps)) s)) z
+    ∙ ap (λ c. run (λ k s. sourceStep t s) c (suc (p .hot .steps)) (stateOf (partsAt (a .parts) i 0))) (sym q)
+    ∙ ap (λ c. run (λ k s. sourceStep t s) (suc b - 1) c (stateOf (partsAt (a .parts) i 0))) (sym (add-one (p .hot .steps)))
+
+-- a step that ends a run is counted too
+abbrev countedHot : Parts → After → Hot
+countedHot p a = hotAt (a .parts .hot) (a .parts .hot .place) (p .hot .steps + 1)
+
+abbrev counted : Parts → After → After
+counted p a = record { step = a .step; parts = partsAt (a .parts) (a .parts .hot .place) (p .hot .steps + 1) }
+
+run-stops : (t : Table) (p : Parts) (left : ℕ) → 0 < left → (a : After) → turnOf a ≡ sourceStep t (stateOf p) → IsEnd (a .step)
+    → runFrom t left p ≡ answerOf (counted p a)
+unfolding run
+run-stops t p zero h a e n = absurd (let q : ⊥ = omega arith in q)
+run-stops t p (suc b) h a e n =
+    ap (λ u. Runs.after (p .hot .steps) u (λ s. run (λ k s. sourceStep t s) b (suc (p .hot .steps)) s)) (sym e)
+    ∙ ap (λ u. Runs.after (p .hot .steps) u (λ s. run (λ k s. sourceStep t s) b (suc (p .hot .steps)) s))
+    (onward-end (a .step) n (λ j. on (stateOf (partsAt (a .parts) j 0))) (ends (a .step) (stateOf (a .parts))))
+    ∙ ap (λ c. record { step = a .step; steps = c; state = stateOf (a .parts) }) (sym (add-one (p .hot .steps)))
+
+-- ---- what the loop keeps
+pub record Running (bs : List ℕ) (budget : ℕ) (start : Parts) (left : ℕ) (p : Parts) : Type 0 where
+  pub going : Going bs left p
+  pub same : runFrom (tableOf bs) budget start ≡ runFrom (tableOf bs) left p
+  pub kept : Kept (p .hot .traced) (start .slots) (p .slots)
+
+pub run-starts : {bs : List ℕ} {budget : ℕ} {start : Parts} → Going bs budget start → Running bs budget start budget start
+run-starts g = record { going = g; same = refl; kept = record { in-slots = omega (arith, g .room); same-length = refl; same-rest = refl } }
+
+module _ {bs map ends elses heads : List ℕ} (k : Known bs map ends elses heads) {budget left : ℕ} {start p : Parts} (r : Running bs budget start left p) where
+  pub can-step : 0 < left → CanStep bs (p .hot) (p .slots)
+  can-step h =
+      record {
+        standing = record { accepted = k .surveyed .accepted; here = r .going .fits .here };
+        has-slot = record { slot = omega (arith, r .going .room); count = omega (arith, r .going .few, r .going .traced) };
+        deep = r .going .fits .deep;
+      }
+
+  module _ (h : 0 < left) (a : After) (e : a ≡ stepOf (tableOf bs) p) where
+    step-is : Steps bs p a (sourceStep (tableOf bs) (stateOf p))
+    step-is = subst (λ x. Steps bs p x (sourceStep (tableOf bs) (stateOf p))) (sym e) (steps bs (k .surveyed .accepted) p (r .going .fits) (omega (arith, r .going .room)))
+
+    kept-on : Kept (a .parts .hot .traced) (start .slots) (a .parts .slots)
+    kept-on = step-is .keeps (start .slots) (r .kept)
+
+    pub run-again : (i : ℕ) → a .step ≡ Went i → Running bs budget start (left - 1) (partsAt (a .parts) i (p .hot .steps + 1))
+    run-again i z =
+        let s = step-is in
+        record {
+          going = record {
+            fits = s .next i z;
+            few = omega (arith, r .going .few);
+            room = omega (arith, r .going .room, s .traced-more, kept-on .same-length, r .kept .same-length);
+            traced = omega (arith, r .going .traced, s .traced-more);
+          };
+          same = r .same ∙ run-went (tableOf bs) p left h a (s .turn) i z;
+          kept = record { in-slots = kept-on .in-slots; same-length = kept-on .same-length; same-rest = kept-on .same-rest };
+        }
+
+    pub run-ends : IsEnd (a .step) → (x : Stopped) → x ≡ stoppedAt (a .step) (a .parts .places) (a .parts .functions) (a .parts .vars) (countedHot p a)
+        → Ended (tableOf bs) budget start (stoppedWith x (a .parts .slots))
+    run-ends n x q =
+        subst (λ y. Ended (tableOf bs) budget start (stoppedWith y (a .parts .slots))) (sym q)
+        (record {
+          answer-is = r .same ∙ run-stops (tableOf bs) p left h a (step-is .turn) n;
+          kept = record { in-slots = kept-on .in-slots; same-length = kept-on .same-length; same-rest = kept-on .same-rest };
+        })
+
+  pub run-spent : left ≤ 0 → (x : Stopped) → x ≡ stoppedAt (Went (p .hot .place)) (p .places) (p .functions) (p .vars) (p .hot)
+      → Ended (tableOf bs) budget start (stoppedWith x (p .slots))
+  run-spent h x q =
+      subst (λ y. Ended (tableOf bs) budget start (stoppedWith y (p .slots))) (sym q)
+      (record {
+        answer-is = r .same ∙ run-none (tableOf bs) left p h;
+        kept = record { in-slots = r .kept .in-slots; same-length = r .kept .same-length; same-rest = r .kept .same-rest };
+      })
+
+-- ---- the whole run
+pub knows : {bs map ends elses heads : List ℕ} → Surveyed bs map → Links (tableOf bs) ends elses heads → 1024 ≤ length ends → 1024 ≤ length elses → 32 ≤ length heads
+    → Known bs map ends elses heads
+knows s l a b c =
+    record {
+      surveyed = s;
+      ends-known = record { room = a; each = l .ends-are };
+      elses-known = record { room = b; each = l .elses-are };
+      heads-known = record { room = c; each = l .heads-are };
+    }
+
+pub starts : {bs slots vs : List ℕ} {budget : ℕ} {m : Machine} → verdictOf bs ≡ Accepted → budget ≤ length slots → budget < 65536 → m ≡ startOf vs
+    → Going bs budget (partsIn m slots)
+starts {bs} {slots} {vs} {budget} a h l e =
+    subst (λ m. Going bs budget (partsIn m slots)) (sym e)
+    (record {
+      fits = record {
+        deep = omega arith;
+        places-are = length-replicate {A = ℕ} 16 0;
+        functions-are = length-replicate {A = ℕ} 16 0;
+        here = first-inside bs a;
+        waiting = λ d x. absurd (let z : ⊥ = omega arith in z);
+      };
+      few = omega arith;
+      room = omega arith;
+      traced = omega arith;
+    })
+
+pub answers : (bs slots vs held : List ℕ) (budget o : ℕ) (m : Machine) (x : Stopped) → m ≡ startOf vs → Ended (tableOf bs) budget (partsIn m held) (stoppedWith x slots) → o ≡ outcomeOf (x .step)
+    → ranWith (record { number = 0; outcome = o; steps = x .machine .hot .steps; traced = x .machine .hot .traced; variables = x .machine .variables }) slots
+    ≡ running Accepted (sourceRun (tableOf bs) budget vs) vs held
+unfolding running
+answers bs slots vs held budget o m x b e q =
+    let n = x .machine .hot .traced in
+    let l : length (take n slots) ≡ n = length-take-le n slots (e .kept .in-slots) in
+    let w : slots ≡ over (take n slots) held
+    = sym (take-append-drop n slots) ∙ ap (λ y. take n slots ++ y) (e .kept .same-rest) ∙ ap (λ y. take n slots ++ drop y held) (sym l) in
+    ap (λ y. ranWith (record { number = 0; outcome = y; steps = x .machine .hot .steps; traced = n; variables = x .machine .variables }) slots) q
+    ∙ ap (λ y. ranWith (record { number = 0; outcome = outcomeOf (x .step); steps = x .machine .hot .steps; traced = y; variables = x .machine .variables }) slots) (sym l)
+    ∙ ap (λ y. ranWith (record { number = 0; outcome = outcomeOf (x .step); steps = x .machine .hot .steps; traced = length (take n slots); variables = x .machine .variables }) y) w
+    ∙ sym (ap (λ y. running Accepted y vs held) (ap (λ y. runFrom (tableOf bs) budget (partsIn y held)) (sym b) ∙ e .answer-is))

@@ -1,0 +1,67 @@
+use Rattle.rules.specs.Run.{outcomeOf}
+use mathlib.Core.Path.{sym, ap}
+use borrow.Author.Needs.{needs}
+use Rattle.source.proofs.outcome_of.Statement.{statement}
+use Rattle.source.proofs.outcome_of.Tie as tie
+use Rattle.source.proofs.outcome_of.Reads as reads
+use Rattle.source.proofs.outcome_of.Lts as lts
+
+-- src/lib.rt:28:26
+enum-told : tie.Need-enum-told
+enum-told c = search needs
+
+-- src/lib.rt:29:27
+enum-told-2 : tie.Need-enum-told-2
+enum-told-2 c = search needs
+
+-- src/lib.rt:30:24
+enum-told-3 : tie.Need-enum-told-3
+enum-told-3 c = search needs
+
+-- src/lib.rt:31:33
+enum-told-4 : tie.Need-enum-told-4
+enum-told-4 c = search needs
+
+-- src/lib.rt:32:28
+enum-told-5 : tie.Need-enum-told-5
+enum-told-5 c = search needs
+
+-- src/lib.rt:24:1
+returns : tie.Need-returns
+unfolding outcomeOf
+returns c = sym (ap outcomeOf (c .enum-told .given .1))
+
+-- src/lib.rt:24:1
+returns-2 : tie.Need-returns-2
+unfolding outcomeOf
+returns-2 c = sym (ap outcomeOf (c .enum-told2 .given .1))
+
+-- src/lib.rt:24:1
+returns-3 : tie.Need-returns-3
+unfolding outcomeOf
+returns-3 c = sym (ap outcomeOf (c .enum-told3 .given .1))
+
+-- src/lib.rt:24:1
+returns-4 : tie.Need-returns-4
+unfolding outcomeOf
+returns-4 c = sym (ap outcomeOf (c .enum-told4 .given .1))
+
+-- src/lib.rt:24:1
+returns-5 : tie.Need-returns-5
+unfolding outcomeOf
+returns-5 c = sym (ap outcomeOf (c .enum-told5 .given .1))
+
+pub outcome-of-spec : {M : Type 1} → statement M
+outcome-of-spec =
+    tie.close
+    (tie.spec
+    enum-told
+    enum-told-2
+    enum-told-3
+    enum-told-4
+    enum-told-5
+    returns
+    returns-2
+    returns-3
+    returns-4
+    returns-5)

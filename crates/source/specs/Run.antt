@@ -1,0 +1,98 @@
+-- The state of the source machine that a machine and its slots are, and what a run from it comes to.
+use Prim.Native.Nat.{ℕ, zero, suc, _+_, _≤_, _<_}
+use mathlib.Core.Path.{_≡_}
+use mathlib.Core.List.{List, [], _∷_}
+use lib.ListN.{length, getD, take, drop, replicate}
+use Rattle.rules.specs.declared.answer.Ran.{Ran}
+use Rattle.rules.specs.declared.step.Step.{Step}
+use Rattle.rules.specs.Limits.{maxOpen}
+use Rattle.rules.specs.Row.{Table}
+use Rattle.rules.specs.State.{Frame, frame}
+use Rattle.rules.specs.Run.{Turn, on, ends, Answer, run}
+use Rattle.rules.specs.Source.{Source, sourceStep}
+use Rattle.rules.specs.Calls.{Running}
+use Rattle.layout.specs.Spot.{Inside}
+use Rattle.machine.specs.declared.machine.Hot.{Hot}
+use Rattle.machine.specs.declared.machine.Machine.{Machine}
+use Rattle.machine.specs.declared.machine.Stopped.{Stopped}
+use Rattle.machine.specs.Run.{hotAt, onward}
+use Rattle.source.specs.Step.{Parts, partsOf, After}
+
+-- ---- the parts of a machine, with the slots that it is lent
+abbrev pub partsIn : Machine → (slots : List ℕ) → Parts
+partsIn m tr = partsOf (m .hot) (m .places) (m .functions) (m .variables) tr
+
+abbrev pub stoppedAt : Step → (places functions vars : List ℕ) → Hot → Stopped
+stoppedAt o ps fs vs h = record { step = o; machine = record { places = ps; functions = fs; variables = vs; hot = h } }
+
+abbrev pub stoppedWith : Stopped → (slots : List ℕ) → After
+stoppedWith x tr = record { step = x .step; parts = partsIn (x .machine) tr }
+
+-- with the row and the steps set
+abbrev pub partsAt : Parts → (row steps : ℕ) → Parts
+partsAt p i n = partsOf (hotAt (p .hot) i n) (p .places) (p .functions) (p .vars) (p .slots)
+
+-- ---- the state
+-- the functions that wait below depth d, the newest first
+abbrev pub framesOf : (places functions : List ℕ) → (d : ℕ) → List (Frame (Unit {0}))
+framesOf ps fs zero = []
+framesOf ps fs (suc d) = frame (getD fs d 0) (getD ps d 0) tt ∷ framesOf ps fs d
+
+abbrev pub stateOf : Parts → Source
+stateOf p =
+    record {
+      running = frame (p .hot .function) (p .hot .place) tt;
+      callers = framesOf (p .places) (p .functions) (p .hot .depth);
+      last = tt;
+      vars = p .vars;
+      trace = take (p .hot .traced) (p .slots);
+    }
+
+-- what a step came to, and a run
+abbrev pub turnOf : After → Turn (Unit {0})
+turnOf a = onward (a .step) (λ i. on (stateOf (partsAt (a .parts) i 0))) (ends (a .step) (stateOf (a .parts)))
+
+abbrev pub answerOf : After → Answer (Unit {0})
+answerOf a = record { step = a .step; steps = a .parts .hot .steps; state = stateOf (a .parts) }
+
+abbrev pub runFrom : Table → (budget : ℕ) → Parts → Answer (Unit {0})
+runFrom t b p = run (λ k s. sourceStep t s) b (p .hot .steps) (stateOf p)
+
+-- ---- what holds of a machine before each step: every open function is at a row of the table
+pub record Fits (bs : List ℕ) (depth row : ℕ) (places functions : List ℕ) : Type 0 where
+  pub deep : depth < maxOpen
+  pub places-are : length places ≡ maxOpen
+  pub functions-are : length functions ≡ maxOpen
+  pub here : Inside bs row
+  pub waiting : (d : ℕ) → d < depth → Inside bs (getD places d 0)
+
+-- at most `left` steps are to come, and there are slots for them
+pub record Going (bs : List ℕ) (left : ℕ) (p : Parts) : Type 0 where
+  pub fits : Fits bs (p .hot .depth) (p .hot .place) (p .places) (p .functions)
+  pub few : p .hot .steps + left ≤ 65535
+  pub room : p .hot .traced + left ≤ length (p .slots)
+  pub traced : p .hot .traced ≤ p .hot .steps
+
+-- the slots past the first n are as they were
+pub record Kept (n : ℕ) (held slots : List ℕ) : Type 0 where
+  pub in-slots : n ≤ length slots
+  pub same-length : length slots ≡ length held
+  pub same-rest : drop n slots ≡ drop n held
+
+-- a run of these parts came to this
+pub record Ended (t : Table) (budget : ℕ) (p : Parts) (a : After) : Type 0 where
+  pub answer-is : runFrom t budget p ≡ answerOf a
+  pub kept : Kept (a .parts .hot .traced) (p .slots) (a .parts .slots)
+
+-- ---- the start, and what is given back
+abbrev pub startOf : (vars : List ℕ) → Machine
+startOf vs =
+    record {
+      places = replicate 16 0;
+      functions = replicate 16 0;
+      variables = vs;
+      hot = record { depth = 0; function = 0; place = 1; last = 0; steps = 0; traced = 0 };
+    }
+
+abbrev pub ranWith : Ran → (slots : List ℕ) → Running
+ranWith r tr = record { ran = r; trace = tr }

@@ -1,0 +1,74 @@
+// A run of at most as many steps as its budget.
+ghost use mathlib.Core.Path.{_≡_};
+ghost use Rattle.rules.specs.Row.{tableOf};
+ghost use Rattle.source.specs.Step.{Known};
+ghost use Rattle.source.specs.Run.{stoppedAt, partsIn, stoppedWith, Going, Ended};
+use crate::step;
+use machine::machine::Hot;
+use machine::machine::Machine;
+use machine::machine::Stopped;
+use rules::step::Step;
+
+// The machine put together where a run stops.
+fn at_end(
+    step: Step,
+    places: [u16; 16],
+    functions: [u8; 16],
+    variables: [u16; 16],
+    hot: Hot,
+) -> Stopped
+    ensures { λ r. ⌜ r ≡ stoppedAt step places functions variables hot ⌝ }
+{
+    let machine = Machine {
+        places,
+        functions,
+        variables,
+        hot,
+    };
+    Stopped { step, machine }
+}
+
+// Takes the machine apart, so that its numbers stay in registers, and puts it together where it stops.
+pub fn run_rows(
+    rows: &[u8],
+    map: &[u16],
+    ends: &[u16],
+    elses: &[u16],
+    heads: &[u16],
+    start: Machine,
+    budget: u16,
+    trace: &mut [u16],
+) -> Stopped
+    requires { ⌜ (Known (now rows) (now map) (now ends) (now elses) (now heads)) × (Going (now rows) budget (partsIn start (now trace))) ⌝ }
+    ensures { λ r. ⌜ Ended (tableOf (now (rows .entry))) budget (partsIn start (now (trace .entry))) (stoppedWith r (now (trace .exit))) ⌝ }
+{
+    let mut places = start.places;
+    let mut functions = start.functions;
+    let mut variables = start.variables;
+    let mut h = start.hot;
+    let mut left = budget;
+    while 0 < left {
+        let steps = h.steps + 1;
+        let t = step::row(
+            rows,
+            map,
+            ends,
+            elses,
+            heads,
+            h,
+            &mut places,
+            &mut functions,
+            &mut variables,
+            trace,
+        );
+        let s = t.step;
+        h = t.hot;
+        h.steps = steps;
+        let Step::Went(k) = s else {
+            return at_end(s, places, functions, variables, h);
+        };
+        h.place = k;
+        left -= 1;
+    }
+    at_end(Step::Went(h.place), places, functions, variables, h)
+}
