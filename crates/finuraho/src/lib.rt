@@ -1,12 +1,16 @@
 // The public calls. Each promises one equation with its definition in rules/specs/Calls.antt: number, lengths and every lent
-// buffer, for every input; none has a `requires`.
+// buffer, for every input; none has a `requires`. A hardened run promises demand 3 besides, of the call's own bytes, values, budget
+// and jump (rules/specs/Promise.antt).
 ghost use mathlib.Core.Path.{_≡_};
-ghost use Rattle.rules.specs.Calls.{checkCall, hardenCall, checkHardenedCall, readBackCall, shortOutput, writing};
-ghost use Rattle.finuraho.specs.Given.{writes, refusedWith};
+ghost use Rattle.rules.specs.Calls.{checkCall, hardenCall, checkHardenedCall, readBackCall, runSourceCall, shortOutput, writing};
+ghost use Rattle.rules.specs.Promise.{HardenedPromise};
+ghost use Rattle.finuraho.specs.Given.{writes, refusedWith, runs, hardenedRuns};
 
 mod number;
+mod run;
 
 use reader::Found;
+use rules::answer::Ran;
 use rules::answer::Wrote;
 use rules::refusal::Refusal;
 use rules::refusal::Verdict;
@@ -87,4 +91,36 @@ pub fn read_back(lines: &[u8], out: &mut [u8]) -> Wrote
         Found::NotHardened => refused(Refusal::NotHardened),
         Found::Source(n) => give(&rows[..n], out),
     }
+}
+
+// Runs a source table: outcome, steps, trace length and variables; the trace stands at the front of `trace`.
+pub fn run_source(rows: &[u8], variables: [u16; 16], budget: u16, trace: &mut [u16]) -> Ran
+    ensures { λ r. ⌜ runs r (now (trace .exit)) ≡ runSourceCall (now (rows .entry)) variables budget (now (trace .entry)) ⌝ }
+{
+    let mut ends = row_words();
+    let mut elses = row_words();
+    let mut heads = function_words();
+    match table::check::check(rows, &mut ends, &mut elses, &mut heads) {
+        Verdict::Refused(r) => run::refused(r, variables),
+        Verdict::Accepted => run::source_run(rows, &ends, &elses, &heads, variables, budget, trace),
+    }
+}
+
+// Runs a hardened table with a jump before step `step` to `place`; step 65,535 is no jump. The first 1,024 counter words are 0
+// afterwards.
+pub fn run_hardened(
+    lines: &[u8],
+    variables: [u16; 16],
+    budget: u16,
+    step: u16,
+    place: u16,
+    trace: &mut [u16],
+    counters: &mut [u16],
+) -> Ran
+    ensures { λ r. ⌜ HardenedPromise (now (lines .entry)) variables budget step place (now (trace .entry)) (now (counters .entry)) (hardenedRuns r (now (trace .exit)) (now (counters .exit))) ⌝ }
+{
+    if reader::is_hardened(lines) {
+        return run::hardened_run(lines, variables, budget, step, place, trace, counters);
+    }
+    run::refused(Refusal::NotHardened, variables)
 }

@@ -60,7 +60,7 @@ fn is_leave(kind: LineKind) -> bool
 }
 
 // Where a line goes.
-fn target(lines: &[u8], line: u16) -> u16
+fn go_of(lines: &[u8], line: u16) -> u16
     requires { ⌜ 20 * line + 20 ≤ length (now lines) ⌝ }
     ensures { λ r. ⌜ r ≡ fieldsAt (now (lines .entry)) line .go ⌝ }
 {
@@ -77,7 +77,7 @@ fn leaves_to(lines: &[u8], line: u16, k: u16) -> bool
         return false;
     }
     if is_leave(fields::kind_at(lines, line)) {
-        return target(lines, line) == k;
+        return go_of(lines, line) == k;
     }
     false
 }
@@ -87,7 +87,7 @@ fn test_kind(lines: &[u8], line: u16) -> u8
     requires { ⌜ Here (now lines) line ⌝ }
     ensures { λ r. ⌜ r ≡ testKind (now (lines .entry)) line ⌝ }
 {
-    let go = target(lines, line);
+    let go = go_of(lines, line);
     if leaves_to(lines, line_before(go), line) {
         return LOOP;
     }
@@ -108,7 +108,7 @@ fn leave_kind(lines: &[u8], line: u16) -> u8
     requires { ⌜ Here (now lines) line ⌝ }
     ensures { λ r. ⌜ r ≡ leaveKind (now (lines .entry)) line ⌝ }
 {
-    if line + 1 < target(lines, line) {
+    if line + 1 < go_of(lines, line) {
         return ELSE;
     }
     END
@@ -119,7 +119,7 @@ fn out_kind(lines: &[u8], line: u16) -> u8
     requires { ⌜ Here (now lines) line ⌝ }
     ensures { λ r. ⌜ r ≡ outKind (now (lines .entry)) line ⌝ }
 {
-    if line < target(lines, line) {
+    if line < go_of(lines, line) {
         return BREAK;
     }
     CONTINUE
@@ -131,7 +131,7 @@ fn callee(lines: &[u8], owners: &[u16; 2049], line: u16) -> u16
     ensures { λ r. ⌜ r ≡ functionAt (linesIn (now (lines .entry))) (fieldsAt (now (lines .entry)) line .go) ⌝ }
 {
     let count = lines.len() / 20;
-    let go = target(lines, line) as usize;
+    let go = go_of(lines, line) as usize;
     if go < count {
         return owners[go];
     }

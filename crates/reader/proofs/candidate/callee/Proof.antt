@@ -9,11 +9,11 @@ use Rattle.reader.proofs.candidate.callee.Statement.{statement}
 use Rattle.reader.proofs.candidate.callee.Tie as tie
 use Rattle.reader.proofs.candidate.callee.Reads as reads
 use Rattle.reader.proofs.candidate.callee.Lts as lts
-use Rattle.reader.proofs.candidate.target.Reads as target-reads
+use Rattle.reader.proofs.candidate.go_of.Reads as go-of-reads
 
 -- src/candidate.rt:134:14
-target-requires : tie.Need-target-requires
-target-requires c κs = search needs
+go-of-requires : tie.Need-go-of-requires
+go-of-requires c κs = search needs
 
 -- src/candidate.rt:134:14
 cast-go : tie.Need-cast-go
@@ -29,7 +29,7 @@ element-copy-out-result c = search needs
 
 -- src/candidate.rt:136:9
 returns : tie.Need-returns
-returns c = owner-inside (c .before .before .before .before .pre .1) (omega arith) ∙ ap (functionAt (linesIn (now (c .before .before .before .before .args .lines)))) (c .before .before .target .ensures)
+returns c = owner-inside (c .before .before .before .before .pre .1) (omega arith) ∙ ap (functionAt (linesIn (now (c .before .before .before .before .args .lines)))) (c .before .before .go-of .ensures)
 
 -- src/candidate.rt:138:5
 mul-result-2 : tie.Need-mul-result-2
@@ -41,13 +41,13 @@ element-copy-out-result-2 c = search needs
 
 -- src/candidate.rt:129:1
 returns-2 : tie.Need-returns-2
-returns-2 c = owner-beyond (c .before .before .before .before .pre .1) (omega arith) ∙ ap (functionAt (linesIn (now (c .before .before .before .before .args .lines)))) (c .before .before .target .ensures)
+returns-2 c = owner-beyond (c .before .before .before .before .pre .1) (omega arith) ∙ ap (functionAt (linesIn (now (c .before .before .before .before .args .lines)))) (c .before .before .go-of .ensures)
 
 pub callee-spec : {M : Type 1} → statement M
 callee-spec =
     tie.close
     (tie.spec
-    target-requires
+    go-of-requires
     cast-go
     mul-result
     element-copy-out-result

@@ -11,7 +11,7 @@ use Rattle.reader.proofs.candidate.leaves_to.Reads as reads
 use Rattle.reader.proofs.candidate.leaves_to.Lts as lts
 use Rattle.machine.proofs.fields.kind_at.Reads as kind-at-reads
 use Rattle.reader.proofs.candidate.is_leave.Reads as is-leave-reads
-use Rattle.reader.proofs.candidate.target.Reads as target-reads
+use Rattle.reader.proofs.candidate.go_of.Reads as go-of-reads
 
 -- src/candidate.rt:75:17
 cast-count : tie.Need-cast-count
@@ -30,12 +30,12 @@ is-leave-requires : tie.Need-is-leave-requires
 is-leave-requires c κs = search needs
 
 -- src/candidate.rt:80:16
-target-requires : tie.Need-target-requires
-target-requires c κs = search needs
+go-of-requires : tie.Need-go-of-requires
+go-of-requires c κs = search needs
 
 -- src/candidate.rt:80:9
 returns-2 : tie.Need-returns-2
-returns-2 c = ap (λ x. eqb x (c .before .before .before .before .before .before .args .k)) (c .target .ensures) ∙ leaves-there (now (c .before .before .before .before .before .before .args .lines)) (c .before .before .before .before .before .before .args .line) (c .before .before .before .before .before .before .args .k) (omega arith) (sym (c .before .before .is-leave .ensures ∙ ap isLeave (c .before .before .before .kind-at .ensures)) ∙ c .before .if2 .taken)
+returns-2 c = ap (λ x. eqb x (c .before .before .before .before .before .before .args .k)) (c .go-of .ensures) ∙ leaves-there (now (c .before .before .before .before .before .before .args .lines)) (c .before .before .before .before .before .before .args .line) (c .before .before .before .before .before .before .args .k) (omega arith) (sym (c .before .before .is-leave .ensures ∙ ap isLeave (c .before .before .before .kind-at .ensures)) ∙ c .before .if2 .taken)
 
 -- src/candidate.rt:71:1
 returns-3 : tie.Need-returns-3
@@ -49,6 +49,6 @@ leaves-to-spec =
     returns
     kind-at-requires
     is-leave-requires
-    target-requires
+    go-of-requires
     returns-2
     returns-3)

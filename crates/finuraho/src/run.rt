@@ -1,0 +1,69 @@
+// Runs of tables that are checked: test 9, and what a refused run gives back.
+ghost use mathlib.Core.Path.{_≡_};
+ghost use mathlib.Core.Bool.{true};
+ghost use lib.ListN.{length};
+ghost use Rattle.rules.specs.declared.refusal.Verdict.the-variants.{Accepted};
+ghost use Rattle.rules.specs.Row.{tableOf};
+ghost use Rattle.rules.specs.Check.{verdictOf};
+ghost use Rattle.rules.specs.ReadBack.{isHardened};
+ghost use Rattle.rules.specs.Links.{Links};
+ghost use Rattle.rules.specs.Calls.{runSourceCall, runHardenedCall};
+ghost use Rattle.finuraho.specs.Given.{refusedRunWith, runs, hardenedRuns};
+use crate::number;
+use rules::answer::Ran;
+use rules::refusal::Refusal;
+
+// "Returned: number, zeros, variables as given."
+pub fn refused(r: Refusal, variables: [u16; 16]) -> Ran
+    ensures { λ x. ⌜ x ≡ refusedRunWith r variables ⌝ }
+{
+    Ran {
+        number: number::of_refusal(r),
+        outcome: 0,
+        steps: 0,
+        traced: 0,
+        variables,
+    }
+}
+
+// Runs an accepted table whose links are known.
+pub fn source_run(
+    rows: &[u8],
+    ends: &[u16; 1024],
+    elses: &[u16; 1024],
+    heads: &[u16; 32],
+    variables: [u16; 16],
+    budget: u16,
+    trace: &mut [u16],
+) -> Ran
+    requires { ⌜ verdictOf (now rows) ≡ Accepted ⌝ }
+    requires { ⌜ Links (tableOf (now rows)) (now ends) (now elses) (now heads) ⌝ }
+    ensures { λ r. ⌜ runs r (now (trace .exit)) ≡ runSourceCall (now (rows .entry)) variables budget (now (trace .entry)) ⌝ }
+{
+    if trace.len() < budget as usize {
+        return refused(Refusal::ShortRoom, variables);
+    }
+    source::run_linked(rows, ends, elses, heads, variables, budget, trace)
+}
+
+// Runs a hardened table.
+pub fn hardened_run(
+    lines: &[u8],
+    variables: [u16; 16],
+    budget: u16,
+    step: u16,
+    place: u16,
+    trace: &mut [u16],
+    counters: &mut [u16],
+) -> Ran
+    requires { ⌜ isHardened (now lines) ≡ true ⌝ }
+    ensures { λ r. ⌜ hardenedRuns r (now (trace .exit)) (now (counters .exit)) ≡ runHardenedCall (now (lines .entry)) variables budget step place (now (trace .entry)) (now (counters .entry)) ⌝ }
+{
+    if trace.len() < budget as usize {
+        return refused(Refusal::ShortRoom, variables);
+    }
+    if counters.len() < 1024 {
+        return refused(Refusal::ShortRoom, variables);
+    }
+    machine::table::run_table(lines, variables, budget, step, place, trace, counters)
+}

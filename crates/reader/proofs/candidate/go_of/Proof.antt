@@ -1,0 +1,28 @@
+use native.Mathlib.Omega.{arith}
+use borrow.Author.Needs.{needs}
+use Rattle.machine.specs.Fields.{fieldsAt}
+use Rattle.reader.proofs.candidate.go_of.Statement.{statement}
+use Rattle.reader.proofs.candidate.go_of.Tie as tie
+use Rattle.reader.proofs.candidate.go_of.Reads as reads
+use Rattle.reader.proofs.candidate.go_of.Lts as lts
+use Rattle.machine.proofs.fields.word.Reads as word-reads
+
+-- src/candidate.rt:67:25
+mul-word : tie.Need-mul-word
+mul-word c = search needs
+
+-- src/candidate.rt:67:25
+add-word : tie.Need-add-word
+add-word c = search needs
+
+-- src/candidate.rt:67:5
+word-requires : tie.Need-word-requires
+word-requires c κs = search needs
+
+-- src/candidate.rt:63:1
+returns : tie.Need-returns
+unfolding fieldsAt
+returns c = c .word .ensures
+
+pub go-of-spec : {M : Type 1} → statement M
+go-of-spec = tie.close (tie.spec mul-word add-word word-requires returns)
