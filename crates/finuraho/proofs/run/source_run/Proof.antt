@@ -1,0 +1,36 @@
+use mathlib.Core.Path.{ap, sym, _∙_, refl, subst}
+use native.Mathlib.Omega.{arith}
+use denote.Ref.{now}
+use Rattle.finuraho.specs.Given.{refusedRunWith, runs, hardenedRuns}
+use Rattle.rules.proofs.Calls.{run-source-short, run-source-accepted}
+use borrow.Author.Needs.{needs}
+use Rattle.finuraho.proofs.run.source_run.Statement.{statement}
+use Rattle.finuraho.proofs.run.source_run.Tie as tie
+use Rattle.finuraho.proofs.run.source_run.Reads as reads
+use Rattle.finuraho.proofs.run.source_run.Lts as lts
+use Rattle.finuraho.proofs.run.refused.Reads as refused-reads
+use Rattle.source.proofs.run_linked.Reads as run-linked-reads
+
+-- src/run.rt:44:9
+refused-requires : tie.Need-refused-requires
+refused-requires c κs = search needs
+
+-- src/run.rt:44:9
+returns : tie.Need-returns
+returns c = ap (λ x. runs x (now (c .before .before .before .before .args .trace))) (c .refused .ensures) ∙ sym (run-source-short (now (c .before .before .before .before .args .rows)) (c .before .before .before .before .args .variables) (c .before .before .before .before .args .budget) (now (c .before .before .before .before .args .trace)) (c .before .before .before .before .pre .0) (omega arith))
+
+-- src/run.rt:46:5
+run-linked-requires : tie.Need-run-linked-requires
+run-linked-requires c κs = (c .before .before .before .before .pre .0, (c .before .before .before .before .pre .1, omega arith))
+
+-- src/run.rt:30:1
+same-length : tie.Need-same-length
+same-length c = search needs
+
+-- src/run.rt:30:1
+returns-2 : tie.Need-returns-2
+returns-2 c = c .before .before .run-linked .ensures ∙ sym (run-source-accepted (now (c .before .before .before .before .before .before .before .args .rows)) (c .before .before .before .before .before .before .before .args .variables) (c .before .before .before .before .before .before .before .args .budget) (now (c .before .before .before .before .before .before .before .args .trace)) (c .before .before .before .before .before .before .before .pre .0) (omega arith))
+
+pub source-run-spec : {M : Type 1} → statement M
+source-run-spec =
+    tie.close (tie.spec refused-requires returns run-linked-requires same-length returns-2)
