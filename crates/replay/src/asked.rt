@@ -1,15 +1,16 @@
-// A line as it is read: a word, a decimal number where the word takes one, and bytes in hexadecimal.
+// A line as it is read: a word, decimal numbers with spaces or commas between them, and bytes in hexadecimal.
 ghost use mathlib.Core.Path.{_≡_};
 ghost use Prim.Native.Nat.{_≤_, _<_};
 ghost use lib.ListN.{length};
-ghost use Rattle.replay.specs.Asked.{Within};
+ghost use Rattle.replay.specs.Asked.{Within, Buffers};
 
 pub struct Asked {
-    // The first letter of the word.
+    // The first letter of the word; `hardened`, the one word of more than six letters, counts as `H`.
     pub kind: u8,
-    // How many words came before this one.
+    pub letters: u8,
+    // How many words came before this one, and which number is being read.
     pub word: u8,
-    pub number: usize,
+    pub slot: usize,
     // The bytes so far, the value of a first digit, and whether one waits for its second.
     pub length: usize,
     pub high: u8,
@@ -21,8 +22,9 @@ pub fn start() -> Asked
 {
     Asked {
         kind: 0,
+        letters: 0,
         word: 0,
-        number: 0,
+        slot: 0,
         length: 0,
         high: 0,
         half: false,
@@ -31,37 +33,61 @@ pub fn start() -> Asked
 
 // The bytes stand behind this many words.
 fn bytes_after(kind: u8) -> u8 {
-    if kind == b'c' {
-        return 1;
+    match kind {
+        b'c' => 1,
+        b's' => 4,
+        b'H' => 7,
+        _ => 2,
     }
-    2
 }
 
-pub fn take(b: u8, s: Asked, rows: &mut [u8]) -> Asked
-    requires { ⌜ (length (now rows) ≡ 65536) × (Within s) ⌝ }
+pub fn take(b: u8, s: Asked, bytes: &mut [u8], numbers: &mut [u16]) -> Asked
+    requires { ⌜ (Buffers (now bytes) (now numbers)) × (Within s) ⌝ }
     ensures { λ r. ⌜ Within r ⌝ }
 {
     if b == b' ' {
-        return next_word(s);
+        return next_word(s, numbers);
     }
     if s.word == 0 {
         return named(b, s);
     }
     if s.word < bytes_after(s.kind) {
-        return counted(b, s);
+        return counted(b, s, numbers);
     }
-    spelt(b, s, rows)
+    spelt(b, s, bytes)
 }
 
-fn next_word(s: Asked) -> Asked
-    requires { ⌜ Within s ⌝ }
+fn one_more(word: u8) -> u8 {
+    if word < 9 {
+        return word + 1;
+    }
+    word
+}
+
+fn next_word(s: Asked, numbers: &mut [u16]) -> Asked
+    requires { ⌜ (length (now numbers) ≡ 32) × (Within s) ⌝ }
     ensures { λ r. ⌜ Within r ⌝ }
 {
     let mut next = s;
-    if s.word < 9 {
-        next.word = s.word + 1;
+    next.word = one_more(s.word);
+    if s.word == 0 {
+        put(numbers, 0, 0);
+        return next;
     }
+    next.slot = next_slot(s.slot, numbers);
     next
+}
+
+// The next number begins at 0. A line has fewer numbers than there are slots.
+fn next_slot(slot: usize, numbers: &mut [u16]) -> usize
+    requires { ⌜ (length (now numbers) ≡ 32) × (slot < 32) ⌝ }
+    ensures { λ r. ⌜ r < 32 ⌝ }
+{
+    if slot == 31 {
+        return 31;
+    }
+    put(numbers, slot + 1, 0);
+    slot + 1
 }
 
 // The first letter stays.
@@ -70,34 +96,64 @@ fn named(b: u8, s: Asked) -> Asked
     ensures { λ r. ⌜ Within r ⌝ }
 {
     let mut next = s;
-    if s.kind == 0 {
+    if s.letters == 0 {
         next.kind = b;
+        next.letters = 1;
+        return next;
     }
+    if s.letters == 6 {
+        next.kind = b'H';
+        return next;
+    }
+    next.letters = s.letters + 1;
     next
 }
 
-fn figure(b: u8) -> usize
+fn figure(b: u8) -> u32
     ensures { λ r. ⌜ r < 16 ⌝ }
 {
-    nibble(b) as usize
+    nibble(b) as u32
 }
 
-fn least(a: usize, b: usize) -> usize
-    ensures { λ r. ⌜ r ≤ b ⌝ }
+fn wide(x: u16) -> u32
+    ensures { λ r. ⌜ r < 65536 ⌝ }
 {
-    if a < b {
-        return a;
-    }
-    b
+    x as u32
 }
 
-// A number above 65,536 counts as that.
-fn counted(b: u8, s: Asked) -> Asked
-    requires { ⌜ Within s ⌝ }
+// A number as a length.
+pub fn size(x: u16) -> usize
+    ensures { λ r. ⌜ r < 65536 ⌝ }
+{
+    x as usize
+}
+
+// A number above 65,535 counts as that.
+fn narrow(x: u32) -> u16 {
+    if x > 65535 {
+        return 65535;
+    }
+    x as u16
+}
+
+fn put(words: &mut [u16], at: usize, x: u16)
+    requires { ⌜ at < length (now words) ⌝ }
+{
+    words[at] = x;
+}
+
+fn counted(b: u8, s: Asked, numbers: &mut [u16]) -> Asked
+    requires { ⌜ (length (now numbers) ≡ 32) × (Within s) ⌝ }
     ensures { λ r. ⌜ Within r ⌝ }
 {
     let mut next = s;
-    next.number = least(s.number * 10 + figure(b), 65536);
+    if b == b',' {
+        next.slot = next_slot(s.slot, numbers);
+        return next;
+    }
+    let k = s.slot;
+    let x = wide(numbers[k]);
+    put(numbers, k, narrow(x * 10 + figure(b)));
     next
 }
 
@@ -111,15 +167,15 @@ fn nibble(b: u8) -> u8
     }
 }
 
-fn store(rows: &mut [u8], at: usize, x: u8)
-    requires { ⌜ at < length (now rows) ⌝ }
+fn store(bytes: &mut [u8], at: usize, x: u8)
+    requires { ⌜ at < length (now bytes) ⌝ }
 {
-    rows[at] = x;
+    bytes[at] = x;
 }
 
 // No bytes are written `-`. Bytes beyond the buffer are dropped.
-fn spelt(b: u8, s: Asked, rows: &mut [u8]) -> Asked
-    requires { ⌜ (length (now rows) ≡ 65536) × (Within s) ⌝ }
+fn spelt(b: u8, s: Asked, bytes: &mut [u8]) -> Asked
+    requires { ⌜ (length (now bytes) ≡ 65536) × (Within s) ⌝ }
     ensures { λ r. ⌜ Within r ⌝ }
 {
     let mut next = s;
@@ -130,7 +186,7 @@ fn spelt(b: u8, s: Asked, rows: &mut [u8]) -> Asked
         return next;
     }
     if s.half {
-        store(rows, s.length, 16 * s.high + nibble(b));
+        store(bytes, s.length, 16 * s.high + nibble(b));
         next.length = s.length + 1;
         next.half = false;
         return next;

@@ -2,27 +2,48 @@
 ghost use mathlib.Core.Path.{_≡_};
 ghost use Prim.Native.Nat.{_≤_, _<_};
 ghost use lib.ListN.{length};
-ghost use Rattle.replay.specs.Asked.{Within};
+ghost use Rattle.replay.specs.Asked.{Within, Buffers, Lent};
 use crate::asked::Asked;
+use crate::asked::size;
+use crate::runs;
 use crate::show;
 use rules::answer::Wrote;
 
-pub fn answer(s: Asked, rows: &[u8], out: &mut [u8])
-    requires { ⌜ (length (now rows) ≡ 65536) × (length (now out) ≡ 65536) × (Within s) ⌝ }
+pub fn answer(
+    s: Asked,
+    bytes: &[u8],
+    numbers: &[u16],
+    out: &mut [u8],
+    trace: &mut [u16],
+    counters: &mut [u16],
+)
+    requires { ⌜ (Buffers (now bytes) (now numbers)) × (Lent (now out) (now trace) (now counters)) × (Within s) ⌝ }
 {
     let n = s.length;
-    let room = s.number;
-    if s.kind == b'c' {
-        check(&rows[..n]);
+    if s.kind == b's' {
+        runs::source(&bytes[..n], numbers, trace);
         return;
     }
-    if s.kind == b'h' {
-        harden(&rows[..n], &mut out[..room]);
+    if s.kind == b'H' {
+        runs::hardened(&bytes[..n], numbers, trace, counters);
         return;
     }
-    if s.kind == b'r' {
-        read_back(&rows[..n], &mut out[..room]);
+    tables(s.kind, &bytes[..n], size(numbers[0]), out);
+}
+
+// The calls on tables, with so much room for the answer.
+fn tables(kind: u8, bytes: &[u8], room: usize, out: &mut [u8])
+    requires { ⌜ (room < 65536) × (length (now out) ≡ 65536) ⌝ }
+{
+    if kind == b'c' {
+        check(bytes);
+        return;
     }
+    if kind == b'h' {
+        harden(bytes, &mut out[..room]);
+        return;
+    }
+    read_back(bytes, &mut out[..room]);
 }
 
 // `check ROWS`

@@ -1,8 +1,10 @@
-use mathlib.Core.Path.{_≡_}
-use Rattle.replay.specs.Asked.{Within}
-use Prim.Native.Nat.{ℕ, _+_, _*_, _-_, _≤_, _<_}
-use lib.ListN.{length}
 use borrow.Author.Needs.{needs}
+use native.Mathlib.Omega.{arith}
+use lib.ListN.{length, length-set}
+use Prim.Native.Nat.{_+_, _*_, _-_, _≤_}
+use mathlib.Core.Path.{_≡_, sym}
+use lib.Seq.{length-take-le}
+use Rattle.replay.specs.Asked.{Within, Buffers, Lent}
 use Rattle.replay.proofs.take_all.Statement.{statement}
 use Rattle.replay.proofs.take_all.Tie as tie
 use Rattle.replay.proofs.take_all.Reads as reads
@@ -10,44 +12,57 @@ use Rattle.replay.proofs.take_all.Lts as lts
 use Rattle.replay.proofs.take.Reads as take-reads
 
 abbrev Inv-loop : tie.InvT-loop
-Inv-loop text rows₀ out₀ s₀ at₀ rows out s at = (at ≤ length text) × (Within s) × (length rows ≡ length rows₀) × (length out ≡ length out₀) × (length rows₀ ≡ 65536) × (length out₀ ≡ 65536)
+Inv-loop text bytes₀ numbers₀ out₀ trace₀ counters₀ s₀ at₀ bytes numbers out trace counters s at =
+    ?
 
 abbrev μ-loop : tie.MeasureT-loop
-μ-loop text rows₀ out₀ s₀ at₀ rows out s at = length text - at
+μ-loop text bytes₀ numbers₀ out₀ trace₀ counters₀ s₀ at₀ bytes numbers out trace counters s at = length text - at
 
--- src/main.rt:41:5
+-- src/main.rt:74:5
 loop-holds : tie.Need-loop-holds Inv-loop μ-loop
 loop-holds c = search needs
 
--- src/main.rt:42:18
+-- src/main.rt:75:18
 shared-slice-read-take : tie.Need-shared-slice-read-take Inv-loop μ-loop
 shared-slice-read-take c = search needs
 
--- src/main.rt:42:9
+-- src/main.rt:75:9
 take-requires : tie.Need-take-requires Inv-loop μ-loop
 take-requires c κs = search needs
 
--- src/main.rt:43:9
+-- src/main.rt:76:9
 add-at : tie.Need-add-at Inv-loop μ-loop
 add-at c = search needs
 
--- src/main.rt:41:5
+-- src/main.rt:74:5
 loop-less : tie.Need-loop-less Inv-loop μ-loop
 loop-less c = search needs
 
--- src/main.rt:41:5
+-- src/main.rt:74:5
 loop-again : tie.Need-loop-again Inv-loop μ-loop
 loop-again c = search needs
 
--- src/main.rt:35:1
+-- src/main.rt:60:1
 same-length : tie.Need-same-length Inv-loop μ-loop
 same-length c = search needs
 
--- src/main.rt:35:1
+-- src/main.rt:60:1
 same-length-2 : tie.Need-same-length-2 Inv-loop μ-loop
 same-length-2 c = search needs
 
--- src/main.rt:35:1
+-- src/main.rt:60:1
+same-length-3 : tie.Need-same-length-3 Inv-loop μ-loop
+same-length-3 c = search needs
+
+-- src/main.rt:60:1
+same-length-4 : tie.Need-same-length-4 Inv-loop μ-loop
+same-length-4 c = search needs
+
+-- src/main.rt:60:1
+same-length-5 : tie.Need-same-length-5 Inv-loop μ-loop
+same-length-5 c = search needs
+
+-- src/main.rt:60:1
 returns : tie.Need-returns Inv-loop μ-loop
 returns c = search needs
 
@@ -65,4 +80,7 @@ take-all-spec =
     loop-again
     same-length
     same-length-2
+    same-length-3
+    same-length-4
+    same-length-5
     returns)
