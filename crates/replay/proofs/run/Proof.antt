@@ -15,11 +15,11 @@ use Rattle.replay.proofs.take_all.Reads as take-all-reads
 
 abbrev Inv-loop : tie.InvT-loop
 Inv-loop input₀ bytes₀ numbers₀ out₀ trace₀ counters₀ s₀ reads₀ input bytes numbers out trace counters s reads =
-    ?
+    (length input ≡ length input₀) × (Within s) × (Buffers bytes numbers) × (Lent out trace counters)
 
 abbrev μ-loop : tie.MeasureT-loop
 μ-loop input₀ bytes₀ numbers₀ out₀ trace₀ counters₀ s₀ reads₀ input bytes numbers out trace counters s reads =
-    ?
+    4000000000 - reads
 
 -- src/main.rt:48:9
 start-requires : tie.Need-start-requires Inv-loop μ-loop

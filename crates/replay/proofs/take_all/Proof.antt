@@ -13,7 +13,7 @@ use Rattle.replay.proofs.take.Reads as take-reads
 
 abbrev Inv-loop : tie.InvT-loop
 Inv-loop text bytes₀ numbers₀ out₀ trace₀ counters₀ s₀ at₀ bytes numbers out trace counters s at =
-    ?
+    (at ≤ length text) × (Within s) × (Buffers bytes numbers) × (Lent out trace counters)
 
 abbrev μ-loop : tie.MeasureT-loop
 μ-loop text bytes₀ numbers₀ out₀ trace₀ counters₀ s₀ at₀ bytes numbers out trace counters s at = length text - at
