@@ -6,6 +6,7 @@ ghost use Rattle.rules.specs.Calls.{checkCall, hardenCall, checkHardenedCall, r
 ghost use Rattle.rules.specs.Promise.{HardenedPromise};
 ghost use Rattle.finuraho.specs.Given.{writes, refusedWith, runs, hardenedRuns};
 
+pub mod export;
 mod number;
 mod run;
 

@@ -1,12 +1,14 @@
 // What a public call answers beside the buffers that it was lent.
 
 // A call that writes a table: the number of 01 and the length of the answer in bytes.
+#[repr(C)]
 pub struct Wrote {
     pub number: u8,
     pub length: usize,
 }
 
 // A run: the number of 01, and what "A run answers outcome, steps, trace length and the variables" names.
+#[repr(C)]
 pub struct Ran {
     pub number: u8,
     pub outcome: u8,

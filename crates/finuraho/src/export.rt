@@ -1,0 +1,63 @@
+// The public calls for callers in C or Rust (include/finuraho.h): a slice is a pointer and then a length. Each promises what the call
+// of its name promises.
+ghost use mathlib.Core.Path.{_≡_};
+ghost use Rattle.rules.specs.Calls.{checkCall, hardenCall, checkHardenedCall, readBackCall, runSourceCall};
+ghost use Rattle.rules.specs.Promise.{HardenedPromise};
+ghost use Rattle.finuraho.specs.Given.{writes, runs, hardenedRuns};
+use rules::answer::Ran;
+use rules::answer::Wrote;
+
+#[no_mangle]
+pub extern "C" fn finuraho_check(rows: &[u8]) -> u8
+    ensures { λ r. ⌜ r ≡ checkCall (now (rows .entry)) ⌝ }
+{
+    crate::check(rows)
+}
+
+#[no_mangle]
+pub extern "C" fn finuraho_harden(rows: &[u8], out: &mut [u8]) -> Wrote
+    ensures { λ r. ⌜ writes r (now (out .exit)) ≡ hardenCall (now (rows .entry)) (now (out .entry)) ⌝ }
+{
+    crate::harden(rows, out)
+}
+
+#[no_mangle]
+pub extern "C" fn finuraho_check_hardened(lines: &[u8]) -> u8
+    ensures { λ r. ⌜ r ≡ checkHardenedCall (now (lines .entry)) ⌝ }
+{
+    crate::check_hardened(lines)
+}
+
+#[no_mangle]
+pub extern "C" fn finuraho_read_back(lines: &[u8], out: &mut [u8]) -> Wrote
+    ensures { λ r. ⌜ writes r (now (out .exit)) ≡ readBackCall (now (lines .entry)) (now (out .entry)) ⌝ }
+{
+    crate::read_back(lines, out)
+}
+
+#[no_mangle]
+pub extern "C" fn finuraho_run_source(
+    rows: &[u8],
+    variables: &[u16; 16],
+    budget: u16,
+    trace: &mut [u16],
+) -> Ran
+    ensures { λ r. ⌜ runs r (now (trace .exit)) ≡ runSourceCall (now (rows .entry)) (now (variables .entry)) budget (now (trace .entry)) ⌝ }
+{
+    crate::run_source(rows, *variables, budget, trace)
+}
+
+#[no_mangle]
+pub extern "C" fn finuraho_run_hardened(
+    lines: &[u8],
+    variables: &[u16; 16],
+    budget: u16,
+    step: u16,
+    place: u16,
+    trace: &mut [u16],
+    counters: &mut [u16],
+) -> Ran
+    ensures { λ r. ⌜ HardenedPromise (now (lines .entry)) (now (variables .entry)) budget step place (now (trace .entry)) (now (counters .entry)) (hardenedRuns r (now (trace .exit)) (now (counters .exit))) ⌝ }
+{
+    crate::run_hardened(lines, *variables, budget, step, place, trace, counters)
+}
