@@ -13,6 +13,7 @@ use crate::guard;
 use crate::machine::Hot;
 use crate::machine::Moved;
 use crate::machine::stay;
+use crate::machine::traced;
 use crate::variables;
 use rules::step::Step;
 
@@ -24,9 +25,8 @@ fn do_line(l: Fields, h: Hot, variables: &mut [u16; 16], trace: &mut [u16]) -> M
     variables::assign(l, variables);
     let k = h.traced as usize;
     trace[k] = l.e;
-    let mut n = h;
-    n.traced = h.traced + 1;
-    stay(Step::Went(h.place + 1), n)
+    let next = h.place + 1;
+    stay(Step::Went(next), traced(h))
 }
 
 fn test_line(l: Fields, h: Hot, variables: &[u16; 16], counters: &mut [u16]) -> Moved

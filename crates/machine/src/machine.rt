@@ -1,7 +1,7 @@
 // What a run keeps from step to step, beside the counters and the trace slots that it is lent.
 ghost use mathlib.Core.Path.{_≡_};
 ghost use Prim.Native.Nat.{_<_};
-ghost use Rattle.machine.specs.Step.{moved, openedOf, closedOf};
+ghost use Rattle.machine.specs.Step.{moved, openedOf, closedOf, tracedOf};
 ghost use Rattle.machine.specs.Run.{stoppedAt};
 ghost use Rattle.machine.specs.Struck.{Begun, machineAt};
 use rules::step::Step;
@@ -61,15 +61,38 @@ pub fn stay(step: Step, hot: Hot) -> Moved
     Moved { step, hot }
 }
 
+// One more do is done. Here and below the numbers are made field by field: a copy that is then changed would keep them in memory, at
+// four times the cost of a step.
+pub fn traced(h: Hot) -> Hot
+    requires { ⌜ h .traced < 65535 ⌝ }
+    ensures { λ r. ⌜ r ≡ tracedOf h ⌝ }
+{
+    Hot {
+        depth: h.depth,
+        function: h.function,
+        place: h.place,
+        last: h.last,
+        steps: h.steps,
+        traced: h.traced + 1,
+    }
+}
+
 // One more function is open, and the run goes on in it.
 pub fn opened(h: Hot, function: u8, go: u16) -> Moved
     requires { ⌜ h .depth < 15 ⌝ }
     ensures { λ r. ⌜ r ≡ openedOf h function go ⌝ }
 {
-    let mut n = h;
-    n.depth = h.depth + 1;
-    n.function = function;
-    stay(Step::Went(go), n)
+    stay(
+        Step::Went(go),
+        Hot {
+            depth: h.depth + 1,
+            function,
+            place: h.place,
+            last: h.last,
+            steps: h.steps,
+            traced: h.traced,
+        },
+    )
 }
 
 // The running function, whose region 0 ended at v, returned to the one that waited last.
@@ -77,11 +100,17 @@ pub fn closed(h: Hot, function: u8, place: u16, v: u16) -> Moved
     requires { ⌜ 0 < h .depth ⌝ }
     ensures { λ r. ⌜ r ≡ closedOf h function place v ⌝ }
 {
-    let mut n = h;
-    n.depth = h.depth - 1;
-    n.function = function;
-    n.last = v;
-    stay(Step::Went(place), n)
+    stay(
+        Step::Went(place),
+        Hot {
+            depth: h.depth - 1,
+            function,
+            place: h.place,
+            last: v,
+            steps: h.steps,
+            traced: h.traced,
+        },
+    )
 }
 
 // The machine that a run starts in: function 0 is open, at line 0.

@@ -19,7 +19,7 @@ use rules::answer::Ran;
 use rules::step::Step;
 
 // The number that 01 has for what a run ended with.
-fn outcome_of(step: Step) -> u8
+pub fn outcome_of(step: Step) -> u8
     ensures { λ r. ⌜ r ≡ outcomeOf step ⌝ }
 {
     match step {

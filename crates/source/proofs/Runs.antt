@@ -20,10 +20,10 @@ use Rattle.layout.specs.Place.{Surveyed}
 use Rattle.machine.specs.declared.machine.Hot.{Hot}
 use Rattle.machine.specs.declared.machine.Machine.{Machine}
 use Rattle.machine.specs.declared.machine.Stopped.{Stopped}
-use Rattle.machine.specs.Run.{hotAt, onward}
+use Rattle.machine.specs.Run.{stoppedAt, hotAt, onward}
 use Rattle.machine.proofs.Agree.{IsEnd}
 use Rattle.source.specs.Step.{Known, CanStep, Parts, After, stepOf}
-use Rattle.source.specs.Run.{stoppedAt, partsIn, stoppedWith, partsAt, stateOf, turnOf, answerOf, runFrom, Going, Kept, Ended, startOf, ranWith}
+use Rattle.source.specs.Run.{partsIn, stoppedWith, partsAt, stateOf, turnOf, answerOf, runFrom, Going, Kept, Ended, startOf, ranWith}
 use Rattle.source.proofs.Rows.{first-inside}
 use Rattle.source.proofs.Steps.{Steps, steps}
 

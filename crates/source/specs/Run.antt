@@ -4,7 +4,6 @@ use mathlib.Core.Path.{_≡_}
 use mathlib.Core.List.{List, [], _∷_}
 use lib.ListN.{length, getD, take, drop, replicate}
 use Rattle.rules.specs.declared.answer.Ran.{Ran}
-use Rattle.rules.specs.declared.step.Step.{Step}
 use Rattle.rules.specs.Limits.{maxOpen}
 use Rattle.rules.specs.Row.{Table}
 use Rattle.rules.specs.State.{Frame, frame}
@@ -12,7 +11,6 @@ use Rattle.rules.specs.Run.{Turn, on, ends, Answer, run}
 use Rattle.rules.specs.Source.{Source, sourceStep}
 use Rattle.rules.specs.Calls.{Running}
 use Rattle.layout.specs.Spot.{Inside}
-use Rattle.machine.specs.declared.machine.Hot.{Hot}
 use Rattle.machine.specs.declared.machine.Machine.{Machine}
 use Rattle.machine.specs.declared.machine.Stopped.{Stopped}
 use Rattle.machine.specs.Run.{hotAt, onward}
@@ -21,9 +19,6 @@ use Rattle.source.specs.Step.{Parts, partsOf, After}
 -- ---- the parts of a machine, with the slots that it is lent
 abbrev pub partsIn : Machine → (slots : List ℕ) → Parts
 partsIn m tr = partsOf (m .hot) (m .places) (m .functions) (m .variables) tr
-
-abbrev pub stoppedAt : Step → (places functions vars : List ℕ) → Hot → Stopped
-stoppedAt o ps fs vs h = record { step = o; machine = record { places = ps; functions = fs; variables = vs; hot = h } }
 
 abbrev pub stoppedWith : Stopped → (slots : List ℕ) → After
 stoppedWith x tr = record { step = x .step; parts = partsIn (x .machine) tr }

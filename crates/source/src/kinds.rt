@@ -12,13 +12,15 @@ ghost use Rattle.layout.specs.Spot.{Opens, Ends, Elses, Heads};
 ghost use Rattle.machine.specs.Fields.{operandsOf};
 ghost use Rattle.machine.specs.Step.{done};
 ghost use Rattle.source.specs.Step.{goesTo, Standing, HasSlot, afterDo, afterIf, afterLoop, afterElse, afterBreak, afterContinue, afterReturn, afterEnd, called, afterCall};
-use crate::numbers;
 use layout::row;
 use layout::spot;
 use machine::fields::Fields;
 use machine::machine::Hot;
 use machine::machine::Moved;
+use machine::machine::closed;
+use machine::machine::opened;
 use machine::machine::stay;
+use machine::machine::traced;
 use machine::variables;
 use rules::step::Step;
 
@@ -74,7 +76,7 @@ pub fn do_row(rows: &[u8], h: Hot, variables: &mut [u16; 16], trace: &mut [u16])
     ensures { λ r. ⌜ done r (now (variables .exit)) (now (trace .exit)) ≡ afterDo (tableOf (now (rows .entry))) h (now (variables .entry)) (now (trace .entry)) ⌝ }
 {
     variables::assign(operands(rows, row::index(h.place)), variables);
-    let n = numbers::traced(h);
+    let n = traced(h);
     let k = row::index(h.traced);
     trace[k] = h.place;
     next_row(n)
@@ -146,7 +148,7 @@ fn returned(h: Hot, places: &[u16; 16], functions: &[u8; 16]) -> Moved
 {
     if 0 < h.depth {
         let k = row::index(h.depth - 1);
-        return numbers::closed(h, functions[k], places[k]);
+        return closed(h, functions[k], places[k], 0);
     }
     stay(Step::Finished, h)
 }
@@ -189,5 +191,5 @@ pub fn call_row(
     let d = row::index(h.depth);
     places[d] = h.place + 1;
     functions[d] = h.function;
-    numbers::opened(h, f.n as u8, (o + 1) as u16)
+    opened(h, f.n as u8, (o + 1) as u16)
 }

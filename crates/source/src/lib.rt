@@ -6,33 +6,18 @@ ghost use Rattle.rules.specs.declared.refusal.Verdict.the-variants.{Accepted};
 ghost use Rattle.rules.specs.Row.{tableOf};
 ghost use Rattle.rules.specs.Check.{verdictOf};
 ghost use Rattle.rules.specs.Links.{Links};
-ghost use Rattle.rules.specs.Run.{outcomeOf};
 ghost use Rattle.rules.specs.Source.{sourceRun};
 ghost use Rattle.rules.specs.Calls.{running};
 ghost use Rattle.source.specs.Run.{startOf, ranWith};
 use layout::place;
 use machine::machine::Hot;
 use machine::machine::Machine;
+use machine::table::outcome_of;
 use rules::answer::Ran;
-use rules::step::Step;
 
 pub mod kinds;
-pub mod numbers;
 pub mod run;
 pub mod step;
-
-// The number of what a run ends with.
-fn outcome_of(s: Step) -> u8
-    ensures { λ r. ⌜ r ≡ outcomeOf s ⌝ }
-{
-    match s {
-        Step::Went(_) => 0,
-        Step::Finished => 1,
-        Step::Alarm => 2,
-        Step::TooManyOpen(_) => 3,
-        Step::Beyond(_) => 4,
-    }
-}
 
 // Function 0 before the row after row 0, with these variables.
 fn start(variables: [u16; 16]) -> Machine

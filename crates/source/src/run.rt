@@ -2,31 +2,12 @@
 ghost use mathlib.Core.Path.{_≡_};
 ghost use Rattle.rules.specs.Row.{tableOf};
 ghost use Rattle.source.specs.Step.{Known};
-ghost use Rattle.source.specs.Run.{stoppedAt, partsIn, stoppedWith, Going, Ended};
+ghost use Rattle.source.specs.Run.{partsIn, stoppedWith, Going, Ended};
 use crate::step;
-use machine::machine::Hot;
 use machine::machine::Machine;
 use machine::machine::Stopped;
+use machine::machine::at_end;
 use rules::step::Step;
-
-// The machine put together where a run stops.
-fn at_end(
-    step: Step,
-    places: [u16; 16],
-    functions: [u8; 16],
-    variables: [u16; 16],
-    hot: Hot,
-) -> Stopped
-    ensures { λ r. ⌜ r ≡ stoppedAt step places functions variables hot ⌝ }
-{
-    let machine = Machine {
-        places,
-        functions,
-        variables,
-        hot,
-    };
-    Stopped { step, machine }
-}
 
 // Takes the machine apart, so that its numbers stay in registers, and puts it together where it stops.
 pub fn run_rows(

@@ -6,7 +6,7 @@ use Rattle.source.proofs.run_linked.Tie as tie
 use Rattle.source.proofs.run_linked.Reads as reads
 use Rattle.source.proofs.run_linked.Lts as lts
 use Rattle.layout.proofs.place.survey.Reads as survey-reads
-use Rattle.source.proofs.outcome_of.Reads as outcome-of-reads
+use Rattle.machine.proofs.table.outcome_of.Reads as outcome-of-reads
 use Rattle.source.proofs.run.run_rows.Reads as run-rows-reads
 use Rattle.source.proofs.start.Reads as start-reads
 

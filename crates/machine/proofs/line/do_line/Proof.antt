@@ -5,6 +5,7 @@ use Rattle.machine.proofs.line.do_line.Tie as tie
 use Rattle.machine.proofs.line.do_line.Reads as reads
 use Rattle.machine.proofs.line.do_line.Lts as lts
 use Rattle.machine.proofs.machine.stay.Reads as stay-reads
+use Rattle.machine.proofs.machine.traced.Reads as traced-reads
 use Rattle.machine.proofs.variables.assign.Reads as assign-reads
 
 -- src/line.rt:23:5
@@ -23,13 +24,13 @@ mul-trace c = search needs
 slice-write-trace : tie.Need-slice-write-trace
 slice-write-trace c = search needs
 
--- src/line.rt:27:16
-add-n : tie.Need-add-n
-add-n c = search needs
+-- src/line.rt:28:30
+add-next : tie.Need-add-next
+add-next c = search needs
 
 -- src/line.rt:28:30
-add-t11 : tie.Need-add-t11
-add-t11 c = search needs
+traced-requires : tie.Need-traced-requires
+traced-requires c κs = search needs
 
 -- src/line.rt:28:5
 stay-requires : tie.Need-stay-requires
@@ -42,7 +43,7 @@ same-length c = search needs
 -- src/line.rt:19:1
 returns : tie.Need-returns
 unfolding doOf
-returns c = rw (c .stay .ensures, c .before .before .before .before .assign .ensures)
+returns c = rw (c .stay .ensures, c .before .traced .ensures, c .before .before .before .before .assign .ensures)
 
 pub do-line-spec : {M : Type 1} → statement M
 do-line-spec =
@@ -52,8 +53,8 @@ do-line-spec =
     cast-k
     mul-trace
     slice-write-trace
-    add-n
-    add-t11
+    add-next
+    traced-requires
     stay-requires
     same-length
     returns)

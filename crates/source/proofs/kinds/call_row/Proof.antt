@@ -11,7 +11,7 @@ use Rattle.source.proofs.kinds.call_row.Lts as lts
 use Rattle.layout.proofs.row.fields_of.Reads as fields-of-reads
 use Rattle.layout.proofs.row.index.Reads as index-reads
 use Rattle.layout.proofs.spot.callee_of.Reads as callee-of-reads
-use Rattle.source.proofs.numbers.opened.Reads as opened-reads
+use Rattle.machine.proofs.machine.opened.Reads as opened-reads
 use Rattle.machine.proofs.machine.stay.Reads as stay-reads
 
 -- src/kinds.rt:185:14

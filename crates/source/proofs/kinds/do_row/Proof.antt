@@ -12,7 +12,7 @@ use Rattle.layout.proofs.row.index.Reads as index-reads
 use Rattle.machine.proofs.variables.assign.Reads as assign-reads
 use Rattle.source.proofs.kinds.next_row.Reads as next-row-reads
 use Rattle.source.proofs.kinds.operands.Reads as operands-reads
-use Rattle.source.proofs.numbers.traced.Reads as traced-reads
+use Rattle.machine.proofs.machine.traced.Reads as traced-reads
 
 -- src/kinds.rt:90:38
 index-requires : tie.Need-index-requires

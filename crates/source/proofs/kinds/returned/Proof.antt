@@ -5,7 +5,7 @@ use Rattle.source.proofs.kinds.returned.Tie as tie
 use Rattle.source.proofs.kinds.returned.Reads as reads
 use Rattle.source.proofs.kinds.returned.Lts as lts
 use Rattle.layout.proofs.row.index.Reads as index-reads
-use Rattle.source.proofs.numbers.closed.Reads as closed-reads
+use Rattle.machine.proofs.machine.closed.Reads as closed-reads
 use Rattle.machine.proofs.machine.stay.Reads as stay-reads
 
 -- src/kinds.rt:145:28

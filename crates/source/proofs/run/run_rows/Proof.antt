@@ -8,7 +8,7 @@ use Rattle.source.proofs.run.run_rows.Statement.{statement}
 use Rattle.source.proofs.run.run_rows.Tie as tie
 use Rattle.source.proofs.run.run_rows.Reads as reads
 use Rattle.source.proofs.run.run_rows.Lts as lts
-use Rattle.source.proofs.run.at_end.Reads as at-end-reads
+use Rattle.machine.proofs.machine.at_end.Reads as at-end-reads
 use Rattle.source.proofs.step.row.Reads as row-reads
 
 abbrev Inv-loop : tie.InvT-loop
