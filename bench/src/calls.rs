@@ -71,7 +71,7 @@ impl Calls for Baseline {
     }
 
     fn check(&self, rows: &[u8]) -> u8 {
-        number(Shape::new().read(rows))
+        number(Shape::read(rows).map(|_| ()))
     }
 
     fn harden(&self, rows: &[u8], out: &mut [u8]) -> Wrote {

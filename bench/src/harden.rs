@@ -17,12 +17,12 @@ pub const RET: u8 = 0x28;
 
 pub type LineBytes = [u8; LINE_BYTES];
 
-/// A line's fields in their order, without the zero byte.
+/// A line's fields, without the zero byte.
 #[derive(Clone, Copy, Default)]
 struct Line {
     kind: u8,
-    /// op, p, q and n as they stand in the row
-    copied: [u8; 5],
+    /// op, p, q and n where they stand in a line
+    copied: u64,
     r: u8,
     s: u8,
     t: u8,
@@ -33,22 +33,54 @@ struct Line {
     go: u16,
 }
 
+/// A line's twenty bytes, first bytes lowest. Three numbers are written and compared at once,
+/// where an array would go through memory in small pieces.
+#[derive(Clone, Copy, PartialEq, Eq)]
+pub struct Packed(u64, u64, u32);
+
+impl Packed {
+    #[inline]
+    fn of_bytes(line: &LineBytes) -> Packed {
+        let [b0, b1, b2, b3, b4, b5, b6, b7, c0, c1, c2, c3, c4, c5, c6, c7, d0, d1, d2, d3] =
+            *line;
+        Packed(
+            u64::from_le_bytes([b0, b1, b2, b3, b4, b5, b6, b7]),
+            u64::from_le_bytes([c0, c1, c2, c3, c4, c5, c6, c7]),
+            u32::from_le_bytes([d0, d1, d2, d3]),
+        )
+    }
+
+    #[inline]
+    fn write(self, out: &mut LineBytes) {
+        out[..8].copy_from_slice(&self.0.to_le_bytes());
+        out[8..16].copy_from_slice(&self.1.to_le_bytes());
+        out[16..].copy_from_slice(&self.2.to_le_bytes());
+    }
+
+    /// Whether these are the bytes of a line; no branch, so that a whole table takes one.
+    #[inline]
+    pub fn is(self, line: &LineBytes) -> bool {
+        let other = Packed::of_bytes(line);
+        (self.0 ^ other.0) | (self.1 ^ other.1) | u64::from(self.2 ^ other.2) == 0
+    }
+}
+
 impl Line {
     #[inline]
-    fn bytes(&self) -> LineBytes {
-        let [op, p, q, low, high] = self.copied;
-        let [e, a, b, c, go] = [self.e, self.a, self.b, self.c, self.go].map(u16::to_le_bytes);
-        let (kind, r, s, t) = (self.kind, self.r, self.s, self.t);
-        [
-            kind, op, p, q, low, high, r, s, t, 0, e[0], e[1], a[0], a[1], b[0], b[1], c[0], c[1],
-            go[0], go[1],
-        ]
+    fn packed(&self) -> Packed {
+        let byte = |byte: u8, at: u32| u64::from(byte) << (8 * at);
+        let word = |word: u16, at: u32| u64::from(word) << (8 * at);
+        Packed(
+            byte(self.kind, 0) | self.copied | byte(self.r, 6) | byte(self.s, 7),
+            byte(self.t, 0) | word(self.e, 2) | word(self.a, 4) | word(self.b, 6),
+            u32::from(self.c) | u32::from(self.go) << 16,
+        )
     }
 }
 
 /// Takes the lines in order: hardening writes them, reading back compares them.
 pub trait Sink {
-    fn put(&mut self, line: LineBytes);
+    fn put(&mut self, line: Packed);
 }
 
 struct Writer<'a> {
@@ -57,24 +89,23 @@ struct Writer<'a> {
 
 impl Sink for Writer<'_> {
     #[inline]
-    fn put(&mut self, line: LineBytes) {
-        *self.out.next().expect("the output was found long enough") = line;
+    fn put(&mut self, line: Packed) {
+        line.write(self.out.next().expect("the output was found long enough"));
     }
 }
 
 /// Hardens a table into `out` and answers how many bytes it wrote.
 pub fn harden(rows: &[u8], out: &mut [u8]) -> Result<usize, Refusal> {
-    let mut shape = Shape::new();
-    shape.read(rows)?;
+    let shape = Shape::read(rows)?;
     let length = usize::from(shape.lines) * LINE_BYTES;
     let out = out.get_mut(..length).ok_or(Refusal::OutputShort)?;
     let (out, _) = out.as_chunks_mut::<LINE_BYTES>();
-    lines(rows, &mut shape, &mut Writer { out: out.iter_mut() });
+    lines(rows, &shape, &mut Writer { out: out.iter_mut() });
     Ok(length)
 }
 
 /// Gives the lines of a table that was read into this shape.
-pub fn lines(rows: &[u8], shape: &mut Shape, sink: &mut impl Sink) {
+pub fn lines(rows: &[u8], shape: &Shape, sink: &mut impl Sink) {
     let (rows, _) = rows.as_chunks::<ROW_BYTES>();
     let bases = bases(shape);
     let mut hardening = Hardening { rows, shape, bases: &bases, first: 0, sink };
@@ -84,20 +115,19 @@ pub fn lines(rows: &[u8], shape: &mut Shape, sink: &mut impl Sink) {
 }
 
 /// The first value of each region.
-fn bases(shape: &Shape) -> [u16; MOST_ROWS] {
-    let mut bases = [0; MOST_ROWS];
+fn bases(shape: &Shape) -> Vec<u16> {
     let mut next = 1;
-    for (base, size) in bases.iter_mut().zip(&shape.sizes[..shape.regions]) {
-        *base = next;
+    let base = |size: &u16| {
         next += size;
-    }
-    bases
+        next - size
+    };
+    shape.sizes.iter().map(base).collect()
 }
 
 struct Hardening<'a, S> {
     rows: &'a [Row],
     shape: &'a Shape,
-    bases: &'a [u16; MOST_ROWS],
+    bases: &'a [u16],
     /// The body's region of the function being written: lines number regions from it.
     first: u16,
     sink: &'a mut S,
@@ -154,7 +184,7 @@ impl<S: Sink> Hardening<'_, S> {
 
     #[inline]
     fn put(&mut self, line: Line) {
-        self.sink.put(line.bytes());
+        self.sink.put(line.packed());
     }
 
     #[inline]
@@ -256,6 +286,8 @@ impl<S: Sink> Hardening<'_, S> {
     }
 }
 
-fn copied(row: &Row) -> [u8; 5] {
-    [row[1], row[2], row[3], row[4], row[5]]
+/// op, p, q and n stand where they stand in a row.
+#[inline]
+fn copied(row: &Row) -> u64 {
+    u64::from_le_bytes([0, row[1], row[2], row[3], row[4], row[5], 0, 0])
 }

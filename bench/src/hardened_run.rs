@@ -27,24 +27,29 @@ pub fn run(
     let (lines, _) = bytes.as_chunks::<LINE_BYTES>();
     let (counters, _) = words.as_chunks_mut::<COUNTERS>();
     let v = start.variables;
-    let back = [0; MOST_FUNCTIONS_OPEN];
-    let mut run =
-        Run { lines, trace, counters, v, back, at: 0, open: 0, returned: 0, steps: 0, traced: 0 };
-    let outcome = run.whole(start);
-    let (steps, traced, variables) = (run.steps, run.traced as u16, run.v);
+    let mut memory = Memory { lines, trace, counters, v, back: [0; MOST_FUNCTIONS_OPEN] };
+    let mut now = Registers { at: 0, open: 0, returned: 0, steps: 0, traced: 0 };
+    let outcome = memory.whole(&mut now, start);
+    let variables = memory.v;
     words.fill(0);
-    Ok(Ran { number: 0, outcome, steps, traced, variables })
+    Ok(Ran { number: 0, outcome, steps: now.steps, traced: now.traced as u16, variables })
 }
 
-struct Run<'a> {
+/// What a run looks up by a number that it reads.
+struct Memory<'a> {
     lines: &'a [LineBytes],
     trace: &'a mut [u16],
     counters: &'a mut [[u16; COUNTERS]],
     v: Variables,
     /// Where each function that waits goes on.
-    back: [u16; MOST_FUNCTIONS_OPEN],
+    back: [usize; MOST_FUNCTIONS_OPEN],
+}
+
+/// The rest, apart from it so that it can stay in registers.
+#[derive(Clone, Copy)]
+struct Registers {
     /// The line that comes next. Place m is never kept here: a return from there is done at once.
-    at: u16,
+    at: usize,
     /// Open functions besides the first.
     open: usize,
     /// The body's counter of the function that returned last.
@@ -73,66 +78,75 @@ fn c(line: &LineBytes) -> u16 {
     word(line, 16)
 }
 
-fn go(line: &LineBytes) -> u16 {
-    word(line, 18)
+fn go(line: &LineBytes) -> usize {
+    usize::from(word(line, 18))
 }
 
 /// A step's end: where it goes on, or the outcome.
-type Next = Result<u16, u8>;
+type Next = Result<usize, u8>;
 
-impl Run<'_> {
+impl Memory<'_> {
     /// The steps before the jump, the jump, and the steps after it.
-    fn whole(&mut self, start: &Start) -> u8 {
+    fn whole(&mut self, now: &mut Registers, start: &Start) -> u8 {
         if start.step < start.budget && start.step != NO_JUMP {
-            let ended = self.until(start.step).and_then(|()| self.strike(start.place));
+            let ended = self.until(now, start.step).and_then(|()| self.strike(now, start.place));
             if let Err(outcome) = ended {
                 return outcome;
             }
         }
-        self.until(start.budget).map_or_else(|outcome| outcome, |()| SPENT)
+        self.until(now, start.budget).map_or_else(|outcome| outcome, |()| SPENT)
     }
 
     /// The jump. A return from place m is that step.
-    fn strike(&mut self, place: u16) -> Result<(), u8> {
-        let at = usize::from(self.at);
+    fn strike(&mut self, now: &mut Registers, place: u16) -> Result<(), u8> {
+        let place = usize::from(place);
         let is_ret = |line: &LineBytes| line[0] == harden::RET;
-        let first = self.lines[..at].iter().rposition(is_ret).map_or(0, |ret| ret + 1);
-        let ret = at + self.lines[at..].iter().position(is_ret).expect("a function has a ret");
+        let first = self.lines[..now.at].iter().rposition(is_ret).map_or(0, |ret| ret + 1);
+        let rest = self.lines[now.at..].iter().position(is_ret);
+        let ret = now.at + rest.expect("a function has a ret");
         let m = ret + 1 - first;
-        if usize::from(place) > m {
+        if place > m {
             return Err(PLACE_BEYOND);
         }
-        if usize::from(place) < m {
-            self.at = first as u16 + place;
+        if place < m {
+            now.at = first + place;
             return Ok(());
         }
-        self.steps += 1;
-        let last = a(&self.lines[ret]);
-        if self.open == 0 {
+        now.steps += 1;
+        if now.open == 0 {
             // the host's comparison
-            return Err(if self.counters[0][0] == last { FINISHED } else { ALARM });
+            return Err(if self.counters[0][0] == a(&self.lines[ret]) { FINISHED } else { ALARM });
         }
-        self.at = self.back()?;
+        now.at = self.give_back(now)?;
         Ok(())
     }
 
-    fn until(&mut self, budget: u16) -> Result<(), u8> {
-        while self.steps < budget {
-            self.steps += 1;
-            let line = &self.lines[usize::from(self.at)];
-            self.at = self.step(line)?;
+    fn until(&mut self, registers: &mut Registers, budget: u16) -> Result<(), u8> {
+        let mut now = *registers;
+        let mut ended = Ok(());
+        while now.steps < budget {
+            now.steps += 1;
+            let line = &self.lines[now.at];
+            match self.step(&mut now, line) {
+                Ok(next) => now.at = next,
+                Err(outcome) => {
+                    ended = Err(outcome);
+                    break;
+                }
+            }
         }
-        Ok(())
+        *registers = now;
+        ended
     }
 
-    #[inline]
-    fn step(&mut self, line: &LineBytes) -> Next {
+    #[inline(always)]
+    fn step(&mut self, now: &mut Registers, line: &LineBytes) -> Next {
         if line[0] == harden::DO {
-            return self.do_line(line);
+            return self.do_line(now, line);
         }
-        let next = self.at + 1;
-        let counters = &mut self.counters[self.open];
-        let (r, s, t) = (region(line[6]), region(line[7]), region(line[8]));
+        let next = now.at + 1;
+        let counters = &mut self.counters[now.open];
+        let r = region(line[6]);
         if counters[r] != e(line) {
             return Err(ALARM);
         }
@@ -140,36 +154,29 @@ impl Run<'_> {
         match line[0] {
             harden::TICK => Ok(next),
             harden::TEST if holds(line, &self.v) => {
-                counters[s] = b(line);
+                counters[region(line[7])] = b(line);
                 Ok(next)
             }
             harden::TEST => {
-                counters[t] = c(line);
+                counters[region(line[8])] = c(line);
                 Ok(go(line))
             }
-            harden::LEAVE => {
-                counters[r] = 0;
-                if counters[s] != b(line) {
-                    return Err(ALARM);
-                }
-                counters[s] = a(line);
-                Ok(go(line))
-            }
+            harden::LEAVE => leave(counters, line),
             harden::OUT => {
-                counters[t..=r].fill(0);
-                counters[s] = a(line);
+                counters[region(line[8])..=r].fill(0);
+                counters[region(line[7])] = a(line);
                 Ok(go(line))
             }
-            harden::CALL => self.call(line),
-            harden::BACK if self.returned != b(line) => Err(ALARM),
+            harden::CALL => self.call(now, line),
+            harden::BACK if now.returned != b(line) => Err(ALARM),
             harden::BACK => Ok(next),
-            _ if self.open == 0 => Err(FINISHED),
-            _ => self.back(),
+            _ if now.open == 0 => Err(FINISHED),
+            _ => self.give_back(now),
         }
     }
 
-    #[inline]
-    fn do_line(&mut self, line: &LineBytes) -> Next {
+    #[inline(always)]
+    fn do_line(&mut self, now: &mut Registers, line: &LineBytes) -> Next {
         let v = &mut self.v;
         let (p, q) = (variable(line[2]), variable(line[3]));
         v[p] = match line[1] {
@@ -178,28 +185,39 @@ impl Run<'_> {
             2 => v[p].wrapping_add(v[q]),
             _ => v[p].wrapping_sub(v[q]),
         };
-        self.trace[self.traced] = e(line);
-        self.traced += 1;
-        Ok(self.at + 1)
+        self.trace[now.traced] = e(line);
+        now.traced += 1;
+        Ok(now.at + 1)
     }
 
-    #[inline]
-    fn call(&mut self, line: &LineBytes) -> Next {
-        self.back[self.open] = self.at + 1;
-        self.open += 1;
-        // the counter that the call moved belongs to a run that is over here
-        let counters = self.counters.get_mut(self.open).ok_or(TOO_MANY_OPEN)?;
+    #[inline(always)]
+    fn call(&mut self, now: &mut Registers, line: &LineBytes) -> Next {
+        // a call that is not made has moved its counter, but that run is over
+        let counters = self.counters.get_mut(now.open + 1).ok_or(TOO_MANY_OPEN)?;
         *counters = [0; COUNTERS];
         counters[0] = b(line);
+        self.back[now.open] = now.at + 1;
+        now.open += 1;
         Ok(go(line))
     }
 
-    #[inline]
-    fn back(&mut self) -> Next {
-        self.returned = self.counters[self.open][0];
-        self.open -= 1;
-        Ok(self.back[self.open])
+    #[inline(always)]
+    fn give_back(&self, now: &mut Registers) -> Next {
+        now.returned = self.counters[now.open][0];
+        now.open -= 1;
+        Ok(self.back[now.open])
     }
+}
+
+#[inline(always)]
+fn leave(counters: &mut [u16; COUNTERS], line: &LineBytes) -> Next {
+    let (r, s) = (region(line[6]), region(line[7]));
+    counters[r] = 0;
+    if counters[s] != b(line) {
+        return Err(ALARM);
+    }
+    counters[s] = a(line);
+    Ok(go(line))
 }
 
 /// A region number is below 64 and a variable's below 16: saying so spares the bounds checks.

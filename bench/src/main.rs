@@ -31,8 +31,10 @@ fn main() {
     } else {
         println!("the proved library is not linked: the baseline alone, nothing compared");
     }
-    let names: Vec<&str> = implementations.iter().map(|calls| calls.name()).collect();
-    print_row("nanoseconds", &names.iter().map(|name| name.to_string()).collect::<Vec<_>>());
+    let names = implementations.iter().map(|calls| calls.name());
+    let ratio = (implementations.len() == 2).then_some("ratio");
+    let heads: Vec<String> = names.chain(ratio).map(str::to_string).collect();
+    print_row("nanoseconds, medians", &heads);
     for (name, rows) in [("mostly dos", programs::mostly_dos()), ("nested", programs::nested())] {
         time_table(&implementations, name, &rows);
     }

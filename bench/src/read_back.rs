@@ -1,23 +1,22 @@
 //! Reads a hardened table back: guesses the only table that can have lines of these kinds in this
 //! order, hardens the guess, and compares each line as it comes.
 
-use crate::harden::{self, LineBytes, Sink, LINE_BYTES, MOST_LINES};
-use crate::table::{self, Refusal, Row, Shape, MOST_ROWS, ROW_BYTES};
+use crate::harden::{self, LineBytes, Packed, Sink, LINE_BYTES, MOST_LINES};
+use crate::table::{self, Refusal, Row, Shape, MOST_ROWS};
 
 /// An else part's, a then part's or a loop body's test; 16 may be open.
 const MOST_OPEN: usize = 16;
 
 const NO_FUNCTION: u8 = 255;
 
-/// A table, at the front of its array.
+/// A table.
 pub struct Source {
-    rows: [Row; MOST_ROWS],
-    count: usize,
+    rows: Vec<Row>,
 }
 
 impl Source {
     pub fn bytes(&self) -> &[u8] {
-        self.rows[..self.count].as_flattened()
+        self.rows.as_flattened()
     }
 }
 
@@ -36,13 +35,12 @@ pub fn source_of(bytes: &[u8]) -> Result<Source, Refusal> {
         return Err(Refusal::NotHardened);
     }
     let source = guess(lines).ok_or(Refusal::NotHardened)?;
-    let mut shape = Shape::new();
-    shape.read(source.bytes()).map_err(|_| Refusal::NotHardened)?;
+    let shape = Shape::read(source.bytes()).map_err(|_| Refusal::NotHardened)?;
     if usize::from(shape.lines) != lines.len() {
         return Err(Refusal::NotHardened);
     }
     let mut comparer = Comparer { lines: lines.iter(), same: true };
-    harden::lines(source.bytes(), &mut shape, &mut comparer);
+    harden::lines(source.bytes(), &shape, &mut comparer);
     if comparer.same {
         Ok(source)
     } else {
@@ -57,8 +55,8 @@ struct Comparer<'a> {
 
 impl Sink for Comparer<'_> {
     #[inline]
-    fn put(&mut self, line: LineBytes) {
-        self.same &= self.lines.next() == Some(&line);
+    fn put(&mut self, line: Packed) {
+        self.same &= self.lines.next().is_some_and(|other| line.is(other));
     }
 }
 
@@ -75,24 +73,22 @@ struct Guess {
     stack: [Open; MOST_OPEN],
     depth: usize,
     /// The number of the function that begins at a line.
-    starts: [u8; MOST_LINES + 1],
+    starts: Vec<u8>,
     functions: u8,
     /// The rows of the calls, which name lines until all functions are known.
-    calls: [u16; MOST_ROWS],
-    called: usize,
+    calls: Vec<u16>,
 }
 
 /// What the kinds and targets of the lines say. Where no table fits them the answer is none, or
 /// some table that the comparison will tell apart.
 fn guess(lines: &[LineBytes]) -> Option<Source> {
     let mut guess = Guess {
-        source: Source { rows: [[0; ROW_BYTES]; MOST_ROWS], count: 0 },
+        source: Source { rows: Vec::with_capacity(MOST_ROWS) },
         stack: [Open::default(); MOST_OPEN],
         depth: 0,
-        starts: [NO_FUNCTION; MOST_LINES + 1],
+        starts: vec![NO_FUNCTION; lines.len()],
         functions: 0,
-        calls: [0; MOST_ROWS],
-        called: 0,
+        calls: Vec::new(),
     };
     let mut at = 0;
     let mut inside = false;
@@ -114,8 +110,10 @@ fn go_of(line: &LineBytes) -> u16 {
 impl Guess {
     #[inline]
     fn put(&mut self, row: Row) -> Option<()> {
-        *self.source.rows.get_mut(self.source.count)? = row;
-        self.source.count += 1;
+        if self.source.rows.len() == MOST_ROWS {
+            return None;
+        }
+        self.source.rows.push(row);
         Some(())
     }
 
@@ -154,14 +152,13 @@ impl Guess {
 
     #[inline]
     fn call(&mut self, line: &LineBytes) -> Option<()> {
-        *self.calls.get_mut(self.called)? = self.source.count as u16;
-        self.called += 1;
+        self.calls.push(self.source.rows.len() as u16);
         self.put([table::CALL, 0, 0, 0, line[18], line[19]])
     }
 
     #[inline]
     fn test(&mut self, at: usize, row: Row) -> Option<()> {
-        let open = Open { row: self.source.count as u16, line: at as u16, in_else: false };
+        let open = Open { row: self.source.rows.len() as u16, line: at as u16, in_else: false };
         *self.stack.get_mut(self.depth)? = open;
         self.depth += 1;
         self.put(row)
@@ -186,7 +183,7 @@ impl Guess {
     }
 
     fn name_calls(&mut self) -> Option<()> {
-        for row in &self.calls[..self.called] {
+        for row in &self.calls {
             let row = &mut self.source.rows[usize::from(*row)];
             let function = *self.starts.get(usize::from(table::n_of(row)))?;
             // the number that stands for no function is past the last one, and gets refused

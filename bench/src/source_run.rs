@@ -2,7 +2,7 @@
 //! that a step is one load and one branch over ten cases.
 
 use crate::calls::{Ran, Start};
-use crate::table::{self, n_of, Refusal, Row, Shape, MOST_ROWS, ROW_BYTES};
+use crate::table::{self, n_of, Refusal, Row, Shape, ROW_BYTES};
 
 pub const SPENT: u8 = 0;
 pub const FINISHED: u8 = 1;
@@ -36,29 +36,29 @@ struct Instruction {
 
 /// Checks the table and runs it.
 pub fn run(rows: &[u8], start: &Start, trace: &mut [u16]) -> Result<Ran, Refusal> {
-    let mut shape = Shape::new();
-    shape.read(rows)?;
+    let shape = Shape::read(rows)?;
     let trace = trace.get_mut(..usize::from(start.budget)).ok_or(Refusal::BuffersShort)?;
     let (rows, _) = rows.as_chunks::<ROW_BYTES>();
-    let nothing = Instruction { code: Code::Return, p: 0, q: 0, n: 0, go: 0 };
-    let mut program = [nothing; MOST_ROWS];
-    for (at, (instruction, row)) in program.iter_mut().zip(rows).enumerate() {
-        *instruction = decode(rows, &shape, at, row);
-    }
+    let program: Vec<Instruction> =
+        rows.iter().enumerate().map(|(at, row)| decode(rows, &shape, at, row)).collect();
     Ok(steps(&program, start, trace))
 }
 
+#[inline]
 fn decode(rows: &[Row], shape: &Shape, at: usize, row: &Row) -> Instruction {
     let link = shape.places[at].link;
-    let (code, go) = match row[0] {
-        table::DO => ([Code::Set, Code::Copy, Code::Add, Code::Subtract][usize::from(row[1])], 0),
-        table::IF | table::LOOP => {
-            ([Code::Equal, Code::Differs, Code::Less][usize::from(row[1])], link + 1)
-        }
-        table::ELSE => (Code::Go, link + 1),
-        table::BREAK => (Code::Go, shape.places[usize::from(link)].link + 1),
-        table::CONTINUE => (Code::Go, link),
-        table::CALL => (Code::Call, shape.heads[usize::from(n_of(row))] + 1),
+    let (code, go) = match (row[0], row[1]) {
+        (table::DO, 0) => (Code::Set, 0),
+        (table::DO, 1) => (Code::Copy, 0),
+        (table::DO, 2) => (Code::Add, 0),
+        (table::DO, _) => (Code::Subtract, 0),
+        (table::IF | table::LOOP, 0) => (Code::Equal, link + 1),
+        (table::IF | table::LOOP, 1) => (Code::Differs, link + 1),
+        (table::IF | table::LOOP, _) => (Code::Less, link + 1),
+        (table::ELSE, _) => (Code::Go, link + 1),
+        (table::BREAK, _) => (Code::Go, shape.places[usize::from(link)].link + 1),
+        (table::CONTINUE, _) => (Code::Go, link),
+        (table::CALL, _) => (Code::Call, shape.heads[usize::from(n_of(row))] + 1),
         _ => match rows[usize::from(link)][0] {
             table::LOOP => (Code::Go, link),
             table::IF => (Code::Go, at as u16 + 1),
@@ -68,48 +68,71 @@ fn decode(rows: &[Row], shape: &Shape, at: usize, row: &Row) -> Instruction {
     Instruction { code, p: row[2], q: row[3], n: n_of(row), go }
 }
 
-fn steps(program: &[Instruction; MOST_ROWS], start: &Start, trace: &mut [u16]) -> Ran {
-    let mut v = start.variables;
-    let mut back = [0; MOST_FUNCTIONS_OPEN];
-    let (mut at, mut open, mut steps, mut traced) = (1_u16, 0, 0, 0);
-    let outcome = loop {
-        if steps == start.budget {
-            break SPENT;
+/// Where the functions that wait go on.
+struct Waiting {
+    back: [usize; MOST_FUNCTIONS_OPEN],
+    open: usize,
+}
+
+impl Waiting {
+    #[inline(always)]
+    fn call(&mut self, back: usize, go: usize) -> Result<usize, u8> {
+        if self.open + 1 == MOST_FUNCTIONS_OPEN {
+            return Err(TOO_MANY_OPEN);
         }
+        self.back[self.open] = back;
+        self.open += 1;
+        Ok(go)
+    }
+
+    #[inline(always)]
+    fn give_back(&mut self) -> Result<usize, u8> {
+        self.open = self.open.checked_sub(1).ok_or(FINISHED)?;
+        Ok(self.back[self.open])
+    }
+}
+
+fn steps(program: &[Instruction], start: &Start, trace: &mut [u16]) -> Ran {
+    let mut v = start.variables;
+    let mut waiting = Waiting { back: [0; MOST_FUNCTIONS_OPEN], open: 0 };
+    let (mut at, mut steps, mut traced) = (1, 0, 0);
+    let mut outcome = SPENT;
+    while steps < start.budget {
         steps += 1;
-        // a row number is below 1,024 and a variable's below 16: saying so spares the bounds checks
-        let i = &program[usize::from(at) % MOST_ROWS];
-        let (p, q) = (usize::from(i.p) % 16, usize::from(i.q) % 16);
-        let truth = match i.code {
+        let i = &program[at];
+        // a variable's number is below 16: saying so spares the bounds check
+        let (p, q, go) = (usize::from(i.p) % 16, usize::from(i.q) % 16, usize::from(i.go));
+        let next = match i.code {
+            Code::Equal => Ok(if v[p] == i.n { at + 1 } else { go }),
+            Code::Differs => Ok(if v[p] != i.n { at + 1 } else { go }),
+            Code::Less => Ok(if v[p] < v[q] { at + 1 } else { go }),
+            Code::Go => Ok(go),
+            Code::Call => waiting.call(at + 1, go),
+            Code::Return => waiting.give_back(),
             Code::Set | Code::Copy | Code::Add | Code::Subtract => {
-                v[p] = match i.code {
-                    Code::Set => i.n,
-                    Code::Copy => v[q],
-                    Code::Add => v[p].wrapping_add(v[q]),
-                    _ => v[p].wrapping_sub(v[q]),
-                };
-                trace[traced] = at;
+                v[p] = done(i.code, i.n, v[p], v[q]);
+                trace[traced] = at as u16;
                 traced += 1;
-                true
-            }
-            Code::Equal => v[p] == i.n,
-            Code::Differs => v[p] != i.n,
-            Code::Less => v[p] < v[q],
-            Code::Go => false,
-            Code::Call if open + 1 == MOST_FUNCTIONS_OPEN => break TOO_MANY_OPEN,
-            Code::Call => {
-                back[open] = at + 1;
-                open += 1;
-                false
-            }
-            Code::Return if open == 0 => break FINISHED,
-            Code::Return => {
-                open -= 1;
-                at = back[open];
-                continue;
+                Ok(at + 1)
             }
         };
-        at = if truth { at + 1 } else { i.go };
-    };
+        match next {
+            Ok(next) => at = next,
+            Err(ended) => {
+                outcome = ended;
+                break;
+            }
+        }
+    }
     Ran { number: 0, outcome, steps, traced: traced as u16, variables: v }
+}
+
+#[inline(always)]
+fn done(code: Code, n: u16, p: u16, q: u16) -> u16 {
+    match code {
+        Code::Set => n,
+        Code::Copy => q,
+        Code::Add => p.wrapping_add(q),
+        _ => p.wrapping_sub(q),
+    }
 }

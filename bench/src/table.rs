@@ -56,12 +56,11 @@ pub struct Place {
 
 /// An accepted table's shape.
 pub struct Shape {
-    pub places: [Place; MOST_ROWS],
+    pub places: Vec<Place>,
     /// The size of each region in the order they open.
-    pub sizes: [u16; MOST_ROWS],
-    pub regions: usize,
+    pub sizes: Vec<u16>,
+    /// The row of each function.
     pub heads: [u16; MOST_FUNCTIONS],
-    pub functions: usize,
     pub lines: u16,
 }
 
@@ -69,30 +68,34 @@ pub struct Shape {
 #[derive(Clone, Copy, Default)]
 struct Open {
     kind: u8,
-    /// The stack index of the innermost loop, itself among them; 0, the body's, if there is none.
-    innermost: u8,
+    /// Whether a loop is open, and the row of the innermost one.
+    in_loop: bool,
+    innermost: u16,
     head: u16,
     /// The row whose link will be the end: the head, or its else.
     last: u16,
     region: u16,
-    taken: u16,
+    /// Wider than it need be: two halves of one word, written apart and read as one, stall.
+    taken: u32,
 }
 
-/// The part of the pass that nobody needs afterwards.
-struct Walk {
-    stack: [Open; MOST_OPEN],
-    /// How much of the stack is used; 0 outside of functions.
+/// The pass over the rows. It owns nothing, so that what it counts can stay in registers.
+struct Walk<'a> {
+    places: &'a mut [Place],
+    sizes: &'a mut [u16],
+    heads: &'a mut [u16; MOST_FUNCTIONS],
+    functions: usize,
+    /// The innermost open thing; those around it are on the stack.
+    top: Open,
+    around: [Open; MOST_OPEN],
+    /// How much is open; 0 outside of functions.
     depth: usize,
-    /// Regions of the function so far.
-    regions: u16,
+    /// Regions of the table and of the function so far.
+    regions: usize,
+    local: u16,
+    lines: u16,
     /// One more than the highest number that is called.
     called: u32,
-}
-
-impl Walk {
-    fn top(&mut self) -> &mut Open {
-        &mut self.stack[self.depth - 1]
-    }
 }
 
 fn unless(fault: bool, refusal: Refusal) -> Result<(), Refusal> {
@@ -115,131 +118,167 @@ fn operands(row: &Row, with_n: u8, last: u8) -> Result<(), Refusal> {
 }
 
 impl Shape {
-    pub fn new() -> Shape {
-        Shape {
-            places: [Place::default(); MOST_ROWS],
-            sizes: [0; MOST_ROWS],
-            regions: 0,
-            heads: [0; MOST_FUNCTIONS],
-            functions: 0,
-            lines: 0,
-        }
-    }
-
-    /// Reads a table into a new shape, or answers the first cause that turns it away.
-    pub fn read(&mut self, bytes: &[u8]) -> Result<(), Refusal> {
+    /// Reads a table, or answers the first cause that turns it away.
+    pub fn read(bytes: &[u8]) -> Result<Shape, Refusal> {
         let (rows, rest) = bytes.as_chunks::<ROW_BYTES>();
         unless(rows.is_empty() || !rest.is_empty(), Refusal::NoWholeRows)?;
         unless(rows.len() > MOST_ROWS, Refusal::TooManyRows)?;
-        let stack = [Open::default(); MOST_OPEN];
-        let mut walk = Walk { stack, depth: 0, regions: 0, called: 0 };
+        let mut places = vec![Place::default(); rows.len()];
+        let mut sizes = vec![0; rows.len()];
+        let mut heads = [0; MOST_FUNCTIONS];
+        let mut walk = Walk::new(&mut places, &mut sizes, &mut heads);
         for (at, row) in rows.iter().enumerate() {
-            self.row(&mut walk, at, row)?;
+            walk.row(at, row)?;
         }
         unless(walk.depth != 0, Refusal::Misplaced)?;
-        unless(walk.called > self.functions as u32, Refusal::NoSuchFunction)
+        unless(walk.called > walk.functions as u32, Refusal::NoSuchFunction)?;
+        let (lines, regions) = (walk.lines, walk.regions);
+        sizes.truncate(regions);
+        Ok(Shape { places, sizes, heads, lines })
+    }
+}
+
+impl<'a> Walk<'a> {
+    fn new(
+        places: &'a mut [Place],
+        sizes: &'a mut [u16],
+        heads: &'a mut [u16; MOST_FUNCTIONS],
+    ) -> Walk<'a> {
+        let nothing = Open::default();
+        Walk {
+            places,
+            sizes,
+            heads,
+            functions: 0,
+            top: nothing,
+            around: [nothing; MOST_OPEN],
+            depth: 0,
+            regions: 0,
+            local: 0,
+            lines: 0,
+            called: 0,
+        }
     }
 
-    #[inline]
-    fn row(&mut self, walk: &mut Walk, at: usize, row: &Row) -> Result<(), Refusal> {
+    /// One row: 3, then 4, then 5, then 6.
+    #[inline(always)]
+    fn row(&mut self, at: usize, row: &Row) -> Result<(), Refusal> {
         match row[0] {
-            DO => operands(row, 1, 3)?,
-            IF | LOOP => operands(row, 2, 2)?,
-            CALL => unless(row[1] | row[2] | row[3] != 0, Refusal::WrongField)?,
-            FUNCTION | ELSE | END | BREAK | CONTINUE => no_fields(row)?,
+            DO => {
+                operands(row, 1, 3)?;
+                self.inside()?;
+                self.put(at, 0, 1, 2);
+            }
+            IF | LOOP => {
+                operands(row, 2, 2)?;
+                self.inside()?;
+                self.construct(at, row[0])?;
+            }
+            CALL => {
+                unless(row[1] | row[2] | row[3] != 0, Refusal::WrongField)?;
+                self.inside()?;
+                self.called = self.called.max(u32::from(n_of(row)) + 1);
+                self.put(at, 0, 2, 2);
+            }
+            FUNCTION => {
+                no_fields(row)?;
+                self.function(at)?;
+            }
+            ELSE | END | BREAK | CONTINUE => {
+                no_fields(row)?;
+                self.inside()?;
+                self.closing(at, row[0])?;
+            }
             _ => return Err(Refusal::WrongField),
         }
-        if row[0] == FUNCTION {
-            return self.function(walk, at);
-        }
-        unless(walk.depth == 0, Refusal::Misplaced)?;
-        match row[0] {
-            DO => self.put(walk, at, 0, 1, 2),
-            IF | LOOP => self.construct(walk, at, row[0])?,
-            ELSE => self.other(walk, at)?,
-            END => self.end(walk, at),
-            CALL => {
-                walk.called = walk.called.max(u32::from(n_of(row)) + 1);
-                self.put(walk, at, 0, 2, 2);
+        Ok(())
+    }
+
+    fn inside(&self) -> Result<(), Refusal> {
+        unless(self.depth == 0, Refusal::Misplaced)
+    }
+
+    #[inline(always)]
+    fn closing(&mut self, at: usize, kind: u8) -> Result<(), Refusal> {
+        match kind {
+            ELSE => self.other(at)?,
+            END => self.end(at),
+            _ => {
+                unless(!self.top.in_loop, Refusal::Misplaced)?;
+                self.put(at, self.top.innermost, 1, 1);
             }
-            _ => self.out(walk, at)?,
         }
         Ok(())
     }
 
     /// A row that takes so many values of the region around and has so many lines.
-    #[inline]
-    fn put(&mut self, walk: &mut Walk, at: usize, link: u16, takes: u16, lines: u16) {
-        let top = walk.top();
-        self.places[at] = Place { region: top.region, taken: top.taken, line: self.lines, link };
-        top.taken += takes;
+    #[inline(always)]
+    fn put(&mut self, at: usize, link: u16, takes: u32, lines: u16) {
+        let Open { region, taken, .. } = self.top;
+        self.places[at] = Place { region, taken: taken as u16, line: self.lines, link };
+        self.top.taken += takes;
         self.lines += lines;
     }
 
-    #[inline]
-    fn open(&mut self, walk: &mut Walk, at: usize, kind: u8, innermost: u8) {
+    #[inline(always)]
+    fn open(&mut self, at: usize, kind: u8) {
+        self.around[self.depth] = self.top;
+        self.depth += 1;
         let (head, region) = (at as u16, self.regions as u16);
-        walk.stack[walk.depth] = Open { kind, innermost, head, last: head, region, taken: 0 };
-        walk.depth += 1;
         self.regions += 1;
+        self.top = Open { kind, head, last: head, region, taken: 0, ..self.top };
     }
 
-    fn function(&mut self, walk: &mut Walk, at: usize) -> Result<(), Refusal> {
-        unless(walk.depth != 0, Refusal::Misplaced)?;
+    #[inline(always)]
+    fn function(&mut self, at: usize) -> Result<(), Refusal> {
+        unless(self.depth != 0, Refusal::Misplaced)?;
         unless(self.functions == MOST_FUNCTIONS, Refusal::TooManyFunctions)?;
         self.heads[self.functions] = at as u16;
         self.functions += 1;
         self.places[at].line = self.lines;
-        walk.regions = 1;
-        self.open(walk, at, FUNCTION, 0);
+        self.local = 1;
+        self.open(at, FUNCTION);
         Ok(())
     }
 
-    #[inline]
-    fn construct(&mut self, walk: &mut Walk, at: usize, kind: u8) -> Result<(), Refusal> {
-        let full = walk.depth == MOST_OPEN || walk.regions == MOST_REGIONS;
+    #[inline(always)]
+    fn construct(&mut self, at: usize, kind: u8) -> Result<(), Refusal> {
+        let full = self.depth == MOST_OPEN || self.local == MOST_REGIONS;
         unless(full, Refusal::TooMuchOpen)?;
-        self.put(walk, at, 0, 2, 1);
-        walk.regions += 1;
-        let innermost = if kind == LOOP { walk.depth as u8 } else { walk.top().innermost };
-        self.open(walk, at, kind, innermost);
+        self.put(at, 0, 2, 1);
+        self.local += 1;
+        self.open(at, kind);
+        if kind == LOOP {
+            self.top.in_loop = true;
+            self.top.innermost = at as u16;
+        }
         Ok(())
     }
 
-    #[inline]
-    fn other(&mut self, walk: &mut Walk, at: usize) -> Result<(), Refusal> {
-        unless(walk.top().kind != IF, Refusal::Misplaced)?;
-        unless(walk.regions == MOST_REGIONS, Refusal::TooMuchOpen)?;
-        walk.regions += 1;
-        let top = walk.top();
-        self.sizes[usize::from(top.region)] = 1 + top.taken;
-        self.places[usize::from(top.head)].link = at as u16;
-        self.places[at] = Place { region: top.region, taken: top.head, line: self.lines, link: 0 };
+    #[inline(always)]
+    fn other(&mut self, at: usize) -> Result<(), Refusal> {
+        unless(self.top.kind != IF, Refusal::Misplaced)?;
+        unless(self.local == MOST_REGIONS, Refusal::TooMuchOpen)?;
+        let Open { region, head, .. } = self.top;
+        self.sizes[usize::from(region)] = 1 + self.top.taken as u16;
+        self.places[usize::from(head)].link = at as u16;
+        self.places[at] = Place { region, taken: head, line: self.lines, link: 0 };
         let region = self.regions as u16;
-        *top = Open { kind: ELSE, last: at as u16, region, taken: 0, ..*top };
+        self.top = Open { kind: ELSE, last: at as u16, region, taken: 0, ..self.top };
         self.regions += 1;
+        self.local += 1;
         self.lines += 1;
         Ok(())
     }
 
-    #[inline]
-    fn end(&mut self, walk: &mut Walk, at: usize) {
-        let head = walk.top().head;
-        self.put(walk, at, head, 0, 1);
-        let top = walk.top();
+    #[inline(always)]
+    fn end(&mut self, at: usize) {
         // a function's end takes a value itself
-        let takes = u16::from(top.kind == FUNCTION);
-        self.sizes[usize::from(top.region)] = 1 + top.taken + takes;
-        self.places[usize::from(top.last)].link = at as u16;
-        walk.depth -= 1;
-    }
-
-    #[inline]
-    fn out(&mut self, walk: &mut Walk, at: usize) -> Result<(), Refusal> {
-        let innermost = usize::from(walk.top().innermost);
-        unless(innermost == 0, Refusal::Misplaced)?;
-        let head = walk.stack[innermost].head;
-        self.put(walk, at, head, 1, 1);
-        Ok(())
+        let takes = u32::from(self.top.kind == FUNCTION);
+        self.put(at, self.top.head, takes, 1);
+        self.sizes[usize::from(self.top.region)] = 1 + self.top.taken as u16;
+        self.places[usize::from(self.top.last)].link = at as u16;
+        self.depth -= 1;
+        self.top = self.around[self.depth];
     }
 }
