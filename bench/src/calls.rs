@@ -1,0 +1,120 @@
+//! The six calls as a trait, so that every implementation gets the same inputs, and the answers
+//! with the layout that they have at the C boundary.
+
+use crate::table::{Refusal, Shape};
+use crate::{harden, hardened_run, read_back, source_run};
+
+pub type Variables = [u16; 16];
+
+/// A hardened run is lent this many counter words at least: 64 for each of 16 open functions.
+pub const COUNTER_WORDS: usize = 1024;
+
+/// The step number that stands for no jump.
+pub const NO_JUMP: u16 = 65_535;
+
+/// A number and the length of what was written.
+#[repr(C)]
+#[derive(Clone, Copy, Debug, PartialEq, Eq)]
+pub struct Wrote {
+    pub number: u8,
+    pub length: usize,
+}
+
+/// How a run ended.
+#[repr(C)]
+#[derive(Clone, Copy, Debug, PartialEq, Eq)]
+pub struct Ran {
+    pub number: u8,
+    pub outcome: u8,
+    pub steps: u16,
+    pub traced: u16,
+    pub variables: Variables,
+}
+
+/// What a run is given besides its table and buffers. A source run has no use for the jump.
+#[derive(Clone, Copy, Debug)]
+pub struct Start {
+    pub variables: Variables,
+    pub budget: u16,
+    pub step: u16,
+    pub place: u16,
+}
+
+impl Start {
+    pub fn unstruck(variables: Variables, budget: u16) -> Start {
+        Start { variables, budget, step: NO_JUMP, place: 0 }
+    }
+}
+
+pub trait Calls {
+    fn name(&self) -> &'static str;
+    fn check(&self, rows: &[u8]) -> u8;
+    fn harden(&self, rows: &[u8], out: &mut [u8]) -> Wrote;
+    fn check_hardened(&self, lines: &[u8]) -> u8;
+    fn read_back(&self, lines: &[u8], out: &mut [u8]) -> Wrote;
+    fn run_source(&self, rows: &[u8], start: &Start, trace: &mut [u16]) -> Ran;
+    fn run_hardened(
+        &self,
+        lines: &[u8],
+        start: &Start,
+        trace: &mut [u16],
+        counters: &mut [u16],
+    ) -> Ran;
+}
+
+/// The implementation that is written for speed.
+pub struct Baseline;
+
+impl Calls for Baseline {
+    fn name(&self) -> &'static str {
+        "baseline"
+    }
+
+    fn check(&self, rows: &[u8]) -> u8 {
+        number(Shape::read(rows).map(|_| ()))
+    }
+
+    fn harden(&self, rows: &[u8], out: &mut [u8]) -> Wrote {
+        wrote(harden::harden(rows, out))
+    }
+
+    fn check_hardened(&self, lines: &[u8]) -> u8 {
+        number(read_back::source_of(lines).map(|_| ()))
+    }
+
+    fn read_back(&self, lines: &[u8], out: &mut [u8]) -> Wrote {
+        wrote(read_back::read_back(lines, out))
+    }
+
+    fn run_source(&self, rows: &[u8], start: &Start, trace: &mut [u16]) -> Ran {
+        source_run::run(rows, start, trace).unwrap_or_else(|refusal| turned_away(refusal, start))
+    }
+
+    fn run_hardened(
+        &self,
+        lines: &[u8],
+        start: &Start,
+        trace: &mut [u16],
+        counters: &mut [u16],
+    ) -> Ran {
+        hardened_run::run(lines, start, trace, counters)
+            .unwrap_or_else(|refusal| turned_away(refusal, start))
+    }
+}
+
+fn number(answer: Result<(), Refusal>) -> u8 {
+    answer.map_or_else(|refusal| refusal as u8, |()| 0)
+}
+
+fn wrote(answer: Result<usize, Refusal>) -> Wrote {
+    match answer {
+        Ok(length) => Wrote { number: 0, length },
+        Err(refusal) => Wrote { number: refusal as u8, length: 0 },
+    }
+}
+
+/// A refused run answers its number, zeros, and the variables as given.
+fn turned_away(refusal: Refusal, start: &Start) -> Ran {
+    let variables = start.variables;
+    Ran { number: refusal as u8, outcome: 0, steps: 0, traced: 0, variables }
+}
