@@ -22,16 +22,21 @@ pub struct Place {
     pub line: u16,
 }
 
-// The place of the next row, after a row of each shape.
+// The place of the next row, after a row of each shape. Made field by field, so that it stays in registers.
 impl Place {
     // After a row that opens nothing and closes nothing.
     fn passed(self, lines: u16) -> Place
         requires { ⌜ (self .line ≤ 2048) × (lines ≤ 2) ⌝ }
         ensures { λ r. ⌜ r ≡ passed self lines ⌝ }
     {
-        let mut next = self;
-        next.line = self.line + lines;
-        next
+        Place {
+            opened: self.opened,
+            region: self.region,
+            body: self.body,
+            opener: self.opener,
+            repeat: self.repeat,
+            line: self.line + lines,
+        }
     }
 
     // After a function row.
@@ -39,12 +44,14 @@ impl Place {
         requires { ⌜ self .opened ≤ 1024 ⌝ }
         ensures { λ r. ⌜ r ≡ entered self row ⌝ }
     {
-        let mut next = self;
-        next.opened = self.opened + 1;
-        next.region = self.opened;
-        next.body = self.opened;
-        next.opener = row;
-        next
+        Place {
+            opened: self.opened + 1,
+            region: self.opened,
+            body: self.opened,
+            opener: row,
+            repeat: self.repeat,
+            line: self.line,
+        }
     }
 
     // After an if row.
@@ -52,12 +59,14 @@ impl Place {
         requires { ⌜ (self .opened ≤ 1024) × (self .line ≤ 2048) ⌝ }
         ensures { λ r. ⌜ r ≡ forked self row ⌝ }
     {
-        let mut next = self;
-        next.opened = self.opened + 1;
-        next.region = self.opened;
-        next.opener = row;
-        next.line = self.line + 1;
-        next
+        Place {
+            opened: self.opened + 1,
+            region: self.opened,
+            body: self.body,
+            opener: row,
+            repeat: self.repeat,
+            line: self.line + 1,
+        }
     }
 
     // After a loop row.
@@ -65,13 +74,14 @@ impl Place {
         requires { ⌜ (self .opened ≤ 1024) × (self .line ≤ 2048) ⌝ }
         ensures { λ r. ⌜ r ≡ looped self row ⌝ }
     {
-        let mut next = self;
-        next.opened = self.opened + 1;
-        next.region = self.opened;
-        next.opener = row;
-        next.repeat = row;
-        next.line = self.line + 1;
-        next
+        Place {
+            opened: self.opened + 1,
+            region: self.opened,
+            body: self.body,
+            opener: row,
+            repeat: row,
+            line: self.line + 1,
+        }
     }
 
     // After an else row.
@@ -79,11 +89,14 @@ impl Place {
         requires { ⌜ (self .opened ≤ 1024) × (self .line ≤ 2048) ⌝ }
         ensures { λ r. ⌜ r ≡ turned self ⌝ }
     {
-        let mut next = self;
-        next.opened = self.opened + 1;
-        next.region = self.opened;
-        next.line = self.line + 1;
-        next
+        Place {
+            opened: self.opened + 1,
+            region: self.opened,
+            body: self.body,
+            opener: self.opener,
+            repeat: self.repeat,
+            line: self.line + 1,
+        }
     }
 
     // After an end row: what is open is what was open at the row that opened, whose place this is.
@@ -91,10 +104,14 @@ impl Place {
         requires { ⌜ self .line ≤ 2048 ⌝ }
         ensures { λ r. ⌜ r ≡ closed self opener ⌝ }
     {
-        let mut next = opener;
-        next.opened = self.opened;
-        next.line = self.line + 1;
-        next
+        Place {
+            opened: self.opened,
+            region: opener.region,
+            body: opener.body,
+            opener: opener.opener,
+            repeat: opener.repeat,
+            line: self.line + 1,
+        }
     }
 }
 
