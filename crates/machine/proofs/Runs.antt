@@ -13,9 +13,10 @@ use Rattle.rules.specs.declared.step.Step.the-variants.{Went, Finished, Alarm, 
 use Rattle.rules.specs.Line.{Line, linesIn}
 use Rattle.rules.specs.Run.{Turn, on, ends, untaken, Answer, after, run}
 use Rattle.rules.specs.Hardened.{Counters, Hardened, hardenedStep, none, strikingStep}
+use Rattle.machine.specs.declared.machine.Hot.{Hot}
 use Rattle.machine.specs.Ready.{CanStep}
-use Rattle.machine.specs.Step.{Map, Parts, After, stepOf}
-use Rattle.machine.specs.Run.{partsAt, onward, stopsAfter, runOf}
+use Rattle.machine.specs.Step.{Map, Parts, partsOf, After, stepOf}
+use Rattle.machine.specs.Run.{hotAt, partsAt, onward, stopsAfter, runOf}
 use Rattle.machine.specs.Stands.{Ready, Traced, Stands, Going}
 use Rattle.machine.proofs.Agree.{GoesOn, IsEnd, Agrees}
 use Rattle.machine.proofs.Steps.{can-step, step-agrees}
@@ -86,6 +87,20 @@ going-on bs m rd left p g h a e k z =
     going-by (linesIn bs) left p g h a k z (hardenedStep (linesIn bs) (g .state))
     (subst (λ x. Agrees (linesIn bs) (g .held) (p .hot .traced) x (hardenedStep (linesIn bs) (g .state))) (sym e)
     (step-agrees bs m rd (g .held) p (g .state) (g .stands) (omega (arith, g .slots, g .traced))))
+
+-- after a step that went on, by what the loop knew before it
+pub runs-on : (bs : List ℕ) (m : Map) → Ready bs m → (budget : ℕ) (start : Parts) (left : ℕ) (p : Parts) → Running bs m budget start left p → 0 < left
+    → (a : After) → a ≡ stepOf bs m p → (k : ℕ) → a .step ≡ Went k → length (a .parts .words) ≡ length (p .words) → length (a .parts .slots) ≡ length (p .slots)
+    → (h : Hot) → h ≡ hotAt (a .parts .hot) k (p .hot .steps + 1)
+    → Running bs m budget start (left - 1) (partsOf h (a .parts .places) (a .parts .functions) (a .parts .vars) (a .parts .words) (a .parts .slots))
+runs-on bs m rd budget start left p r l a e k z w t h q =
+    subst (λ x. Running bs m budget start (left - 1) (partsOf x (a .parts .places) (a .parts .functions) (a .parts .vars) (a .parts .words) (a .parts .slots))) (sym q)
+    (record {
+      going = going-on bs m rd left p (r .going) l a e k z;
+      same = r .same ∙ run-went bs m p left l a e k z;
+      words-long = w ∙ r .words-long;
+      slots-long = t ∙ r .slots-long;
+    })
 
 -- an arm of a `match` that is none of the first variant's
 pub not-went : (s : Step) → OneOf (1 ∷ 2 ∷ 3 ∷ 4 ∷ []) (tagOf the-type s) → IsEnd s

@@ -2,7 +2,7 @@
 ghost use mathlib.Core.Path.{_≡_};
 ghost use Prim.Native.Nat.{_<_};
 ghost use Rattle.machine.specs.Step.{moved, openedOf, closedOf, tracedOf};
-ghost use Rattle.machine.specs.Run.{stoppedAt};
+ghost use Rattle.machine.specs.Run.{stoppedAt, hotAt};
 ghost use Rattle.machine.specs.Struck.{Begun, machineAt};
 use rules::step::Step;
 
@@ -61,8 +61,22 @@ pub fn stay(step: Step, hot: Hot) -> Moved
     Moved { step, hot }
 }
 
-// One more do is done. Here and below the numbers are made field by field: a copy that is then changed would keep them in memory, at
-// four times the cost of a step.
+// The numbers with the place and the steps set. Here and below they are made field by field: a copy that is then changed would keep
+// them in memory, at four times the cost of a step.
+pub fn standing(h: Hot, place: u16, steps: u16) -> Hot
+    ensures { λ r. ⌜ r ≡ hotAt h place steps ⌝ }
+{
+    Hot {
+        depth: h.depth,
+        function: h.function,
+        place,
+        last: h.last,
+        steps,
+        traced: h.traced,
+    }
+}
+
+// One more do is done.
 pub fn traced(h: Hot) -> Hot
     requires { ⌜ h .traced < 65535 ⌝ }
     ensures { λ r. ⌜ r ≡ tracedOf h ⌝ }

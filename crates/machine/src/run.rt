@@ -44,12 +44,12 @@ pub fn run_lines(
             trace,
         );
         let s = t.step;
-        h = t.hot;
-        h.steps = steps;
+        let n = t.hot;
         let Step::Went(k) = s else {
-            return machine::at_end(s, places, functions, variables, h);
+            let e = machine::standing(n, n.place, steps);
+            return machine::at_end(s, places, functions, variables, e);
         };
-        h.place = k;
+        h = machine::standing(n, k, steps);
         left -= 1;
     }
     machine::at_end(Step::Went(h.place), places, functions, variables, h)

@@ -4,13 +4,14 @@ use Rattle.machine.specs.Run.{stoppedWith}
 use borrow.Author.Needs.{needs}
 use native.Mathlib.Omega.{arith}
 use Rattle.machine.specs.Step.{mapOf, partsOf}
-use Rattle.machine.proofs.Runs.{Running, run-none, run-went, run-stops, going-steps, going-on, not-went}
+use Rattle.machine.proofs.Runs.{Running, run-none, run-stops, going-steps, runs-on, not-went}
 use Rattle.machine.proofs.run.run_lines.Statement.{statement}
 use Rattle.machine.proofs.run.run_lines.Tie as tie
 use Rattle.machine.proofs.run.run_lines.Reads as reads
 use Rattle.machine.proofs.run.run_lines.Lts as lts
 use Rattle.machine.proofs.line.line.Reads as line-reads
 use Rattle.machine.proofs.machine.at_end.Reads as at-end-reads
+use Rattle.machine.proofs.machine.standing.Reads as standing-reads
 
 abbrev Inv-loop : tie.InvT-loop
 Inv-loop lines starts owners home budget counters₀ trace₀ places₀ functions₀ variables₀ h₀ left₀ counters trace places functions variables h left =
@@ -36,41 +37,44 @@ line-requires c κs = going-steps _ _ (c .before .before .before .before .before
 enum-known-s : tie.Need-enum-known-s Inv-loop μ-loop
 enum-known-s c = c .match .keys1
 
--- src/run.rt:50:13
+-- src/run.rt:50:21
+standing-requires : tie.Need-standing-requires Inv-loop μ-loop
+standing-requires c κs = search needs
+
+-- src/run.rt:51:13
 at-end-requires : tie.Need-at-end-requires Inv-loop μ-loop
 at-end-requires c κs = search needs
 
--- src/run.rt:50:13
+-- src/run.rt:51:13
 same-length : tie.Need-same-length Inv-loop μ-loop
-same-length c = c .before .before .before .before .before .before .before .line .kept .1 .1 .1 .1 .1 .1 .1 .1 .0 ∙ c .before .before .before .before .before .before .before .before .before .before .before .before .before .before .before .loop .inv .words-long
+same-length c = c .before .before .before .before .before .before .before .before .line .kept .1 .1 .1 .1 .1 .1 .1 .1 .0 ∙ c .before .before .before .before .before .before .before .before .before .before .before .before .before .before .before .before .loop .inv .words-long
 
--- src/run.rt:50:13
+-- src/run.rt:51:13
 same-length-2 : tie.Need-same-length-2 Inv-loop μ-loop
-same-length-2 c = c .before .before .before .before .before .before .before .line .kept .1 .1 .1 .1 .1 .1 .1 .1 .1 .0 ∙ c .before .before .before .before .before .before .before .before .before .before .before .before .before .before .before .loop .inv .slots-long
+same-length-2 c = c .before .before .before .before .before .before .before .before .line .kept .1 .1 .1 .1 .1 .1 .1 .1 .1 .0 ∙ c .before .before .before .before .before .before .before .before .before .before .before .before .before .before .before .before .loop .inv .slots-long
 
--- src/run.rt:50:13
+-- src/run.rt:51:13
 returns : tie.Need-returns Inv-loop μ-loop
 returns c =
-    ap (λ x. stoppedWith x (c .before .before .before .before .before .before .before .line .last .1 .1 .1 .1 .1 .1 .1 .1 .0) (c .before .before .before .before .before .before .before .line .last .1 .1 .1 .1 .1 .1 .1 .1 .1 .0)) (c .at-end .ensures)
-    ∙ run-stops _ _ _ _ (c .before .before .before .before .before .before .before .before .before .before .before .before .before .before .loop-test .taken) _ (c .before .before .before .before .before .before .before .line .ensures) (not-went _ (c .before .match .keys2)) ∙ sym (c .before .before .before .before .before .before .before .before .before .before .before .before .before .before .before .loop .inv .same)
+    ap (λ x. stoppedWith x (c .before .before .before .before .before .before .before .before .line .last .1 .1 .1 .1 .1 .1 .1 .1 .0) (c .before .before .before .before .before .before .before .before .line .last .1 .1 .1 .1 .1 .1 .1 .1 .1 .0)) (rw (c .before .standing .ensures) at (c .at-end .ensures))
+    ∙ run-stops _ _ _ _ (c .before .before .before .before .before .before .before .before .before .before .before .before .before .before .before .loop-test .taken) _ (c .before .before .before .before .before .before .before .before .line .ensures) (not-went _ (c .before .before .match .keys2)) ∙ sym (c .before .before .before .before .before .before .before .before .before .before .before .before .before .before .before .before .loop .inv .same)
 
--- src/run.rt:53:9
+-- src/run.rt:53:13
+standing-requires-2 : tie.Need-standing-requires-2 Inv-loop μ-loop
+standing-requires-2 c κs = search needs
+
+-- src/run.rt:54:9
 sub-left : tie.Need-sub-left Inv-loop μ-loop
-sub-left c = omega (arith, c .before .before .before .before .before .before .before .before .before .before .before .before .before .before .before .loop-test .taken)
+sub-left c = omega (arith, c .before .before .before .before .before .before .before .before .before .before .before .before .before .before .before .before .loop-test .taken)
 
 -- src/run.rt:32:5
 loop-less : tie.Need-loop-less Inv-loop μ-loop
-loop-less c = omega (arith, c .before .before .before .before .before .before .before .before .before .before .before .before .before .before .before .loop-test .taken)
+loop-less c = omega (arith, c .before .before .before .before .before .before .before .before .before .before .before .before .before .before .before .before .loop-test .taken)
 
 -- src/run.rt:32:5
 loop-again : tie.Need-loop-again Inv-loop μ-loop
 loop-again c =
-    record {
-      going = going-on _ _ (c .before .before .before .before .before .before .before .before .before .before .before .before .before .before .before .before .before .before .before .before .before .before .before .before .pre .0) _ _ (c .before .before .before .before .before .before .before .before .before .before .before .before .before .before .before .before .loop .inv .going) (c .before .before .before .before .before .before .before .before .before .before .before .before .before .before .before .loop-test .taken) _ (c .before .before .before .before .before .before .before .before .line .ensures) _ (c .before .s .given .1);
-      same = c .before .before .before .before .before .before .before .before .before .before .before .before .before .before .before .before .loop .inv .same ∙ run-went _ _ _ _ (c .before .before .before .before .before .before .before .before .before .before .before .before .before .before .before .loop-test .taken) _ (c .before .before .before .before .before .before .before .before .line .ensures) _ (c .before .s .given .1);
-      words-long = c .before .before .before .before .before .before .before .before .line .kept .1 .1 .1 .1 .1 .1 .1 .1 .0 ∙ c .before .before .before .before .before .before .before .before .before .before .before .before .before .before .before .before .loop .inv .words-long;
-      slots-long = c .before .before .before .before .before .before .before .before .line .kept .1 .1 .1 .1 .1 .1 .1 .1 .1 .0 ∙ c .before .before .before .before .before .before .before .before .before .before .before .before .before .before .before .before .loop .inv .slots-long;
-    }
+    runs-on _ _ (c .before .before .before .before .before .before .before .before .before .before .before .before .before .before .before .before .before .before .before .before .before .before .before .before .before .pre .0) _ _ _ _ (c .before .before .before .before .before .before .before .before .before .before .before .before .before .before .before .before .before .loop .inv) (c .before .before .before .before .before .before .before .before .before .before .before .before .before .before .before .before .loop-test .taken) _ (c .before .before .before .before .before .before .before .before .before .line .ensures) _ (c .before .before .s .given .1) (c .before .before .before .before .before .before .before .before .before .line .kept .1 .1 .1 .1 .1 .1 .1 .1 .0) (c .before .before .before .before .before .before .before .before .before .line .kept .1 .1 .1 .1 .1 .1 .1 .1 .1 .0) _ (c .standing2 .ensures)
 
 -- src/run.rt:55:5
 at-end-requires-2 : tie.Need-at-end-requires-2 Inv-loop μ-loop
@@ -98,10 +102,12 @@ run-lines-spec =
     add-steps
     line-requires
     enum-known-s
+    standing-requires
     at-end-requires
     same-length
     same-length-2
     returns
+    standing-requires-2
     sub-left
     loop-less
     loop-again
