@@ -61,8 +61,8 @@ pub fn stay(step: Step, hot: Hot) -> Moved
     Moved { step, hot }
 }
 
-// The numbers with the place and the steps set. Here and below they are made field by field: a copy that is then changed would keep
-// them in memory, at four times the cost of a step.
+// The numbers with the place and the steps set. Here and below they are made field by field: a copy that is then changed is slower.
+// In the three functions below it kept the numbers in memory, and a step took four times as long.
 pub fn standing(h: Hot, place: u16, steps: u16) -> Hot
     ensures { λ r. ⌜ r ≡ hotAt h place steps ⌝ }
 {
