@@ -22,7 +22,7 @@ use Rattle.machine.specs.declared.machine.Machine.{Machine}
 use Rattle.machine.specs.declared.machine.Stopped.{Stopped}
 use Rattle.machine.specs.Run.{stoppedAt, hotAt, onward}
 use Rattle.machine.proofs.Agree.{IsEnd}
-use Rattle.source.specs.Step.{Known, CanStep, Parts, After, stepOf}
+use Rattle.source.specs.Step.{Known, CanStep, Parts, After, stepOf, partsOf}
 use Rattle.source.specs.Run.{partsIn, stoppedWith, partsAt, stateOf, turnOf, answerOf, runFrom, Going, Kept, Ended, startOf, ranWith}
 use Rattle.source.proofs.Rows.{first-inside}
 use Rattle.source.proofs.Steps.{Steps, steps}
@@ -107,6 +107,13 @@ module _ {bs map ends elses heads : List ℕ} (k : Known bs map ends elses heads
           kept = record { in-slots = kept-on .in-slots; same-length = kept-on .same-length; same-rest = kept-on .same-rest };
         }
 
+    -- the same with the numbers made anew
+    pub run-on : (i : ℕ) → a .step ≡ Went i → (n : Hot) → n ≡ hotAt (a .parts .hot) i (p .hot .steps + 1)
+        → Running bs budget start (left - 1) (partsOf n (a .parts .places) (a .parts .functions) (a .parts .vars) (a .parts .slots))
+    run-on i z n q =
+        subst (λ y. Running bs budget start (left - 1) (partsOf y (a .parts .places) (a .parts .functions) (a .parts .vars) (a .parts .slots))) (sym q)
+        (run-again i z)
+
     pub run-ends : IsEnd (a .step) → (x : Stopped) → x ≡ stoppedAt (a .step) (a .parts .places) (a .parts .functions) (a .parts .vars) (countedHot p a)
         → Ended (tableOf bs) budget start (stoppedWith x (a .parts .slots))
     run-ends n x q =
@@ -115,6 +122,11 @@ module _ {bs map ends elses heads : List ℕ} (k : Known bs map ends elses heads
           answer-is = r .same ∙ run-stops (tableOf bs) p left h a (step-is .turn) n;
           kept = record { in-slots = kept-on .in-slots; same-length = kept-on .same-length; same-rest = kept-on .same-rest };
         })
+
+    pub run-ends-with : IsEnd (a .step) → (n : Hot) → n ≡ countedHot p a → (x : Stopped)
+        → x ≡ stoppedAt (a .step) (a .parts .places) (a .parts .functions) (a .parts .vars) n
+        → Ended (tableOf bs) budget start (stoppedWith x (a .parts .slots))
+    run-ends-with e n m x q = run-ends e x (q ∙ ap (stoppedAt (a .step) (a .parts .places) (a .parts .functions) (a .parts .vars)) m)
 
   pub run-spent : left ≤ 0 → (x : Stopped) → x ≡ stoppedAt (Went (p .hot .place)) (p .places) (p .functions) (p .vars) (p .hot)
       → Ended (tableOf bs) budget start (stoppedWith x (p .slots))

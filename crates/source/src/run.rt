@@ -7,6 +7,7 @@ use crate::step;
 use machine::machine::Machine;
 use machine::machine::Stopped;
 use machine::machine::at_end;
+use machine::machine::standing;
 use rules::step::Step;
 
 // Takes the machine apart, so that its numbers stay in registers, and puts it together where it stops.
@@ -43,12 +44,12 @@ pub fn run_rows(
             trace,
         );
         let s = t.step;
-        h = t.hot;
-        h.steps = steps;
+        let n = t.hot;
         let Step::Went(k) = s else {
-            return at_end(s, places, functions, variables, h);
+            let e = standing(n, n.place, steps);
+            return at_end(s, places, functions, variables, e);
         };
-        h.place = k;
+        h = standing(n, k, steps);
         left -= 1;
     }
     at_end(Step::Went(h.place), places, functions, variables, h)

@@ -3,12 +3,13 @@ use mathlib.Core.Path.{_∙_}
 use borrow.Author.Needs.{needs}
 use Rattle.machine.proofs.Runs.{not-went}
 use Rattle.source.specs.Step.{partsOf}
-use Rattle.source.proofs.Runs.{Running, run-starts, can-step, run-again, run-ends, run-spent}
+use Rattle.source.proofs.Runs.{Running, run-starts, can-step, run-on, run-ends-with, run-spent}
 use Rattle.source.proofs.run.run_rows.Statement.{statement}
 use Rattle.source.proofs.run.run_rows.Tie as tie
 use Rattle.source.proofs.run.run_rows.Reads as reads
 use Rattle.source.proofs.run.run_rows.Lts as lts
 use Rattle.machine.proofs.machine.at_end.Reads as at-end-reads
+use Rattle.machine.proofs.machine.standing.Reads as standing-reads
 use Rattle.source.proofs.step.row.Reads as row-reads
 
 abbrev Inv-loop : tie.InvT-loop
@@ -18,55 +19,63 @@ Inv-loop rows map ends elses heads budget trace₀ places₀ functions₀ variab
 abbrev μ-loop : tie.MeasureT-loop
 μ-loop rows map ends elses heads budget trace₀ places₀ functions₀ variables₀ h₀ left₀ trace places functions variables h left = left
 
--- src/run.rt:50:5
+-- src/run.rt:32:5
 loop-holds : tie.Need-loop-holds Inv-loop μ-loop
 loop-holds c = run-starts (c .before .before .before .before .before .before .before .before .before .before .pre .1)
 
--- src/run.rt:51:21
+-- src/run.rt:33:21
 add-steps : tie.Need-add-steps Inv-loop μ-loop
 add-steps c = omega (arith, c .before .before .loop .inv .going .few)
 
--- src/run.rt:52:13
+-- src/run.rt:34:13
 row-requires : tie.Need-row-requires Inv-loop μ-loop
 row-requires c κs = (c .before .before .before .before .before .before .before .before .before .before .before .before .before .before .before .before .before .pre .0, can-step (c .before .before .before .before .before .before .before .before .before .before .before .before .before .before .before .before .before .pre .0) (c .before .before .before .before .before .before .loop .inv) (c .before .before .before .before .before .loop-test .taken))
 
--- src/run.rt:67:24
+-- src/run.rt:48:24
 enum-known-s : tie.Need-enum-known-s Inv-loop μ-loop
 enum-known-s c = c .match .keys1
 
--- src/run.rt:68:13
+-- src/run.rt:49:17
+standing-requires : tie.Need-standing-requires Inv-loop μ-loop
+standing-requires c κs = search needs
+
+-- src/run.rt:50:13
 at-end-requires : tie.Need-at-end-requires Inv-loop μ-loop
 at-end-requires c κs = search needs
 
--- src/run.rt:68:13
+-- src/run.rt:50:13
 same-length : tie.Need-same-length Inv-loop μ-loop
-same-length c = c .before .before .before .before .before .row .kept .1 .1 .1 .1 .1 .1 .1 .1 .1 .0 ∙ c .before .before .before .before .before .before .before .before .before .before .before .before .loop .inv .kept .same-length
+same-length c = c .before .before .before .before .before .before .row .kept .1 .1 .1 .1 .1 .1 .1 .1 .1 .0 ∙ c .before .before .before .before .before .before .before .before .before .before .before .before .before .loop .inv .kept .same-length
 
--- src/run.rt:68:13
+-- src/run.rt:50:13
 returns : tie.Need-returns Inv-loop μ-loop
-returns c = run-ends (c .before .before .before .before .before .before .before .before .before .before .before .before .before .before .before .before .before .before .before .before .before .before .before .pre .0) (c .before .before .before .before .before .before .before .before .before .before .before .before .loop .inv) (c .before .before .before .before .before .before .before .before .before .before .before .loop-test .taken) _ (c .before .before .before .before .before .row .ensures) (not-went _ (c .before .match .keys2)) _ (c .at-end .ensures)
+returns c = run-ends-with (c .before .before .before .before .before .before .before .before .before .before .before .before .before .before .before .before .before .before .before .before .before .before .before .before .pre .0) (c .before .before .before .before .before .before .before .before .before .before .before .before .before .loop .inv) (c .before .before .before .before .before .before .before .before .before .before .before .before .loop-test .taken) _ (c .before .before .before .before .before .before .row .ensures) (not-went _ (c .before .before .match .keys2)) _ (c .before .standing .ensures) _ (c .at-end .ensures)
 
--- src/run.rt:71:9
+-- src/run.rt:52:9
+standing-requires-2 : tie.Need-standing-requires-2 Inv-loop μ-loop
+standing-requires-2 c κs = search needs
+
+-- src/run.rt:53:9
 sub-left : tie.Need-sub-left Inv-loop μ-loop
-sub-left c = omega (arith, c .before .before .before .before .before .before .before .before .before .before .before .before .loop-test .taken)
+sub-left c = omega (arith, c .before .before .before .before .before .before .before .before .before .before .before .before .before .loop-test .taken)
 
--- src/run.rt:50:5
+-- src/run.rt:32:5
 loop-less : tie.Need-loop-less Inv-loop μ-loop
-loop-less c = omega (arith, c .before .before .before .before .before .before .before .before .before .before .before .before .loop-test .taken)
+loop-less c = omega (arith, c .before .before .before .before .before .before .before .before .before .before .before .before .before .loop-test .taken)
 
--- src/run.rt:50:5
+-- src/run.rt:32:5
 loop-again : tie.Need-loop-again Inv-loop μ-loop
-loop-again c = run-again (c .before .before .before .before .before .before .before .before .before .before .before .before .before .before .before .before .before .before .before .before .before .before .before .before .pre .0) (c .before .before .before .before .before .before .before .before .before .before .before .before .before .loop .inv) (c .before .before .before .before .before .before .before .before .before .before .before .before .loop-test .taken) _ (c .before .before .before .before .before .before .row .ensures) _ (c .before .s .given .1)
+loop-again c = run-on (c .before .before .before .before .before .before .before .before .before .before .before .before .before .before .before .before .before .before .before .before .before .before .before .before .before .pre .0) (c .before .before .before .before .before .before .before .before .before .before .before .before .before .before .loop .inv) (c .before .before .before .before .before .before .before .before .before .before .before .before .before .loop-test .taken) _ (c .before .before .before .before .before .before .before .row .ensures) _ (c .before .before .s .given .1) _ (c .standing2 .ensures)
 
--- src/run.rt:73:5
+-- src/run.rt:55:5
 at-end-requires-2 : tie.Need-at-end-requires-2 Inv-loop μ-loop
 at-end-requires-2 c κs = search needs
 
--- src/run.rt:32:1
+-- src/run.rt:14:1
 same-length-2 : tie.Need-same-length-2 Inv-loop μ-loop
 same-length-2 c = c .before .before .loop .inv .kept .same-length
 
--- src/run.rt:32:1
+-- src/run.rt:14:1
 returns-2 : tie.Need-returns-2 Inv-loop μ-loop
 returns-2 c = run-spent (c .before .before .before .before .before .before .before .before .before .before .before .before .before .pre .0) (c .before .before .loop .inv) (c .before .loop-test .left) _ (c .at-end2 .ensures)
 
@@ -80,9 +89,11 @@ run-rows-spec =
     add-steps
     row-requires
     enum-known-s
+    standing-requires
     at-end-requires
     same-length
     returns
+    standing-requires-2
     sub-left
     loop-less
     loop-again
