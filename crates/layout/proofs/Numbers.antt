@@ -25,7 +25,7 @@ use Rattle.rules.proofs.Accepted.{table-length}
 use Rattle.rules.proofs.ValueBound.{value-bound, base-bound, regions-bound}
 use Rattle.layout.specs.declared.place.Place.{Place}
 use Rattle.layout.specs.Place.{placeOf, Surveyed, Stands}
-use Rattle.layout.specs.Number.{takesAt, valueOf, Spent, sums, Summed, Based, Valued}
+use Rattle.layout.specs.Number.{takesAt, valueOf, tookBefore, Took, Spent, Spends, sums, Summed, Based, Valued}
 use Rattle.layout.proofs.Places.{few-rows, region-regions}
 
 -- ---- the word of each region
@@ -73,25 +73,64 @@ spend-more {bs} {spent} {i} {g} {w} {here} s p q e =
         getD-set-other spent g x _ 0 n ∙ p .each x
         ∙ sym (ap (λ v. taken (tableOf bs) x i + v) (takes-away (kindAt (tableOf bs) i) x (openAt (tableOf bs) i) (λ z. n (z ∙ sym own))) ∙ add-zero _)
 
-pub ruleset spends = (spend-in, spend-fits, spend-more)
+pub spend-took : {bs spent took : List ℕ} {i g w : ℕ} {here : Place} → Stands bs i here → Spent bs spent i → g ≡ here .region → w ≡ takesAt (tableOf bs) i
+    → Spends bs i (set spent g (getD spent g 0 + w)) took (set took i (getD spent g 0))
+unfolding tookBefore placeOf
+spend-took {bs} {spent} {took} {i} {g} s p q e =
+    let own : g ≡ regionOf (openAt (tableOf bs) i) = q ∙ ap (λ x. x .region) (s .is) in
+    record { spent-is = spend-more s p q e; took-is = ap (set took i) (p .each g ∙ ap (λ x. taken (tableOf bs) x i) own) }
 
-pub record Spending (bs spent₀ spent : List ℕ) (i : ℕ) : Type 0 where
+pub ruleset spends = (spend-in, spend-fits, spend-took)
+
+pub record Spending (bs spent₀ spent took₀ took : List ℕ) (i : ℕ) : Type 0 where
   pub le : i ≤ length bs / 6
+  pub few-rows : length bs / 6 ≤ 1024
   pub same : length spent ≡ length spent₀
+  pub same-took : length took ≡ length took₀
+  pub room : 1024 ≤ length took₀
   pub is : Spent bs spent i
+  pub took-is : Took bs took i
 
-pub spend-start : {bs spent : List ℕ} → Spent bs spent 0 → Spending bs spent spent 0
-spend-start p = record { le = omega arith; same = refl; is = p }
+pub spend-start : {bs m spent took : List ℕ} → Surveyed bs m → Spent bs spent 0 → 1024 ≤ length took → Spending bs spent spent took took 0
+spend-start s p r =
+    record {
+      le = omega arith;
+      few-rows = s .few-rows;
+      same = refl;
+      same-took = refl;
+      room = r;
+      is = p;
+      took-is = record { each = λ k h. absurd (not-suc-le-zero h) };
+    }
 
-pub spend-again : {bs spent₀ spent spent′ : List ℕ} {i : ℕ} → Spending bs spent₀ spent i → i < length bs / 6 → Spent bs spent′ (suc i)
-    → length spent′ ≡ length spent → Spending bs spent₀ spent′ (i + 1)
-spend-again {bs} {spent₀} {spent} {spent′} {i} d l p k =
-    record { le = omega arith; same = k ∙ d .same; is = subst (Spent bs spent′) (sym (add-one i)) p }
+pub spend-again : {bs spent₀ spent spent′ took₀ took took′ : List ℕ} {i : ℕ} → Spending bs spent₀ spent took₀ took i → i < length bs / 6
+    → Spends bs i spent′ took took′ → length spent′ ≡ length spent → Spending bs spent₀ spent′ took₀ took′ (i + 1)
+spend-again {bs} {spent₀} {spent} {spent′} {took₀} {took} {took′} {i} d l p k =
+    record {
+      le = omega arith;
+      few-rows = d .few-rows;
+      same = k ∙ d .same;
+      same-took = ap length (p .took-is) ∙ length-set took i _ ∙ d .same-took;
+      room = d .room;
+      is = subst (Spent bs spent′) (sym (add-one i)) (p .spent-is);
+      took-is = record { each = λ j x. ap (λ y. getD y j 0) (p .took-is) ∙ by j (eq-or-lt-of-le (subst (λ z. j < z) (add-one i) x)) };
+    }
+  where
+    by : (j : ℕ) → (suc j ≡ suc i) ⊎ (suc j < suc i) → getD (set took i (tookBefore (tableOf bs) i)) j 0 ≡ tookBefore (tableOf bs) j
+    by j (inl x) =
+        let y : j ≡ i = omega arith in
+        rw y (getD-set-same took i _ 0 (omega (arith, d .same-took, d .few-rows, d .room)))
+    by j (inr x) = getD-set-other took i j _ 0 (omega arith) ∙ d .took-is .each j (omega arith)
 
-pub spend-all : {bs spent₀ spent : List ℕ} {i n : ℕ} → Spending bs spent₀ spent i → n ≡ length bs / 6 → n ≤ i → Spent bs spent (length bs / 6)
-spend-all {bs} {spent₀} {spent} {i} d q h = let x : i ≡ length bs / 6 = omega (arith, d .le) in subst (Spent bs spent) x (d .is)
+pub spend-all : {bs spent₀ spent took₀ took : List ℕ} {i n : ℕ} → Spending bs spent₀ spent took₀ took i → n ≡ length bs / 6 → n ≤ i
+    → Spent bs spent (length bs / 6)
+spend-all {bs} {spent = spent} {i = i} d q h = let x : i ≡ length bs / 6 = omega (arith, d .le) in subst (Spent bs spent) x (d .is)
 
-pub ruleset spendings = (spend-start, spend-again, spend-all)
+pub took-all : {bs spent₀ spent took₀ took : List ℕ} {i n : ℕ} → Spending bs spent₀ spent took₀ took i → n ≡ length bs / 6 → n ≤ i
+    → Took bs took (length bs / 6)
+took-all {bs} {took = took} {i = i} d q h = let x : i ≡ length bs / 6 = omega (arith, d .le) in subst (Took bs took) x (d .took-is)
+
+pub ruleset spendings = (spend-start, spend-again, spend-all, took-all)
 
 -- ---- the running sum
 pub record Summing (spent : List ℕ) (count : ℕ) (bases₀ bases : List ℕ) (total g : ℕ) : Type 0 where
@@ -155,18 +194,15 @@ bases-all {bs} {end = end} s p q u r =
 region-in : (bs : List ℕ) (i : ℕ) → i ≤ length bs / 6 → regionOf (openAt (tableOf bs) i) ≤ regions (tableOf bs) (length bs / 6)
 region-in bs i l = omega (arith, region-regions (tableOf bs) i, regions-mono (tableOf bs) {i = i} (length bs / 6) l)
 
-module _ {bs bases spent : List ℕ} {i g : ℕ} {here : Place} (s : Stands bs i here) (b : Based bs bases) (p : Spent bs spent i) (q : g ≡ here .region) where
+module _ {bs bases : List ℕ} {i g took : ℕ} {here : Place} (s : Stands bs i here) (b : Based bs bases) (p : took ≡ tookBefore (tableOf bs) i) (q : g ≡ here .region) where
   pub value-base-in : g < length bases
   value-base-in = omega (arith, s .region-low, s .row, s .few-rows, b .room)
 
-  pub value-spent-in : g < length spent
-  value-spent-in = omega (arith, s .region-low, s .row, s .few-rows, p .room)
-
-  pub value-is : getD bases g 0 + getD spent g 0 ≡ valueOf (tableOf bs) i
-  unfolding valueOf value placeOf
+  pub value-is : getD bases g 0 + took ≡ valueOf (tableOf bs) i
+  unfolding valueOf value placeOf tookBefore
   value-is =
       let own : g ≡ regionOf (openAt (tableOf bs) i) = q ∙ ap (λ x. x .region) (s .is) in
-      rw own (omega (arith, b .each (regionOf (openAt (tableOf bs) i)) (region-in bs i (s .row)), p .each (regionOf (openAt (tableOf bs) i))))
+      rw (own, p) (omega (arith, b .each (regionOf (openAt (tableOf bs) i)) (region-in bs i (s .row))))
 
 pub value-low : (bs : List ℕ) (i : ℕ) → verdictOf bs ≡ Accepted → i ≤ length bs / 6 → valueOf (tableOf bs) i ≤ 4000
 unfolding valueOf
@@ -174,50 +210,44 @@ value-low bs i a l =
     omega
     (arith, value-bound (tableOf bs) (regionOf (openAt (tableOf bs) i)) i (omega (arith, table-length bs)), region-regions (tableOf bs) i, regions-bound (tableOf bs) i, table-length bs, few-rows bs a)
 
-pub value-fits : {bs bases spent : List ℕ} {i g : ℕ} {here : Place} → Stands bs i here → Based bs bases → Spent bs spent i → g ≡ here .region
-    → Fits w16 (getD bases g 0 + getD spent g 0)
+pub value-fits : {bs bases : List ℕ} {i g took : ℕ} {here : Place} → Stands bs i here → Based bs bases → took ≡ tookBefore (tableOf bs) i → g ≡ here .region
+    → Fits w16 (getD bases g 0 + took)
 value-fits {bs} {i = i} s b p q = record { fits = omega (arith, value-is s b p q, value-low bs i (s .accepted) (s .row)) }
 
-pub ruleset valued = (value-base-in, value-spent-in, value-is, value-fits)
+pub ruleset valued = (value-base-in, value-is, value-fits)
 
-pub record Valuing (bs values₀ values spent : List ℕ) (i : ℕ) : Type 0 where
+pub record Valuing (bs values₀ values : List ℕ) (i : ℕ) : Type 0 where
   pub le : i ≤ length bs / 6
   pub few-rows : length bs / 6 ≤ 1024
   pub same : length values ≡ length values₀
-  pub words : length spent ≡ 1025
-  pub spent-is : Spent bs spent i
   pub is : (k : ℕ) → k < i → getD values k 0 ≡ valueOf (tableOf bs) k
+  pub rest : (k : ℕ) → i ≤ k → k < length bs / 6 → getD values k 0 ≡ tookBefore (tableOf bs) k
 
-pub value-start : {bs m values : List ℕ} → Surveyed bs m → Valuing bs values values (replicate 1025 0) 0
-value-start {bs} s =
-    record {
-      le = omega arith;
-      few-rows = s .few-rows;
-      same = refl;
-      words = length-replicate {A = ℕ} 1025 0;
-      spent-is = nothing-spent bs;
-      is = λ k h. absurd (not-suc-le-zero h);
-    }
+pub value-start : {bs m values : List ℕ} → Surveyed bs m → Took bs values (length bs / 6) → Valuing bs values values 0
+value-start {bs} s t =
+    record { le = omega arith; few-rows = s .few-rows; same = refl; is = λ k h. absurd (not-suc-le-zero h); rest = λ k h l. t .each k l }
 
-pub value-more : {bs values₀ values spent spent′ : List ℕ} {i v : ℕ} → Valuing bs values₀ values spent i → i < length bs / 6 → 1024 ≤ length values₀
-    → v ≡ valueOf (tableOf bs) i → Spent bs spent′ (suc i) → length spent′ ≡ length spent → Valuing bs values₀ (set values i v) spent′ (i + 1)
-value-more {bs} {values₀} {values} {spent} {spent′} {i} {v} d l r e p c =
+pub value-took : {bs values₀ values : List ℕ} {i : ℕ} → Valuing bs values₀ values i → i < length bs / 6 → getD values i 0 ≡ tookBefore (tableOf bs) i
+value-took {i = i} d l = d .rest i (omega arith) l
+
+pub value-more : {bs values₀ values : List ℕ} {i v : ℕ} → Valuing bs values₀ values i → i < length bs / 6 → 1024 ≤ length values₀
+    → v ≡ valueOf (tableOf bs) i → Valuing bs values₀ (set values i v) (i + 1)
+value-more {bs} {values₀} {values} {i} {v} d l r e =
     record {
       le = omega arith;
       few-rows = d .few-rows;
       same = length-set values i v ∙ d .same;
-      words = c ∙ d .words;
-      spent-is = subst (Spent bs spent′) (sym (add-one i)) p;
       is = λ k x. by k (eq-or-lt-of-le (subst (λ z. k < z) (add-one i) x));
+      rest = λ k h x. getD-set-other values i k v 0 (omega arith) ∙ d .rest k (omega arith) x;
     }
   where
     by : (k : ℕ) → (suc k ≡ suc i) ⊎ (suc k < suc i) → getD (set values i v) k 0 ≡ valueOf (tableOf bs) k
     by k (inl x) = let y : k ≡ i = omega arith in rw y (getD-set-same values i v 0 (omega (arith, d .same, d .few-rows)) ∙ e)
     by k (inr x) = getD-set-other values i k v 0 (omega arith) ∙ d .is k (omega arith)
 
-pub values-all : {bs values₀ values spent : List ℕ} {i n : ℕ} → Valuing bs values₀ values spent i → n ≡ length bs / 6 → n ≤ i → 1024 ≤ length values₀ → Valued bs values
-values-all {bs} {values₀} {values} {spent} {i} d q h r =
+pub values-all : {bs values₀ values : List ℕ} {i n : ℕ} → Valuing bs values₀ values i → n ≡ length bs / 6 → n ≤ i → 1024 ≤ length values₀ → Valued bs values
+values-all {bs} {values₀} {values} {i} d q h r =
     let x : i ≡ length bs / 6 = omega (arith, d .le) in
     record { room = omega (arith, d .same); each = λ k l. d .is k (omega arith) }
 
-pub ruleset valuings = (value-start, value-more, values-all)
+pub ruleset valuings = (value-start, value-took, value-more, values-all)

@@ -2,7 +2,7 @@
 use Prim.Native.Nat.{ℕ, zero, suc, _+_, _/_, _≤_, _<_}
 use mathlib.Core.Path.{_≡_}
 use mathlib.Core.List.{List}
-use lib.ListN.{length, getD}
+use lib.ListN.{length, getD, set}
 use Rattle.rules.specs.Row.{Table, tableOf, kindAt}
 use Rattle.rules.specs.Scan.{openAt, regionOf, regions}
 use Rattle.rules.specs.Value.{takesIn, taken, base, valueIn}
@@ -14,10 +14,23 @@ takesAt t i = takesIn (kindAt t i) (regionOf (openAt t i)) (openAt t i)
 unfoldable pub valueOf : Table → (i : ℕ) → ℕ
 valueOf t i = valueIn t i (openAt t i)
 
+-- what the rows before row i take in its region
+unfoldable pub tookBefore : Table → (i : ℕ) → ℕ
+tookBefore t i = taken t (regionOf (openAt t i)) i
+
+-- word k is that of row k, for the rows before row n
+pub record Took (bs took : List ℕ) (n : ℕ) : Type 0 where
+  pub each : (k : ℕ) → k < n → getD took k 0 ≡ tookBefore (tableOf bs) k
+
 -- word g is what the rows before row i take in region g
 pub record Spent (bs spent : List ℕ) (i : ℕ) : Type 0 where
   pub room : 1025 ≤ length spent
   pub each : (g : ℕ) → getD spent g 0 ≡ taken (tableOf bs) g i
+
+-- row i is added: the words of the regions, and word i of what was taken before
+pub record Spends (bs : List ℕ) (i : ℕ) (spent′ took took′ : List ℕ) : Type 0 where
+  pub spent-is : Spent bs spent′ (suc i)
+  pub took-is : took′ ≡ set took i (tookBefore (tableOf bs) i)
 
 -- 1 and the sizes of the regions before region g, where word h of the list is one below the size of region h
 unfoldable pub sums : List ℕ → (g : ℕ) → ℕ

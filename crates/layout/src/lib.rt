@@ -17,7 +17,9 @@ pub fn lay_out(rows: &[u8], map: &mut [u16], bases: &mut [u16], values: &mut [u1
     requires { ⌜ (6150 ≤ length (now map)) × (1025 ≤ length (now bases)) × (1024 ≤ length (now values)) ⌝ }
     ensures { λ _. ⌜ Laid (now (rows .entry)) (now (map .exit)) (now (bases .exit)) (now (values .exit)) ⌝ }
 {
+    let mut spent = [0u16; 1025];
     place::survey(rows, map);
-    number::region_bases(rows, map, bases);
+    number::spend_all(rows, map, &mut spent, values);
+    number::region_bases(rows, map, &spent, bases);
     number::row_values(rows, map, bases, values);
 }

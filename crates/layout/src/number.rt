@@ -4,7 +4,7 @@ ghost use Prim.Native.Nat.{ℕ, suc, _/_, _≤_, _<_};
 ghost use lib.ListN.{length};
 ghost use Rattle.rules.specs.Row.{tableOf};
 ghost use Rattle.layout.specs.Place.{Stands, Surveyed};
-ghost use Rattle.layout.specs.Number.{takesAt, valueOf, Spent, sums, Summed, Based, Valued};
+ghost use Rattle.layout.specs.Number.{takesAt, valueOf, tookBefore, Took, Spent, Spends, sums, Summed, Based, Valued};
 use crate::place;
 use crate::place::Place;
 use crate::row;
@@ -34,26 +34,28 @@ fn take(rows: &[u8], i: usize, here: Place) -> u16
     }
 }
 
-// Adds what row i takes to the word of its region.
-fn spend(rows: &[u8], map: &[u16], i: usize, spent: &mut [u16])
-    requires { ⌜ (Surveyed (now rows) (now map)) × (i < length (now rows) / 6) ⌝ }
+// Adds what row i takes to the word of its region, and keeps in word i of `took` what the rows before it took there.
+fn spend(rows: &[u8], map: &[u16], i: usize, spent: &mut [u16], took: &mut [u16])
+    requires { ⌜ (Surveyed (now rows) (now map)) × (i < length (now rows) / 6) × (1024 ≤ length (now took)) ⌝ }
     requires { ⌜ Spent (now rows) (now spent) i ⌝ }
-    ensures { λ _. ⌜ Spent (now (rows .entry)) (now (spent .exit)) (suc i) ⌝ }
+    ensures { λ _. ⌜ Spends (now (rows .entry)) i (now (spent .exit)) (now (took .entry)) (now (took .exit)) ⌝ }
 {
     let here = place::stand(rows, map, i);
     let g = row::index(here.region);
-    spent[g] = spent[g] + take(rows, i, here);
+    let before = spent[g];
+    took[i] = before;
+    spent[g] = before + take(rows, i, here);
 }
 
 // Adds up what all rows take, in each region.
-fn spend_all(rows: &[u8], map: &[u16], spent: &mut [u16])
-    requires { ⌜ (Surveyed (now rows) (now map)) × (Spent (now rows) (now spent) 0) ⌝ }
-    ensures { λ _. ⌜ Spent (now (rows .entry)) (now (spent .exit)) (length (now (rows .entry)) / 6) ⌝ }
+pub fn spend_all(rows: &[u8], map: &[u16], spent: &mut [u16], took: &mut [u16])
+    requires { ⌜ (Surveyed (now rows) (now map)) × (Spent (now rows) (now spent) 0) × (1024 ≤ length (now took)) ⌝ }
+    ensures { λ _. ⌜ (Spent (now (rows .entry)) (now (spent .exit)) (length (now (rows .entry)) / 6)) × (Took (now (rows .entry)) (now (took .exit)) (length (now (rows .entry)) / 6)) ⌝ }
 {
     let n = rows.len() / row::WIDTH;
     let mut i = 0;
     while i < n {
-        spend(rows, map, i, spent);
+        spend(rows, map, i, spent, took);
         i += 1;
     }
 }
@@ -73,41 +75,38 @@ fn sum(spent: &[u16], bases: &mut [u16], count: usize)
     }
 }
 
-// The bases of all regions: word g is the base of region g.
-pub fn region_bases(rows: &[u8], map: &[u16], bases: &mut [u16])
-    requires { ⌜ (Surveyed (now rows) (now map)) × (1025 ≤ length (now bases)) ⌝ }
+// The bases of all regions, where it is known what all rows take: word g is the base of region g.
+pub fn region_bases(rows: &[u8], map: &[u16], spent: &[u16], bases: &mut [u16])
+    requires { ⌜ (Surveyed (now rows) (now map)) × (Spent (now rows) (now spent) (length (now rows) / 6)) × (1025 ≤ length (now bases)) ⌝ }
     ensures { λ _. ⌜ Based (now (rows .entry)) (now (bases .exit)) ⌝ }
 {
-    let mut spent = [0u16; 1025];
-    spend_all(rows, map, &mut spent);
     let n = rows.len() / row::WIDTH;
     let end = place::stand(rows, map, n);
     let count = row::index(end.opened) + 1;
-    sum(&spent, bases, count);
+    sum(spent, bases, count);
 }
 
-// The value of row i: the base of its region and what the rows before it take there.
-fn value(rows: &[u8], map: &[u16], bases: &[u16], spent: &[u16], i: usize) -> u16
+// The value of row i: the base of its region and what the rows before it took there.
+fn value(rows: &[u8], map: &[u16], bases: &[u16], i: usize, took: u16) -> u16
     requires { ⌜ (Surveyed (now rows) (now map)) × (i < length (now rows) / 6) ⌝ }
-    requires { ⌜ (Based (now rows) (now bases)) × (Spent (now rows) (now spent) i) ⌝ }
+    requires { ⌜ (Based (now rows) (now bases)) × (took ≡ tookBefore (tableOf (now rows)) i) ⌝ }
     ensures { λ r. ⌜ r ≡ valueOf (tableOf (now (rows .entry))) i ⌝ }
 {
     let here = place::stand(rows, map, i);
     let g = row::index(here.region);
-    bases[g] + spent[g]
+    bases[g] + took
 }
 
-// The values of all rows: word i is the value of row i.
+// The values of all rows: word i, which was what the rows before row i took in its region, becomes the value of row i.
 pub fn row_values(rows: &[u8], map: &[u16], bases: &[u16], values: &mut [u16])
     requires { ⌜ (Surveyed (now rows) (now map)) × (Based (now rows) (now bases)) × (1024 ≤ length (now values)) ⌝ }
+    requires { ⌜ Took (now rows) (now values) (length (now rows) / 6) ⌝ }
     ensures { λ _. ⌜ Valued (now (rows .entry)) (now (values .exit)) ⌝ }
 {
-    let mut spent = [0u16; 1025];
     let n = rows.len() / row::WIDTH;
     let mut i = 0;
     while i < n {
-        values[i] = value(rows, map, bases, &spent, i);
-        spend(rows, map, i, &mut spent);
+        values[i] = value(rows, map, bases, i, values[i]);
         i += 1;
     }
 }

@@ -1,22 +1,13 @@
 use native.Mathlib.Omega.{arith}
-use Rattle.layout.proofs.Numbers.{nothing-spent, sums-fit, bases-all}
+use Rattle.layout.proofs.Numbers.{sums-fit, bases-all}
 use borrow.Author.Needs.{needs}
 use Rattle.layout.proofs.number.region_bases.Statement.{statement}
 use Rattle.layout.proofs.number.region_bases.Tie as tie
 use Rattle.layout.proofs.number.region_bases.Reads as reads
 use Rattle.layout.proofs.number.region_bases.Lts as lts
-use Rattle.layout.proofs.number.spend_all.Reads as spend-all-reads
 use Rattle.layout.proofs.number.sum.Reads as sum-reads
 use Rattle.layout.proofs.place.stand.Reads as stand-reads
 use Rattle.layout.proofs.row.index.Reads as index-reads
-
--- src/number.rt:82:26
-slice-aggregate-spend-all : tie.Need-slice-aggregate-spend-all
-slice-aggregate-spend-all c = search needs
-
--- src/number.rt:82:5
-spend-all-requires : tie.Need-spend-all-requires
-spend-all-requires c κs = search (nothing-spent, needs)
 
 -- src/number.rt:84:9
 stand-requires : tie.Need-stand-requires
@@ -30,32 +21,18 @@ index-requires c κs = search needs
 add-count : tie.Need-add-count
 add-count c = search needs
 
--- src/number.rt:86:9
-slice-aggregate-sum : tie.Need-slice-aggregate-sum
-slice-aggregate-sum c = search needs
-
 -- src/number.rt:86:5
 sum-requires : tie.Need-sum-requires
 sum-requires c κs = search (sums-fit, needs)
 
--- src/number.rt:77:1
+-- src/number.rt:79:1
 same-length : tie.Need-same-length
 same-length c = search needs
 
--- src/number.rt:77:1
+-- src/number.rt:79:1
 returns : tie.Need-returns
-returns c = bases-all (c .before .before .before .before .before .before .stand .ensures) (c .before .before .before .before .before .before .before .before .spend-all .ensures) (c .before .before .before .before .before .index .ensures) (c .before .before .sum .ensures) (omega arith)
+returns c = bases-all (c .before .before .before .before .before .stand .ensures) (c .before .before .before .before .before .before .before .before .before .before .pre .1) (c .before .before .before .before .index .ensures) (c .before .before .sum .ensures) (omega arith)
 
 pub region-bases-spec : {M : Type 1} → statement M
 region-bases-spec =
-    tie.close
-    (tie.spec
-    slice-aggregate-spend-all
-    spend-all-requires
-    stand-requires
-    index-requires
-    add-count
-    slice-aggregate-sum
-    sum-requires
-    same-length
-    returns)
+    tie.close (tie.spec stand-requires index-requires add-count sum-requires same-length returns)

@@ -6,22 +6,25 @@ use Rattle.layout.proofs.number.row_values.Statement.{statement}
 use Rattle.layout.proofs.number.row_values.Tie as tie
 use Rattle.layout.proofs.number.row_values.Reads as reads
 use Rattle.layout.proofs.number.row_values.Lts as lts
-use Rattle.layout.proofs.number.spend.Reads as spend-reads
 use Rattle.layout.proofs.number.value.Reads as value-reads
 
 abbrev Inv-loop : tie.InvT-loop
-Inv-loop rows map bases values₀ spent₀ n i₀ values spent i = Valuing rows values₀ values spent i
+Inv-loop rows map bases values₀ n i₀ values i = Valuing rows values₀ values i
 
 abbrev μ-loop : tie.MeasureT-loop
-μ-loop rows map bases values₀ spent₀ n i₀ values spent i = n - i
+μ-loop rows map bases values₀ n i₀ values i = n - i
 
 -- src/number.rt:108:5
 loop-holds : tie.Need-loop-holds Inv-loop μ-loop
 loop-holds c = search (valuings, needs)
 
--- src/number.rt:109:45
-slice-aggregate-value : tie.Need-slice-aggregate-value Inv-loop μ-loop
-slice-aggregate-value c = search (valuings, needs)
+-- src/number.rt:109:48
+mul-value : tie.Need-mul-value Inv-loop μ-loop
+mul-value c = search needs
+
+-- src/number.rt:109:48
+slice-read-value : tie.Need-slice-read-value Inv-loop μ-loop
+slice-read-value c = search needs
 
 -- src/number.rt:109:21
 value-requires : tie.Need-value-requires Inv-loop μ-loop
@@ -35,15 +38,7 @@ mul-values c = search (valuings, needs)
 slice-write-values : tie.Need-slice-write-values Inv-loop μ-loop
 slice-write-values c = search (valuings, needs)
 
--- src/number.rt:110:29
-slice-aggregate-spend : tie.Need-slice-aggregate-spend Inv-loop μ-loop
-slice-aggregate-spend c = search (valuings, needs)
-
 -- src/number.rt:110:9
-spend-requires : tie.Need-spend-requires Inv-loop μ-loop
-spend-requires c κs = search (valuings, needs)
-
--- src/number.rt:111:9
 add-i : tie.Need-add-i Inv-loop μ-loop
 add-i c = omega arith
 
@@ -70,12 +65,11 @@ row-values-spec =
     Inv-loop
     μ-loop
     loop-holds
-    slice-aggregate-value
+    mul-value
+    slice-read-value
     value-requires
     mul-values
     slice-write-values
-    slice-aggregate-spend
-    spend-requires
     add-i
     loop-less
     loop-again

@@ -1,4 +1,6 @@
+use native.Mathlib.Omega.{arith}
 use Rattle.layout.proofs.Numbers.{spends}
+use lib.ListN.{length-set}
 use borrow.Author.Needs.{needs}
 use Rattle.layout.proofs.number.spend.Statement.{statement}
 use Rattle.layout.proofs.number.spend.Tie as tie
@@ -16,33 +18,45 @@ stand-requires c κs = search needs
 index-requires : tie.Need-index-requires
 index-requires c κs = search needs
 
--- src/number.rt:45:16
-mul-spent : tie.Need-mul-spent
-mul-spent c = search needs
+-- src/number.rt:45:18
+mul-before : tie.Need-mul-before
+mul-before c = search needs
 
--- src/number.rt:45:16
-slice-read-spent : tie.Need-slice-read-spent
-slice-read-spent c = search needs
+-- src/number.rt:45:18
+slice-read-before : tie.Need-slice-read-before
+slice-read-before c = search needs
 
--- src/number.rt:45:27
+-- src/number.rt:46:5
+mul-took : tie.Need-mul-took
+mul-took c = search needs
+
+-- src/number.rt:46:5
+slice-write-took : tie.Need-slice-write-took
+slice-write-took c = search needs
+
+-- src/number.rt:47:25
 take-requires : tie.Need-take-requires
 take-requires c κs = search needs
 
--- src/number.rt:45:16
+-- src/number.rt:47:16
 add-spent : tie.Need-add-spent
 add-spent c = search (spends, needs)
 
--- src/number.rt:45:5
-mul-spent-2 : tie.Need-mul-spent-2
-mul-spent-2 c = search needs
+-- src/number.rt:47:5
+mul-spent : tie.Need-mul-spent
+mul-spent c = search needs
 
--- src/number.rt:45:5
+-- src/number.rt:47:5
 slice-write-spent : tie.Need-slice-write-spent
 slice-write-spent c = search needs
 
 -- src/number.rt:38:1
 same-length : tie.Need-same-length
 same-length c = search needs
+
+-- src/number.rt:38:1
+same-length-2 : tie.Need-same-length-2
+same-length-2 c = search needs
 
 -- src/number.rt:38:1
 returns : tie.Need-returns
@@ -54,11 +68,14 @@ spend-spec =
     (tie.spec
     stand-requires
     index-requires
-    mul-spent
-    slice-read-spent
+    mul-before
+    slice-read-before
+    mul-took
+    slice-write-took
     take-requires
     add-spent
-    mul-spent-2
+    mul-spent
     slice-write-spent
     same-length
+    same-length-2
     returns)

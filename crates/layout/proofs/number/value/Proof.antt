@@ -1,3 +1,4 @@
+use native.Mathlib.Omega.{arith}
 use Rattle.layout.proofs.Numbers.{valued}
 use borrow.Author.Needs.{needs}
 use Rattle.layout.proofs.number.value.Statement.{statement}
@@ -23,14 +24,6 @@ mul-result c = search needs
 shared-slice-read-result : tie.Need-shared-slice-read-result
 shared-slice-read-result c = search needs
 
--- src/number.rt:97:16
-mul-result-2 : tie.Need-mul-result-2
-mul-result-2 c = search needs
-
--- src/number.rt:97:16
-shared-slice-read-result-2 : tie.Need-shared-slice-read-result-2
-shared-slice-read-result-2 c = search needs
-
 -- src/number.rt:97:5
 add-result : tie.Need-add-result
 add-result c = search (valued, needs)
@@ -42,12 +35,4 @@ returns c = search (valued, needs)
 pub value-spec : {M : Type 1} → statement M
 value-spec =
     tie.close
-    (tie.spec
-    stand-requires
-    index-requires
-    mul-result
-    shared-slice-read-result
-    mul-result-2
-    shared-slice-read-result-2
-    add-result
-    returns)
+    (tie.spec stand-requires index-requires mul-result shared-slice-read-result add-result returns)
