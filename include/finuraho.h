@@ -52,11 +52,11 @@ extern "C" {
 #define FINURAHO_LINE_BYTES 20
 #define FINURAHO_MAX_ROWS 1024
 #define FINURAHO_MAX_LINES 2048
-#define FINURAHO_MAX_ROW_BYTES 6144   /* every source table fits: 1,024 rows of 6 bytes */
-#define FINURAHO_MAX_LINE_BYTES 40960 /* every hardened table fits: 2,048 lines of 20 bytes */
+#define FINURAHO_MAX_SOURCE_BYTES 6144    /* every source table fits: 1,024 rows of 6 bytes */
+#define FINURAHO_MAX_HARDENED_BYTES 40960 /* every hardened table fits: 2,048 lines of 20 bytes */
 #define FINURAHO_VARIABLES 16
-#define FINURAHO_COUNTER_WORDS 1024   /* words of 16 bits: 2,048 bytes */
-#define FINURAHO_MAX_BUDGET 65535     /* as many trace slots, 131,070 bytes, are enough for every run */
+#define FINURAHO_COUNTER_WORDS 1024       /* words of 16 bits: 2,048 bytes */
+#define FINURAHO_MAX_BUDGET 65535         /* as many trace slots, 131,070 bytes, are enough for every run */
 
 /* The other limits of a table and of a run. */
 #define FINURAHO_MAX_FUNCTIONS 32  /* in a table */
