@@ -1,0 +1,79 @@
+/* Document 01's example program, hardened and run: unstruck, struck by a jump that the counters catch, and by one that they cannot. */
+#include <finuraho.h>
+#include <stdio.h>
+#include <stdlib.h>
+
+#define BUDGET 20
+
+/* v0 = 2; while v0 differs from 0: v0 = v0 - v1. */
+static const uint8_t ROWS[] = {
+    0x01, 0, 0, 0, 0, 0, /* row 0: function opens */
+    0x02, 0, 0, 0, 2, 0, /* row 1: v0 = 2 */
+    0x05, 1, 0, 0, 0, 0, /* row 2: while v0 differs from 0 */
+    0x02, 3, 0, 1, 0, 0, /* row 3: v0 = v0 - v1 */
+    0x06, 0, 0, 0, 0, 0, /* row 4: end of loop */
+    0x06, 0, 0, 0, 0, 0, /* row 5: end of function */
+};
+
+static const uint16_t VALUES[FINURAHO_VARIABLES] = {0, 1};
+
+static const char *const OUTCOMES[] = {"budget spent", "finished", "alarm", "too many open functions", "place beyond the last"};
+
+static void stop_if_refused(uint8_t number)
+{
+    if (number == FINURAHO_ACCEPTED)
+        return;
+    printf("refused %u\n", number);
+    exit(EXIT_FAILURE);
+}
+
+static void print_lines(const uint8_t *lines, size_t length)
+{
+    size_t at;
+    for (at = 0; at < length; at++) {
+        printf("%02x", lines[at]);
+        if (at % FINURAHO_LINE_BYTES == FINURAHO_LINE_BYTES - 1)
+            printf("\n");
+    }
+}
+
+static void print_run(const char *what, finuraho_ran ran, const uint16_t *trace)
+{
+    size_t slot;
+    stop_if_refused(ran.number);
+    printf("%s: %s, %u steps, v0 = %u, trace", what, OUTCOMES[ran.outcome], ran.steps, ran.variables[0]);
+    for (slot = 0; slot < ran.traced; slot++)
+        printf(" %u", trace[slot]);
+    printf(ran.traced == 0 ? " empty\n" : "\n");
+}
+
+static void run_source(void)
+{
+    uint16_t trace[BUDGET];
+    finuraho_ran ran = finuraho_run_source(ROWS, sizeof ROWS, VALUES, BUDGET, trace, BUDGET);
+    print_run("source", ran, trace);
+}
+
+static void run_hardened(const char *what, const uint8_t *lines, size_t length, uint16_t step, uint16_t place)
+{
+    uint16_t trace[BUDGET];
+    uint16_t counters[FINURAHO_COUNTER_WORDS];
+    finuraho_ran ran = finuraho_run_hardened(lines, length, VALUES, BUDGET, step, place, trace, BUDGET, counters,
+                                             FINURAHO_COUNTER_WORDS);
+    print_run(what, ran, trace);
+}
+
+int main(void)
+{
+    uint8_t lines[2 * FINURAHO_LINE_BYTES * (sizeof ROWS / FINURAHO_ROW_BYTES)];
+    finuraho_wrote wrote = finuraho_harden(ROWS, sizeof ROWS, lines, sizeof lines);
+    stop_if_refused(wrote.number);
+    print_lines(lines, wrote.length);
+    run_source();
+    run_hardened("hardened", lines, wrote.length, FINURAHO_NO_JUMP, 0);
+    /* From inside the loop to the return, over the guards between: caught before v0 = 1 is taken for the result. */
+    run_hardened("jump before step 4 to place 6", lines, wrote.length, 4, 6);
+    /* Over line 0 alone, a do: no guard lies between, so the run goes on as if nothing had happened, without row 1. */
+    run_hardened("jump before step 0 to place 1", lines, wrote.length, 0, 1);
+    return 0;
+}

@@ -1,0 +1,75 @@
+//! Document 01's example program, hardened and run: unstruck, struck by a jump that the counters
+//! catch, and by one that they cannot.
+
+mod finuraho;
+
+use std::process::ExitCode;
+
+use finuraho::{Jump, Ran, Refused, Variables, LINE_BYTES};
+
+const BUDGET: usize = 20;
+
+/// v0 = 2; while v0 differs from 0: v0 = v0 - v1.
+const ROWS: [[u8; 6]; 6] = [
+    [0x01, 0, 0, 0, 0, 0], // row 0: function opens
+    [0x02, 0, 0, 0, 2, 0], // row 1: v0 = 2
+    [0x05, 1, 0, 0, 0, 0], // row 2: while v0 differs from 0
+    [0x02, 3, 0, 1, 0, 0], // row 3: v0 = v0 - v1
+    [0x06, 0, 0, 0, 0, 0], // row 4: end of loop
+    [0x06, 0, 0, 0, 0, 0], // row 5: end of function
+];
+
+const VALUES: Variables = [0, 1, 0, 0, 0, 0, 0, 0, 0, 0, 0, 0, 0, 0, 0, 0];
+
+const OUTCOMES: [&str; 5] =
+    ["budget spent", "finished", "alarm", "too many open functions", "place beyond the last"];
+
+fn main() -> ExitCode {
+    match example() {
+        Ok(()) => ExitCode::SUCCESS,
+        Err(Refused(number)) => {
+            println!("refused {number}");
+            ExitCode::FAILURE
+        }
+    }
+}
+
+fn example() -> Result<(), Refused> {
+    let rows = ROWS.as_flattened();
+    // A row hardens to at most two lines.
+    let mut out = [0; 2 * LINE_BYTES * ROWS.len()];
+    let lines = finuraho::harden(rows, &mut out)?;
+    for line in lines.chunks(LINE_BYTES) {
+        println!("{}", line.iter().map(|byte| format!("{byte:02x}")).collect::<String>());
+    }
+    let mut trace = [0; BUDGET];
+    let ran = finuraho::run_source(rows, &VALUES, &mut trace)?;
+    show("source", &ran, &trace);
+    run_hardened("hardened", lines, None)?;
+    // From inside the loop to the return, over the guards between: caught before v0 = 1 is taken
+    // for the result.
+    let wide = Jump { step: 4, place: 6 };
+    run_hardened("jump before step 4 to place 6", lines, Some(wide))?;
+    // Over line 0 alone, a do: no guard lies between, so the run goes on as if nothing had
+    // happened, without row 1.
+    let narrow = Jump { step: 0, place: 1 };
+    run_hardened("jump before step 0 to place 1", lines, Some(narrow))
+}
+
+fn run_hardened(what: &str, lines: &[u8], jump: Option<Jump>) -> Result<(), Refused> {
+    let mut trace = [0; BUDGET];
+    let ran = finuraho::run_hardened(lines, &VALUES, jump, &mut trace)?;
+    show(what, &ran, &trace);
+    Ok(())
+}
+
+fn show(what: &str, ran: &Ran, trace: &[u16]) {
+    let outcome = OUTCOMES[usize::from(ran.outcome)];
+    let (steps, v0) = (ran.steps, ran.variables[0]);
+    print!("{what}: {outcome}, {steps} steps, v0 = {v0}, trace");
+    let done = &trace[..usize::from(ran.traced)];
+    for row in done {
+        print!(" {row}");
+    }
+    println!("{}", if done.is_empty() { " empty" } else { "" });
+}

@@ -1,0 +1,135 @@
+/* Finuraho: checks and hardens fee-card programs, reads hardened ones back, and runs both.
+ *
+ * The rules are document 01, "Counter-hardened statement tables for fee cards". What each call gives back, for all bytes, numbers
+ * and buffers, is proved (crates/finuraho/src/export.rt) to be what crates/rules/specs/Calls.antt says. That this header fits the
+ * library is not proved: tests/header/run tests it.
+ *
+ * `rt staticlib finuraho` makes target/staticlib/libfinuraho.a, the library to link. Of the C library it needs memcpy and memset.
+ *
+ * What a caller must keep, in every call:
+ *   - A pointer followed by a length is valid for that many elements, bytes or 16-bit words, until the call returns. With the
+ *     length 0 it may be NULL.
+ *   - `variables` is not NULL: it is valid for 16 words.
+ *   - A pointer to words is aligned as uint16_t is.
+ *   - A buffer that is lent to be written (out, trace, counters) overlaps no other buffer of that call. Buffers that are only read
+ *     may overlap each other.
+ *   - No other thread writes to a buffer of the call, or reads one that is lent to be written, until the call returns.
+ * Nothing else is asked: any bytes, any numbers and any lengths get an answer. A call allocates nothing and keeps nothing for the
+ * next one, so threads may call at the same time with buffers of their own.
+ */
+#ifndef FINURAHO_H
+#define FINURAHO_H
+
+#include <stddef.h>
+#include <stdint.h>
+
+#ifdef __cplusplus
+extern "C" {
+#endif
+
+/* The number of a call: 0, or why it was turned away. After any number but 0 every lent buffer is as it was. */
+#define FINURAHO_ACCEPTED 0
+#define FINURAHO_NO_WHOLE_ROWS 1      /* the bytes are no whole rows, or there are none */
+#define FINURAHO_TOO_MANY_ROWS 2      /* over 1,024 rows */
+#define FINURAHO_WRONG_FIELD 3        /* a kind, op, p, q or an unused field is wrong */
+#define FINURAHO_MISPLACED 4          /* a row stands where it may not, or something is left open at the end */
+#define FINURAHO_TOO_MANY_FUNCTIONS 5 /* a 33rd function */
+#define FINURAHO_TOO_MANY_PARTS 6     /* a 17th open if or loop, or a 65th region in a function */
+#define FINURAHO_NO_SUCH_FUNCTION 7   /* a call of a function that is not there */
+#define FINURAHO_SHORT_OUTPUT 8       /* `out` is shorter than the answer */
+#define FINURAHO_SHORT_ROOM 9         /* fewer trace slots than the budget, or fewer than 1,024 counter words */
+#define FINURAHO_NOT_HARDENED 10      /* no source table hardens to these bytes */
+
+/* The outcome of an accepted run. The step that ends in an alarm or in too many open functions is counted. */
+#define FINURAHO_BUDGET_SPENT 0  /* exactly the budget was taken */
+#define FINURAHO_FINISHED 1
+#define FINURAHO_ALARM 2
+#define FINURAHO_TOO_MANY_OPEN 3 /* a call with 16 functions open; it is not made */
+#define FINURAHO_BEYOND 4        /* the jump's place is beyond the function's last; the step struck is not taken */
+
+/* Sizes. A row hardens to at most 2 lines, so 40 bytes for each row are room enough for its hardened table. */
+#define FINURAHO_ROW_BYTES 6
+#define FINURAHO_LINE_BYTES 20
+#define FINURAHO_MAX_ROWS 1024
+#define FINURAHO_MAX_LINES 2048
+#define FINURAHO_MAX_SOURCE_BYTES 6144    /* every source table fits: 1,024 rows of 6 bytes */
+#define FINURAHO_MAX_HARDENED_BYTES 40960 /* every hardened table fits: 2,048 lines of 20 bytes */
+#define FINURAHO_VARIABLES 16
+#define FINURAHO_COUNTER_WORDS 1024       /* words of 16 bits: 2,048 bytes */
+#define FINURAHO_MAX_BUDGET 65535         /* as many trace slots, 131,070 bytes, are enough for every run */
+
+/* The other limits of a table and of a run. */
+#define FINURAHO_MAX_FUNCTIONS 32  /* in a table */
+#define FINURAHO_MAX_CONSTRUCTS 16 /* ifs and loops open at one row */
+#define FINURAHO_MAX_REGIONS 64    /* in a function, its body among them */
+#define FINURAHO_MAX_OPEN 16       /* functions open in a run, the first among them */
+
+/* The step number that means no jump, whatever the place. */
+#define FINURAHO_NO_JUMP 65535
+
+/* The answer of a call that writes a table. */
+typedef struct finuraho_wrote {
+    uint8_t number; /* 0, or why the call was turned away */
+    size_t length;  /* the answer's bytes, from the front of `out`; 0 where the call was turned away */
+} finuraho_wrote;
+
+/* The answer of a run. Turned away: outcome, steps and traced are 0 and the variables are those given. */
+typedef struct finuraho_ran {
+    uint8_t number;                         /* 0, or why the call was turned away */
+    uint8_t outcome;                        /* how the run ended: 0 to 4; it means nothing where number is not 0 */
+    uint16_t steps;                         /* the steps taken: at most the budget */
+    uint16_t traced;                        /* the trace's length: that many slots from the front of `trace` */
+    uint16_t variables[FINURAHO_VARIABLES]; /* v0 to v15 as the run left them */
+} finuraho_ran;
+
+/* Checks a source table.
+ * rows, rows_len: its bytes, 6 a row; only read.
+ * Returns 0, or 1 to 7. */
+uint8_t finuraho_check(const uint8_t *rows, size_t rows_len);
+
+/* Hardens a source table.
+ * rows, rows_len: its bytes, 6 a row; only read.
+ * out, out_len: room for the answer, in bytes; what it holds before does not matter. Accepted: the hardened table, 20 bytes a line,
+ *     stands at its front, and the bytes beyond `length` are as they were. Turned away: all bytes are as they were.
+ * Turned away with 1 to 7, or 8 where out_len is less than the answer's bytes; equal is enough. */
+finuraho_wrote finuraho_harden(const uint8_t *rows, size_t rows_len, uint8_t *out, size_t out_len);
+
+/* Checks a hardened table.
+ * lines, lines_len: its bytes, 20 a line; only read.
+ * Returns 0 where some source table hardens to exactly these bytes, else 10. */
+uint8_t finuraho_check_hardened(const uint8_t *lines, size_t lines_len);
+
+/* Reads a hardened table back.
+ * lines, lines_len: its bytes, 20 a line; only read.
+ * out, out_len: room for the answer, in bytes; what it holds before does not matter. Accepted: the source table, 6 bytes a row,
+ *     stands at its front, and the bytes beyond `length` are as they were. Turned away: all bytes are as they were.
+ * Turned away with 10, or 8 where out_len is less than the answer's bytes; equal is enough. */
+finuraho_wrote finuraho_read_back(const uint8_t *lines, size_t lines_len, uint8_t *out, size_t out_len);
+
+/* Runs a source table.
+ * rows, rows_len: its bytes, 6 a row; only read.
+ * variables: the first values of v0 to v15; only read, the last values are in the answer.
+ * budget: the most steps that the run may take.
+ * trace, trace_len: slots for the trace, in words; what they hold before does not matter. Accepted: the row numbers of the dos done,
+ *     in order, stand at its front, and the slots beyond `traced` are as they were. Turned away: all slots are as they were.
+ * Turned away with 1 to 7, or 9 where trace_len is less than the budget, whatever the run would need; equal is enough. */
+finuraho_ran finuraho_run_source(const uint8_t *rows, size_t rows_len, const uint16_t variables[FINURAHO_VARIABLES],
+                                 uint16_t budget, uint16_t *trace, size_t trace_len);
+
+/* Runs a hardened table, with one jump or none.
+ * lines, lines_len: its bytes, 20 a line; only read.
+ * variables, budget, trace, trace_len: as for a source run.
+ * step, place: before step `step`, from 0, the running function goes to its place `place`, counted from its first line.
+ *     FINURAHO_NO_JUMP as the step is no jump. A run that ends before that step, or has it as its budget, is not struck.
+ * counters, counters_len: at least 1,024 words for the run's counters; what they hold before does not matter. Accepted: the first
+ *     1,024 are 0, those beyond are as they were. Turned away: all words are as they were.
+ * Turned away with 10, or 9 where trace_len is less than the budget or counters_len less than 1,024. */
+finuraho_ran finuraho_run_hardened(const uint8_t *lines, size_t lines_len, const uint16_t variables[FINURAHO_VARIABLES],
+                                   uint16_t budget, uint16_t step, uint16_t place, uint16_t *trace, size_t trace_len,
+                                   uint16_t *counters, size_t counters_len);
+
+#ifdef __cplusplus
+}
+#endif
+
+#endif

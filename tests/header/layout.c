@@ -1,0 +1,18 @@
+/* Prints where the header puts each field of the two structs; layout/src/main.rs prints the same from bench's Rust declarations. */
+#include <finuraho.h>
+#include <stddef.h>
+#include <stdio.h>
+
+int main(void)
+{
+    printf("wrote %zu\n", sizeof(finuraho_wrote));
+    printf("number %zu\n", offsetof(finuraho_wrote, number));
+    printf("length %zu\n", offsetof(finuraho_wrote, length));
+    printf("ran %zu\n", sizeof(finuraho_ran));
+    printf("number %zu\n", offsetof(finuraho_ran, number));
+    printf("outcome %zu\n", offsetof(finuraho_ran, outcome));
+    printf("steps %zu\n", offsetof(finuraho_ran, steps));
+    printf("traced %zu\n", offsetof(finuraho_ran, traced));
+    printf("variables %zu\n", offsetof(finuraho_ran, variables));
+    return 0;
+}

@@ -1,0 +1,226 @@
+/* Brings about each number and each outcome that the header names, and calls every function with NULL where it lends nothing.
+ * Compiled as C and as C++. */
+#include <finuraho.h>
+#include <stdio.h>
+#include <string.h>
+
+/* Kinds of rows (01, "The source table"). */
+enum { FUNCTION = 1, DO = 2, IF = 3, LOOP = 5, END = 6, CALL = 9 };
+
+#define BUDGET 20
+
+static uint8_t rows[FINURAHO_MAX_SOURCE_BYTES + FINURAHO_ROW_BYTES];
+static size_t length;
+static uint8_t lines[FINURAHO_MAX_HARDENED_BYTES];
+static uint16_t trace[BUDGET];
+static uint16_t counters[FINURAHO_COUNTER_WORDS];
+static const uint16_t values[FINURAHO_VARIABLES] = {0, 1};
+static int checked;
+static int failed;
+
+static void expect(const char *what, size_t got, size_t must)
+{
+    checked++;
+    if (got == must)
+        return;
+    failed++;
+    printf("%s: %zu, must be %zu\n", what, got, must);
+}
+
+static void put(uint8_t kind, uint8_t op, uint8_t p, uint8_t q, uint16_t n)
+{
+    const uint8_t row[FINURAHO_ROW_BYTES] = {kind, op, p, q, (uint8_t)(n % 256), (uint8_t)(n / 256)};
+    memcpy(rows + length, row, sizeof row);
+    length += sizeof row;
+}
+
+static void put_many(int count, uint8_t kind)
+{
+    int i;
+    for (i = 0; i < count; i++)
+        put(kind, 0, 0, 0, 0);
+}
+
+/* 01's example: v0 = 2, then v1 is taken away from it until it is 0. */
+static void put_example(void)
+{
+    length = 0;
+    put(FUNCTION, 0, 0, 0, 0);
+    put(DO, 0, 0, 0, 2);
+    put(LOOP, 1, 0, 0, 0);
+    put(DO, 3, 0, 1, 0);
+    put_many(2, END);
+}
+
+static size_t put_hardened(void)
+{
+    finuraho_wrote wrote = finuraho_harden(rows, length, lines, sizeof lines);
+    expect("hardening", wrote.number, FINURAHO_ACCEPTED);
+    return wrote.length;
+}
+
+/* One function: so many dos. */
+static void put_dos(int count)
+{
+    length = 0;
+    put(FUNCTION, 0, 0, 0, 0);
+    put_many(count, DO);
+    put(END, 0, 0, 0, 0);
+}
+
+static void too_many_rows(void)
+{
+    put_dos(FINURAHO_MAX_ROWS - 2);
+    expect("bytes of 1,024 rows", length, FINURAHO_MAX_SOURCE_BYTES);
+    expect("1,024 rows", finuraho_check(rows, length), FINURAHO_ACCEPTED);
+    expect("lines within their room", put_hardened() <= FINURAHO_MAX_LINES * FINURAHO_LINE_BYTES, 1);
+    put_dos(FINURAHO_MAX_ROWS - 1);
+    expect("1,025 rows", finuraho_check(rows, length), FINURAHO_TOO_MANY_ROWS);
+}
+
+static void wrong_or_misplaced(void)
+{
+    put_example();
+    expect("half a row", finuraho_check(rows, length - 3), FINURAHO_NO_WHOLE_ROWS);
+    rows[0] = 0x0a;
+    expect("no such kind", finuraho_check(rows, length), FINURAHO_WRONG_FIELD);
+    put_example();
+    expect("a lone function row", finuraho_check(rows, FINURAHO_ROW_BYTES), FINURAHO_MISPLACED);
+    length = 0;
+    put(FUNCTION, 0, 0, 0, 0);
+    put(CALL, 0, 0, 0, 1);
+    put(END, 0, 0, 0, 0);
+    expect("no such function", finuraho_check(rows, length), FINURAHO_NO_SUCH_FUNCTION);
+}
+
+static uint8_t check_functions(int count)
+{
+    int i;
+    length = 0;
+    for (i = 0; i < count; i++) {
+        put(FUNCTION, 0, 0, 0, 0);
+        put(END, 0, 0, 0, 0);
+    }
+    return finuraho_check(rows, length);
+}
+
+static uint8_t check_open(int count)
+{
+    length = 0;
+    put(FUNCTION, 0, 0, 0, 0);
+    put_many(count, IF);
+    put_many(count + 1, END);
+    return finuraho_check(rows, length);
+}
+
+/* The body is a region, and each if has one. */
+static uint8_t check_regions(int count)
+{
+    int i;
+    length = 0;
+    put(FUNCTION, 0, 0, 0, 0);
+    for (i = 1; i < count; i++) {
+        put(IF, 0, 0, 0, 0);
+        put(END, 0, 0, 0, 0);
+    }
+    put(END, 0, 0, 0, 0);
+    return finuraho_check(rows, length);
+}
+
+static void too_many_parts(void)
+{
+    expect("32 functions", check_functions(FINURAHO_MAX_FUNCTIONS), FINURAHO_ACCEPTED);
+    expect("33 functions", check_functions(FINURAHO_MAX_FUNCTIONS + 1), FINURAHO_TOO_MANY_FUNCTIONS);
+    expect("16 open", check_open(FINURAHO_MAX_CONSTRUCTS), FINURAHO_ACCEPTED);
+    expect("17 open", check_open(FINURAHO_MAX_CONSTRUCTS + 1), FINURAHO_TOO_MANY_PARTS);
+    expect("64 regions", check_regions(FINURAHO_MAX_REGIONS), FINURAHO_ACCEPTED);
+    expect("65 regions", check_regions(FINURAHO_MAX_REGIONS + 1), FINURAHO_TOO_MANY_PARTS);
+}
+
+static finuraho_ran run(size_t lines_len, uint16_t budget, uint16_t step, uint16_t place)
+{
+    finuraho_ran ran = finuraho_run_hardened(lines, lines_len, values, budget, step, place, trace, BUDGET, counters,
+                                             FINURAHO_COUNTER_WORDS);
+    expect("number of a run", ran.number, FINURAHO_ACCEPTED);
+    return ran;
+}
+
+/* 01's cases (B), (C), (F), (G); no jump, whatever the place; a function that calls itself. */
+static void outcomes(void)
+{
+    size_t lines_len;
+    put_example();
+    lines_len = put_hardened();
+    expect("(B)", run(lines_len, BUDGET, FINURAHO_NO_JUMP, 8).outcome, FINURAHO_FINISHED);
+    expect("(C)", run(lines_len, BUDGET, 4, 6).outcome, FINURAHO_ALARM);
+    expect("(F)", run(lines_len, BUDGET, 0, 8).outcome, FINURAHO_BEYOND);
+    expect("(G)", run(lines_len, 11, FINURAHO_NO_JUMP, 0).outcome, FINURAHO_BUDGET_SPENT);
+    length = 0;
+    put(FUNCTION, 0, 0, 0, 0);
+    put(CALL, 0, 0, 0, 0);
+    put(END, 0, 0, 0, 0);
+    lines_len = put_hardened();
+    expect("a 17th open", run(lines_len, BUDGET, FINURAHO_NO_JUMP, 0).outcome, FINURAHO_TOO_MANY_OPEN);
+    expect("its step", run(lines_len, BUDGET, FINURAHO_NO_JUMP, 0).steps, FINURAHO_MAX_OPEN);
+}
+
+static void short_buffers(void)
+{
+    size_t lines_len;
+    put_example();
+    lines_len = put_hardened();
+    expect("exact output", finuraho_harden(rows, length, lines, lines_len).number, FINURAHO_ACCEPTED);
+    expect("output one byte short", finuraho_harden(rows, length, lines, lines_len - 1).number, FINURAHO_SHORT_OUTPUT);
+    expect("one slot fewer than the budget", finuraho_run_source(rows, length, values, BUDGET, trace, BUDGET - 1).number,
+           FINURAHO_SHORT_ROOM);
+    expect("one counter word fewer",
+           finuraho_run_hardened(lines, lines_len, values, BUDGET, FINURAHO_NO_JUMP, 0, trace, BUDGET, counters,
+                                 FINURAHO_COUNTER_WORDS - 1).number,
+           FINURAHO_SHORT_ROOM);
+    expect("all bytes but one", finuraho_check_hardened(lines, lines_len - 1), FINURAHO_NOT_HARDENED);
+}
+
+/* A table of no bytes. */
+static void null_tables(void)
+{
+    finuraho_ran ran;
+    expect("check, NULL", finuraho_check(NULL, 0), FINURAHO_NO_WHOLE_ROWS);
+    expect("check_hardened, NULL", finuraho_check_hardened(NULL, 0), FINURAHO_NOT_HARDENED);
+    expect("harden, all NULL", finuraho_harden(NULL, 0, NULL, 0).number, FINURAHO_NO_WHOLE_ROWS);
+    expect("read_back, all NULL", finuraho_read_back(NULL, 0, NULL, 0).number, FINURAHO_NOT_HARDENED);
+    expect("run_source, all NULL", finuraho_run_source(NULL, 0, values, 0, NULL, 0).number, FINURAHO_NO_WHOLE_ROWS);
+    ran = finuraho_run_hardened(NULL, 0, values, 0, FINURAHO_NO_JUMP, 0, NULL, 0, NULL, 0);
+    expect("run_hardened, all NULL", ran.number, FINURAHO_NOT_HARDENED);
+    expect("its v1", ran.variables[1], 1);
+}
+
+/* A good table, and nothing lent to write to. */
+static void null_outputs(void)
+{
+    size_t lines_len;
+    finuraho_ran ran;
+    put_example();
+    lines_len = put_hardened();
+    expect("harden to NULL", finuraho_harden(rows, length, NULL, 0).number, FINURAHO_SHORT_OUTPUT);
+    expect("read_back to NULL", finuraho_read_back(lines, lines_len, NULL, 0).number, FINURAHO_SHORT_OUTPUT);
+    expect("run_source, budget 0", finuraho_run_source(rows, length, values, 0, NULL, 0).number, FINURAHO_ACCEPTED);
+    expect("run_source, budget 1", finuraho_run_source(rows, length, values, 1, NULL, 0).number, FINURAHO_SHORT_ROOM);
+    ran = finuraho_run_hardened(lines, lines_len, values, 0, 0, 6, NULL, 0, counters, FINURAHO_COUNTER_WORDS);
+    expect("run_hardened, budget 0", ran.number, FINURAHO_ACCEPTED);
+    expect("its outcome", ran.outcome, FINURAHO_BUDGET_SPENT);
+    ran = finuraho_run_hardened(lines, lines_len, values, 0, 0, 6, NULL, 0, NULL, 0);
+    expect("run_hardened, no counters", ran.number, FINURAHO_SHORT_ROOM);
+}
+
+int main(void)
+{
+    too_many_rows();
+    wrong_or_misplaced();
+    too_many_parts();
+    outcomes();
+    short_buffers();
+    null_tables();
+    null_outputs();
+    printf("%d checked, %d wrong\n", checked, failed);
+    return failed != 0;
+}
