@@ -3,6 +3,7 @@ use mathlib.Core.Path.{_≡_, refl, sym, _∙_, subst}
 use mathlib.Core.Bool.{Bool, true, false}
 use mathlib.Core.List.{List}
 use Prim.Native.Nat.{ℕ, suc, _+_, _*_, _≤_, _<_}
+use native.Mathlib.Nat.{le-refl}
 use native.Mathlib.Numerals.{add-one}
 use native.Mathlib.Omega.{arith}
 use lib.ListN.{length, drop}
@@ -17,7 +18,9 @@ use Rattle.table.specs.Standing.{Inside}
 use Rattle.table.specs.Walked.{TurnedAway, stepRows, jumpStep, StepOk}
 use Rattle.table.specs.declared.walk.Step.{Step}
 use Rattle.table.specs.declared.walk.Step.the-variants.{Faulty, Past, EndHere, ElseHere}
-use Rattle.table.proofs.Stepping.{inside-at, inside-wrong, inside-function, inside-do, inside-call, inside-break, inside-break-out, inside-continue, inside-continue-out}
+use Rattle.table.specs.Dos.{DosAre}
+use Rattle.table.proofs.DoRows.{dos-past}
+use Rattle.table.proofs.Stepping.{inside-at, inside-wrong, inside-function, inside-call, inside-break, inside-break-out, inside-continue, inside-continue-out}
 
 module _ {xs : List ℕ} {base d o : ℕ} {b : Bool} {e l : List ℕ} where
   -- a row that is turned away, and a row that leaves the open parts as they are
@@ -44,8 +47,9 @@ module _ {xs : List ℕ} {base d o : ℕ} {b : Bool} {e l : List ℕ} where
     pub at-unknown : k ≡ Unknown → StepOk xs base d o b e l e l (Faulty WrongField)
     at-unknown q = faulty long (λ bs h hs n w. inside-wrong w long (sym p ∙ q))
 
-    pub at-do : k ≡ Do → StepOk xs base d o b e l e l (Past 1 o)
-    at-do q = one-row long (λ bs h hs n w. inside-do w long (sym p ∙ q))
+    pub at-dos : {count : ℕ} → DosAre xs count → StepOk xs base d o b e l e l (Past count o)
+    unfolding stepRows
+    at-dos {count} v = record { some = v .some; fit = v .fit; leads = λ bs h hs n w. dos-past w v count (le-refl count) }
 
     pub at-call : k ≡ Call → StepOk xs base d o b e l e l (Past 1 o)
     at-call q = one-row long (λ bs h hs n w. inside-call w long (sym p ∙ q))
@@ -78,4 +82,4 @@ module _ {xs : List ℕ} {base d o : ℕ} {b : Bool} {e l : List ℕ} {k : Kind}
 pub kind-at : (xs : List ℕ) (k : Kind) {k' : Kind} → k' ≡ firstKind xs → k' ≡ k → firstKind xs ≡ k
 kind-at xs k p q = sym p ∙ q
 
-pub ruleset constructs = (at-function, at-unknown, at-do, at-call, at-end, at-else, at-break, at-continue)
+pub ruleset constructs = (at-function, at-unknown, at-dos, at-call, at-end, at-else, at-break, at-continue)

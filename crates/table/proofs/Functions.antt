@@ -33,10 +33,10 @@ use Rattle.table.specs.declared.walk.Seq.the-variants.{Broken, AtEnd, At
 use Rattle.table.specs.declared.check.One.{One}
 use Rattle.table.specs.declared.check.One.the-variants.{Unsound, Long}
 use Rattle.table.proofs.Linking.{stays-linked, end-linked}
-use Rattle.table.proofs.Rows.{isKnown, Reads, reads, reads-wrong, cut-length, cut-within, cut-on}
+use Rattle.table.proofs.Rows.{drops, isKnown, Reads, reads, reads-wrong, cut-length, cut-within, cut-on}
 use Rattle.table.proofs.Verdicts.{wrong-refused, row-good, misplaced-refused, functions-refused}
 use Rattle.table.proofs.Stepping.{inside-at, same-functions, else-misplaced}
-use Rattle.table.proofs.Nested.{seq-at, drops}
+use Rattle.table.proofs.Nested.{seq-at}
 
 abbrev bodyOf : (base g : ℕ) → Open
 bodyOf base g = record { part = body; opener = base; region = g }

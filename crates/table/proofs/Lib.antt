@@ -4,6 +4,7 @@ pub mod Linking
 pub mod Rows
 pub mod Verdicts
 pub mod Stepping
+pub mod DoRows
 pub mod Constructs
 pub mod Nested
 pub mod Sequence

@@ -23,7 +23,7 @@ use Rattle.table.specs.declared.walk.Step.{Step}
 use Rattle.table.specs.declared.walk.Step.the-variants.{Faulty, Past, EndHere, ElseHere}
 use Rattle.table.specs.declared.walk.Rest.{Rest}
 use Rattle.table.specs.declared.walk.Rest.the-variants.{Torn, Rows}
-use Rattle.table.proofs.Rows.{rest-all}
+use Rattle.table.proofs.Rows.{rest-all, drops}
 use Rattle.table.proofs.Stepping.{elseOf, loopOf, inside-at, inside-if, inside-loop, inside-else, inside-close, if-deep, if-many, loop-deep, loop-many, else-many, else-misplaced}
 use Rattle.table.proofs.Constructs.{faulty}
 
@@ -35,9 +35,6 @@ seq-at xs a h q = rw (rest-all a xs, q) at h
 rest-at : (xs : List ℕ) {row base d o : ℕ} {b : Bool} {e l e' l' : List ℕ} {r r' : Rest} (a : ℕ)
     → RestOk (take (length xs - a) (drop a xs)) row base d o b e l e' l' r → r ≡ r' → RestOk (drop a xs) row base d o b e l e' l' r'
 rest-at xs a h q = rw (rest-all a xs, q) at h
-
-pub drops : (xs : List ℕ) (a c n : ℕ) → a + c ≡ n → drop c (drop a xs) ≡ drop n xs
-drops xs a c n p = drop-drop c a xs ∙ ap (λ k. drop k xs) p
 
 -- the end row of a part that was entered after one row of xs: past it
 closes : {bs : List ℕ} (xs : List ℕ) (i k : ℕ) {f h : Open} {hs : List Open} {d d' o : ℕ} {b c : Bool} {n : ℕ} {e l : List ℕ}

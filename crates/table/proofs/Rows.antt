@@ -19,6 +19,10 @@ use Rattle.table.specs.First.{properKind, firstKind}
 pub rest-all : (a : ℕ) (xs : List ℕ) → take (length xs - a) (drop a xs) ≡ drop a xs
 rest-all a xs = take-all (length xs - a) (drop a xs) (omega (arith, length-drop a xs))
 
+-- what is dropped twice is dropped at once
+pub drops : (xs : List ℕ) (a c n : ℕ) → a + c ≡ n → drop c (drop a xs) ≡ drop n xs
+drops xs a c n p = drop-drop c a xs ∙ ap (λ k. drop k xs) p
+
 row-drop : (bs : List ℕ) (k : ℕ) → rowIn bs k ≡ rowIn (drop k bs) 0
 unfolding rowIn
 row-drop bs k = simp (getD-drop, add-assoc, add-zero)

@@ -18,9 +18,8 @@ use Rattle.table.specs.declared.walk.Step.{Step}
 use Rattle.table.specs.declared.walk.Step.the-variants.{Faulty, Past, EndHere, ElseHere}
 use Rattle.table.specs.declared.walk.Rest.{Rest}
 use Rattle.table.specs.declared.walk.Rest.the-variants.{Torn, Rows}
-use Rattle.table.proofs.Rows.{rest-all}
+use Rattle.table.proofs.Rows.{rest-all, drops}
 use Rattle.table.proofs.Stepping.{inside-at, inside-end}
-use Rattle.table.proofs.Nested.{drops}
 
 -- up to the row `at`, with o' regions opened
 pub record SeqTo (xs : List ℕ) (base d o : ℕ) (b : Bool) (e₀ l₀ e l : List ℕ) (at o' : ℕ) : Type 0 where

@@ -25,8 +25,7 @@ use Rattle.table.specs.declared.check.One.{One}
 use Rattle.table.specs.declared.check.One.the-variants.{Unsound, Long}
 use Rattle.table.specs.declared.check.All.{All}
 use Rattle.table.specs.declared.check.All.the-variants.{Rejected, Counted}
-use Rattle.table.proofs.Rows.{rest-all, cut-end, cut-row, cut-within}
-use Rattle.table.proofs.Nested.{drops}
+use Rattle.table.proofs.Rows.{rest-all, drops, cut-end, cut-row, cut-within}
 use Rattle.table.proofs.Functions.{outside-at}
 
 -- ---- the functions: up to row `at`, with n of them

@@ -1,4 +1,5 @@
 pub mod First
+pub mod Dos
 pub mod Standing
 pub mod Walked
 pub mod Checking

@@ -27,7 +27,7 @@ fn kind_of(byte: u8) -> Kind
 }
 
 // The number that two bytes spell, the low byte first.
-fn word(low: u8, high: u8) -> usize
+pub fn word(low: u8, high: u8) -> usize
     ensures { λ r. ⌜ r ≡ low + 256 * high ⌝ }
 {
     low as usize + 256 * (high as usize)
@@ -82,7 +82,7 @@ fn uses_function(op: u8, p: u8, q: u8, n: usize) -> bool
 }
 
 // The fields of a do.
-fn do_uses(op: u8, p: u8, q: u8, n: usize) -> bool
+pub fn do_uses(op: u8, p: u8, q: u8, n: usize) -> bool
     ensures { λ r. ⌜ r ≡ doUses (fields op p q n) ⌝ }
 {
     if op == 0 {

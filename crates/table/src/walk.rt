@@ -1,4 +1,5 @@
 // The walkers: they check the rows inside a function and fill the links of its ifs and loops.
+use crate::dos::dos;
 use crate::row::first_kind;
 use rules::kind::Kind;
 use rules::refusal::Refusal;
@@ -94,7 +95,7 @@ fn construct(
 {
     match first_kind(rows) {
         Kind::Function => Step::Faulty(Refusal::Misplaced),
-        Kind::Do => Step::Past(1, opened),
+        Kind::Do => Step::Past(dos(rows), opened),
         Kind::If => if_part(rows, base, depth, opened, in_loop, ends, elses),
         Kind::Else => Step::ElseHere,
         Kind::Loop => loop_part(rows, base, depth, opened, in_loop, ends, elses),

@@ -24,6 +24,7 @@ use Rattle.table.proofs.walk.+construct+else_part+if_part+loop_part+seq
 use Rattle.table.proofs.walk.sequence.Reads as sequence
 use Rattle.table.proofs.walk.sequence.Kinds as sequence-kinds
 use Rattle.table.proofs.walk.+construct+else_part+if_part+loop_part+sequence.Lts-sequence as sequence-lts
+use Rattle.table.proofs.dos.dos.Reads as dos-reads
 use Rattle.table.proofs.row.first_kind.Reads as first-kind-reads
 use Rattle.table.proofs.walk.jump.Reads as jump-reads
 use Rattle.table.proofs.walk.link.Reads as link-reads
@@ -91,6 +92,8 @@ pub +construct+else-part+if-part+loop-part+sequence-spec : {M : Type 1} → stat
     close μ-construct μ-else-part μ-if-part μ-loop-part μ-sequence (λ t. construct-lts.spec (
       first-kind-reads.Asked,
       first-kind-reads.Learnt,
+      dos-reads.Asked,
+      dos-reads.Learnt,
       if-part-below t,
       if-part.Post,
       loop-part-below t,
@@ -103,6 +106,7 @@ pub +construct+else-part+if-part+loop-part+sequence-spec : {M : Type 1} → stat
     (λ c κs. search needs)
     (λ c. search needs)
     (λ c. search needs)
+    (λ c κs. search (kind-at, needs))
     (λ c. search needs)
     (λ c κs. search (kind-at, needs))
     (λ c. search needs)
