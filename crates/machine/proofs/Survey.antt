@@ -30,7 +30,7 @@ pub record Surveyed (ls : List Line) (starts owners : List ℕ) (f k : ℕ) : Ty
   pub starts-long : length starts ≡ 33
   pub owners-long : length owners ≡ 2049
 
-ends-ret : (kd : LineKind) (l : Fields) → isRet (asLine kd l) ≡ endsFunction kd
+pub ends-ret : (kd : LineKind) (l : Fields) → isRet (asLine kd l) ≡ endsFunction kd
 ends-ret Do l = refl
 ends-ret Tick l = refl
 ends-ret Test l = refl

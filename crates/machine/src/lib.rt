@@ -5,6 +5,7 @@ pub mod guard;
 pub mod line;
 pub mod machine;
 pub mod map;
+pub mod ret;
 pub mod run;
 pub mod strike;
 pub mod table;

@@ -14,6 +14,7 @@ use crate::machine::Hot;
 use crate::machine::Moved;
 use crate::machine::stay;
 use crate::machine::traced;
+use crate::ret;
 use crate::variables;
 use rules::step::Step;
 
@@ -59,7 +60,7 @@ pub fn line(
     let k = h.place;
     let d = h.depth;
     if k == starts[next] {
-        return call::returned(h, home, places, functions, counters);
+        return ret::returned(h, home, places, functions, counters);
     }
     let kind = fields::kind_at(lines, k);
     match kind {
@@ -75,7 +76,7 @@ pub fn line(
         LineKind::Back => stay(guard::back(fields_at(lines, k), h.last, k, d, counters), h),
         LineKind::Ret => {
             let l = fields_at(lines, k);
-            call::ret(l, h, home, places, functions, counters)
+            ret::ret(l, h, home, places, functions, counters)
         }
     }
 }

@@ -3,7 +3,7 @@ use mathlib.Core.Path.{_≡_, refl, sym, ap, _∙_, subst}
 use mathlib.Core.Bool.{Bool, true, false, cond}
 use mathlib.Core.List.{List, [], _∷_, _++_}
 use Prim.Native.Nat.{ℕ, zero, suc, _+_, _*_, _-_, _/_, _%_, _≤_, _<_}
-use native.Mathlib.Nat.{not-suc-le-zero}
+use native.Mathlib.Numerals.{add-one}
 use native.Mathlib.Omega.{arith}
 use lib.Dec.{eqb, ltb}
 use lib.ListN.{length, getD, List·getD-eq-default}
@@ -19,11 +19,12 @@ use Rattle.machine.specs.declared.fields.Fields.{Fields}
 use Rattle.machine.specs.declared.fields.LineKind as Lk
 use Rattle.machine.specs.Fields.{lineKindAt, fieldsAt, asLine}
 use Rattle.machine.proofs.Decode.{length-lines, line-is}
+use Rattle.machine.proofs.Survey.{ends-ret}
 use Rattle.reader.specs.declared.row.Row.{Row}
-use Rattle.reader.specs.Functions.{endsFunction, Short}
+use Rattle.machine.specs.Map.{endsFunction}
+use Rattle.reader.specs.Functions.{Short}
 use Rattle.reader.specs.Row.{six, bareRow, copiedRow, callRow, Added}
 use Rattle.reader.specs.Candidate.{isLeave, testKind, leaveKind, outKind, Here}
-use Rattle.reader.proofs.Numbering.{ends-ret}
 use Rattle.reader.proofs.Stores.{added-none}
 
 byte-of : (b : Bool) (x y : Kind) → cond b (kindByte x) (kindByte y) ≡ kindByte (cond b x y)
@@ -121,14 +122,9 @@ module _ {bs : List ℕ} {k : ℕ} (h : Here bs k) where
   back-row rows at e = subst (λ xs. Added xs rows rows at at) (ap tableBytes (row-is Lk.the-variants.Back e)) (added-none rows at)
 
   -- ---- the function row before it
-  pub begins-is : {b : Bool} → 0 < k → b ≡ endsFunction (lineKindAt bs (k - 1)) → b ≡ begins (linesIn bs) k
-  begins-is {b} p e = e ∙ by k p inside
-    where
-      by : (j : ℕ) → 0 < j → j < length (linesIn bs) → endsFunction (lineKindAt bs (j - 1)) ≡ begins (linesIn bs) j
-      by zero z l = absurd (not-suc-le-zero z)
-      by (suc j) z l =
-          let q : suc j - 1 ≡ j = omega arith in
-          ap (λ i. endsFunction (lineKindAt bs i)) q ∙ sym (ap isRet (line-is bs j (omega arith)) ∙ ends-ret (lineKindAt bs j) (fieldsAt bs j))
+  pub begins-next : {b : Bool} → b ≡ endsFunction (lineKindAt bs k) → b ≡ begins (linesIn bs) (k + 1)
+  begins-next {b} e =
+      e ∙ sym (ap (begins (linesIn bs)) (add-one k) ∙ ap isRet (line-is bs k inside) ∙ ends-ret (lineKindAt bs k) (fieldsAt bs k))
 
 pub function-row : {rows rows′ : List ℕ} {at to : ℕ} {r : Row} {b : Bool} → b ≡ true → r ≡ bareRow 1 → Added (six r) rows rows′ at to
     → Added (tableBytes (functionRowIf b)) rows rows′ at to

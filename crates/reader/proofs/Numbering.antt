@@ -11,22 +11,11 @@ use Rattle.rules.specs.Line.{Line, lineWidth, linesIn, lineAt, isRet}
 use Rattle.rules.specs.Function.{functionAt}
 use Rattle.rules.proofs.Logic.{Order, less, same, more, order}
 use Rattle.rules.proofs.Place.{one-if, function-at-next}
-use Rattle.machine.specs.declared.fields.Fields.{Fields}
-use Rattle.machine.specs.declared.fields.LineKind.{LineKind}
-use Rattle.machine.specs.declared.fields.LineKind.the-variants.{Do, Tick, Test, Leave, Out, Call, Back, Ret}
-use Rattle.machine.specs.Fields.{lineKindAt, fieldsAt, asLine}
+use Rattle.machine.specs.Fields.{lineKindAt, fieldsAt}
 use Rattle.machine.proofs.Decode.{length-lines, line-is}
-use Rattle.reader.specs.Functions.{endsFunction, passed, Short, Numbered}
-
-pub ends-ret : (kd : LineKind) (l : Fields) → isRet (asLine kd l) ≡ endsFunction kd
-ends-ret Do l = refl
-ends-ret Tick l = refl
-ends-ret Test l = refl
-ends-ret Leave l = refl
-ends-ret Out l = refl
-ends-ret Call l = refl
-ends-ret Back l = refl
-ends-ret Ret l = refl
+use Rattle.machine.specs.Map.{endsFunction}
+use Rattle.machine.proofs.Survey.{ends-ret}
+use Rattle.reader.specs.Functions.{passed, Short, Numbered}
 
 function-next : (bs : List ℕ) (k : ℕ) → k < length (linesIn bs) → passed (lineKindAt bs k) (functionAt (linesIn bs) k) ≡ functionAt (linesIn bs) (suc k)
 function-next bs k h =

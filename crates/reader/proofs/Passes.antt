@@ -51,32 +51,36 @@ grows ls k (suc d) =
     (omega (arith, grows ls k d, ap length (bytes-append (unreadTo ls (d + k)) more), length-append (tableBytes (unreadTo ls (d + k))) (tableBytes more)))
 
 -- ---- the rows of the lines before this one are written
-pub record Reading (bs rows₀ rows : List ℕ) (at line : ℕ) : Type 0 where
+pub record Reading (bs rows₀ rows : List ℕ) (at : ℕ) (opening : Bool) (line : ℕ) : Type 0 where
+  pub opens : opening ≡ begins (linesIn bs) line
   pub few : line ≤ length bs / lineWidth
   pub room : at ≤ 6156
   pub length-is : length rows ≡ 6156
   pub length-was : length rows₀ ≡ 6156
   pub added : Added (tableBytes (unreadTo (linesIn bs) line)) rows₀ rows 0 at
 
-pub reading-first : {bs rows : List ℕ} → length rows ≡ 6156 → Reading bs rows rows 0 0
+pub reading-first : {bs rows : List ℕ} → length rows ≡ 6156 → Reading bs rows rows 0 true 0
 unfolding unreadTo tableBytes
 reading-first {bs} {rows} h =
-    record { few = omega arith; room = omega arith; length-is = h; length-was = h; added = added-none rows 0 }
+    record { opens = refl; few = omega arith; room = omega arith; length-is = h; length-was = h; added = added-none rows 0 }
 
 -- there is room for the second row of a line
 pub opened-low : (b : Bool) {rows rows′ : List ℕ} {at opened : ℕ} → Added (tableBytes (functionRowIf b)) rows rows′ at opened → opened ≤ at + 6
 opened-low b a = omega (arith, a .to-is, one-row (functionRowIf b) (function-rows b))
 
-pub reading-next : {bs rows₀ rows rows′ rows″ : List ℕ} {at opened to line : ℕ} → Reading bs rows₀ rows at line → line < length bs / lineWidth → at ≤ 6144
-    → Added (tableBytes (functionRowIf (begins (linesIn bs) line))) rows rows′ at opened
-    → Added (tableBytes (rowFor (linesIn bs) line (lineAt (linesIn bs) line))) rows′ rows″ opened to → Reading bs rows₀ rows″ to (line + 1)
+pub reading-next : {bs rows₀ rows rows′ rows″ : List ℕ} {at opened to line : ℕ} {opening next : Bool} → Reading bs rows₀ rows at opening line → line < length bs / lineWidth
+    → at ≤ 6144 → Added (tableBytes (functionRowIf opening)) rows rows′ at opened
+    → Added (tableBytes (rowFor (linesIn bs) line (lineAt (linesIn bs) line))) rows′ rows″ opened to → next ≡ begins (linesIn bs) (line + 1)
+    → Reading bs rows₀ rows″ to next (line + 1)
 unfolding unreadTo
-reading-next {bs} {rows₀} {rows} {rows′} {rows″} {at} {opened} {to} {line} r l h a b =
+reading-next {bs} {rows₀} {rows} {rows′} {rows″} {at} {opened} {to} {line} r l h a₀ b n =
+    let a : Added (tableBytes (functionRowIf (begins (linesIn bs) line))) rows rows′ at opened = rw (← r .opens) a₀ in
     let ls = linesIn bs in
     let first = functionRowIf (begins ls line) in
     let second = rowFor ls line (lineAt ls line) in
     let q : suc line ≡ line + 1 = omega arith in
     record {
+      opens = n;
       few = omega arith;
       room = omega (arith, opened-low (begins ls line) a, b .to-is, one-row second (line-rows ls line (lineAt ls line)));
       length-is = added-length (tableBytes second) b ∙ added-length (tableBytes first) a ∙ r .length-is;
@@ -88,7 +92,7 @@ reading-next {bs} {rows₀} {rows} {rows′} {rows″} {at} {opened} {to} {line}
           (added-both (tableBytes (unreadTo ls line)) (tableBytes first ++ tableBytes second) (r .added) (added-both (tableBytes first) (tableBytes second) a b));
     }
 
-pub reading-last : {bs rows₀ rows : List ℕ} {at line : ℕ} → Reading bs rows₀ rows at line → length bs / lineWidth ≤ line → Fronted bs rows at
+pub reading-last : {bs rows₀ rows : List ℕ} {at line : ℕ} {opening : Bool} → Reading bs rows₀ rows at opening line → length bs / lineWidth ≤ line → Fronted bs rows at
 unfolding sourceBytes
 reading-last {bs} {rows₀} {rows} {at} {line} r h =
     let q : line ≡ length (linesIn bs) = omega (arith, length-lines bs, r .few) in
@@ -99,7 +103,7 @@ reading-last {bs} {rows₀} {rows} {at} {line} r h =
       front-is = added-front (tableBytes (unreadTo (linesIn bs) line)) (r .added) (omega (arith, r .added .to-is, r .room, r .length-was)) ∙ e;
     }
 
-pub reading-long : {bs rows₀ rows : List ℕ} {at line : ℕ} → Reading bs rows₀ rows at line → 6144 < at → 6144 < length (sourceBytes bs)
+pub reading-long : {bs rows₀ rows : List ℕ} {at line : ℕ} {opening : Bool} → Reading bs rows₀ rows at opening line → 6144 < at → 6144 < length (sourceBytes bs)
 unfolding sourceBytes
 reading-long {bs} {rows₀} {rows} {at} {line} r h =
     let d = length (linesIn bs) - line in

@@ -1,24 +1,14 @@
 -- One pass over the lines: the function that each belongs to.
 use Prim.Native.Nat.{ℕ, _+_, _≤_, _<_}
 use mathlib.Core.Path.{_≡_}
-use mathlib.Core.Bool.{Bool, true, false, cond}
+use mathlib.Core.Bool.{cond}
 use mathlib.Core.List.{List}
 use lib.ListN.{length, getD}
 use Rattle.rules.specs.Bytes.{AreBytes}
 use Rattle.rules.specs.Line.{linesIn}
 use Rattle.rules.specs.Function.{functionAt}
 use Rattle.machine.specs.declared.fields.LineKind.{LineKind}
-use Rattle.machine.specs.declared.fields.LineKind.the-variants.{Do, Tick, Test, Leave, Out, Call, Back, Ret}
-
-abbrev pub endsFunction : LineKind → Bool
-endsFunction Do = false
-endsFunction Tick = false
-endsFunction Test = false
-endsFunction Leave = false
-endsFunction Out = false
-endsFunction Call = false
-endsFunction Back = false
-endsFunction Ret = true
+use Rattle.machine.specs.Map.{endsFunction}
 
 -- a line of function f is passed: the function of the next line
 abbrev pub passed : LineKind → (f : ℕ) → ℕ

@@ -139,25 +139,22 @@ fn callee(lines: &[u8], owners: &[u16; 2049], line: u16) -> u16
 }
 
 // Puts the function row that stands before a line, where one does.
-fn open(lines: &[u8], line: u16, rows: &mut [u8], at: usize) -> usize
-    requires { ⌜ (Here (now lines) line) × (at + 6 ≤ length (now rows)) ⌝ }
-    ensures { λ r. ⌜ Added (tableBytes (functionRowIf (begins (linesIn (now (lines .entry))) line))) (now (rows .entry)) (now (rows .exit)) at r ⌝ }
+fn open(opening: bool, rows: &mut [u8], at: usize) -> usize
+    requires { ⌜ at + 6 ≤ length (now rows) ⌝ }
+    ensures { λ r. ⌜ Added (tableBytes (functionRowIf opening)) (now (rows .entry)) (now (rows .exit)) at r ⌝ }
 {
-    if begins_function(lines, line) {
+    if opening {
         return Row::bare(FUNCTION).write(rows, at);
     }
     at
 }
 
-// A function opens at line 0 and after each ret.
-fn begins_function(lines: &[u8], line: u16) -> bool
+// Whether a function row stands before the line after this one.
+fn opens_next(lines: &[u8], line: u16) -> bool
     requires { ⌜ Here (now lines) line ⌝ }
-    ensures { λ r. ⌜ r ≡ begins (linesIn (now (lines .entry))) line ⌝ }
+    ensures { λ r. ⌜ r ≡ begins (linesIn (now (lines .entry))) (line + 1) ⌝ }
 {
-    if line == 0 {
-        return true;
-    }
-    functions::ends_function(fields::kind_at(lines, line - 1))
+    functions::ends_function(fields::kind_at(lines, line))
 }
 
 // Puts the row that a line stands for; a tick and a back stand for none of their own.
@@ -184,13 +181,15 @@ pub fn read_rows(lines: &[u8], owners: &[u16; 2049], rows: &mut [u8]) -> Candida
 {
     let count = (lines.len() / 20) as u16;
     let mut at = 0;
+    let mut opening = true;
     let mut line: u16 = 0;
     while line < count {
         if at > LARGEST {
             return Candidate::TooLong;
         }
-        let opened = open(lines, line, rows, at);
+        let opened = open(opening, rows, at);
         at = stand(lines, owners, line, rows, opened);
+        opening = opens_next(lines, line);
         line += 1;
     }
     Candidate::Bytes(at)

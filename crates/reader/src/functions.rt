@@ -3,7 +3,8 @@ ghost use mathlib.Core.Path.{_≡_};
 ghost use Prim.Native.Nat.{_+_, _*_, _≤_, _<_};
 ghost use lib.ListN.{length};
 ghost use Rattle.machine.specs.Fields.{lineKindAt};
-ghost use Rattle.reader.specs.Functions.{endsFunction, passed, Short, Numbered};
+ghost use Rattle.machine.specs.Map.{endsFunction};
+ghost use Rattle.reader.specs.Functions.{passed, Short, Numbered};
 use machine::fields;
 use machine::fields::LineKind;
 

@@ -1,6 +1,10 @@
-use Rattle.machine.proofs.Returns.{call-alarm, call-deep, call-opens}
-use lib.ListN.{length-set}
+-- `machine::call::call` meets its contract. Assumes nothing.
 use mathlib.Core.Path.{_∙_}
+use Prim.Native.Nat.{ℕ, _+_, _<_}
+use native.Mathlib.Omega.{arith}
+use lib.ListN.{length-set}
+use borrow.Author.Tests.{eqb-true, eqb-false, leb-true, leb-false, not-true, not-false}
+use Rattle.machine.proofs.Returns.{call-alarm, call-deep, call-opens}
 use borrow.Author.Needs.{needs}
 use Rattle.machine.proofs.call.call.Statement.{statement}
 use Rattle.machine.proofs.call.call.Tie as tie
@@ -12,85 +16,89 @@ use Rattle.machine.proofs.machine.stay.Reads as stay-reads
 use Rattle.machine.proofs.words.fresh.Reads as fresh-reads
 use Rattle.machine.proofs.words.index.Reads as words-index-reads
 
+-- one more may open
+shallow : {d : ℕ} → d + 1 < 16 → d < 15
+shallow h = omega arith
+
 -- src/call.rt:31:9
 index-requires : tie.Need-index-requires
 index-requires c κs = search needs
 
--- src/call.rt:32:8
-mul-if1 : tie.Need-mul-if1
-mul-if1 c = search needs
+-- src/call.rt:32:17
+mul-wrong : tie.Need-mul-wrong
+mul-wrong c = search needs
 
--- src/call.rt:32:8
-slice-read-if1 : tie.Need-slice-read-if1
-slice-read-if1 c = search needs
+-- src/call.rt:32:17
+slice-read-wrong : tie.Need-slice-read-wrong
+slice-read-wrong c = search needs
 
--- src/call.rt:33:9
+-- src/call.rt:33:22
+add-full : tie.Need-add-full
+add-full c = search needs
+
+-- src/call.rt:35:9
 stay-requires : tie.Need-stay-requires
 stay-requires c κs = search needs
 
--- src/call.rt:33:9
+-- src/call.rt:35:9
 returns : tie.Need-returns
-returns c = call-alarm _ _ _ _ _ _ _ (c .before .before .before .before .index .ensures .0) _ (c .stay .ensures) (c .before .if1 .taken)
+returns c = call-alarm _ _ _ _ _ _ _ (c .before .before .before .before .before .index .ensures .0) _ (c .stay .ensures) (eqb-false _ _ (not-true _ (c .before .if1 .taken)))
 
--- src/call.rt:35:14
-add-if2 : tie.Need-add-if2
-add-if2 c = search needs
-
--- src/call.rt:36:9
+-- src/call.rt:38:9
 stay-requires-2 : tie.Need-stay-requires-2
 stay-requires-2 c κs = search needs
 
--- src/call.rt:36:9
+-- src/call.rt:38:9
 returns-2 : tie.Need-returns-2
-returns-2 c = call-deep _ _ _ _ _ _ _ (c .before .before .before .before .before .before .index .ensures .0) _ (c .stay2 .ensures) (c .before .before .before .if1 .left) (c .before .if2 .taken)
+returns-2 c = call-deep _ _ _ _ _ _ _ (c .before .before .before .before .before .before .index .ensures .0) _ (c .stay2 .ensures) (eqb-true _ _ (not-false _ (c .before .before .if1 .left))) (leb-true _ _ (c .before .if2 .taken))
 
--- src/call.rt:38:5
+-- src/call.rt:40:5
 mul-counters : tie.Need-mul-counters
 mul-counters c = search needs
 
--- src/call.rt:38:5
+-- src/call.rt:40:5
 slice-write-counters : tie.Need-slice-write-counters
 slice-write-counters c = search needs
 
--- src/call.rt:39:28
+-- src/call.rt:41:28
 add-fresh : tie.Need-add-fresh
 add-fresh c = search needs
 
--- src/call.rt:39:5
+-- src/call.rt:41:5
 fresh-requires : tie.Need-fresh-requires
-fresh-requires c κs = (c .before .before .if2 .left, simp length-set (c .before .before .before .before .before .before .before .before .before .pre .2 .room))
+fresh-requires c κs = (leb-false _ _ (c .before .before .if2 .left), simp length-set (c .before .before .before .before .before .before .before .before .before .pre .2 .room))
 
--- src/call.rt:40:13
+-- src/call.rt:42:13
 cast-d : tie.Need-cast-d
 cast-d c = search needs
 
--- src/call.rt:41:17
+-- src/call.rt:43:17
 add-places : tie.Need-add-places
 add-places c = search needs
 
--- src/call.rt:41:5
+-- src/call.rt:43:5
 mul-places : tie.Need-mul-places
 mul-places c = search needs
 
--- src/call.rt:41:5
+-- src/call.rt:43:5
 element-write-places : tie.Need-element-write-places
 element-write-places c = search needs
 
--- src/call.rt:42:5
+-- src/call.rt:44:5
 element-write-functions : tie.Need-element-write-functions
 element-write-functions c = search needs
 
--- src/call.rt:43:9
+-- src/call.rt:45:9
 index-requires-2 : tie.Need-index-requires-2
 index-requires-2 c κs = search needs
 
--- src/call.rt:44:24
+-- src/call.rt:46:24
 element-copy-out-opened : tie.Need-element-copy-out-opened
 element-copy-out-opened c = search needs
 
--- src/call.rt:44:5
+-- src/call.rt:46:5
 opened-requires : tie.Need-opened-requires
-opened-requires c κs = search needs
+opened-requires c κs = shallow (leb-false _ _ (c .before .before .before .before .before .before .before .before .before .if2 .left))
 
 -- src/call.rt:20:1
 same-length : tie.Need-same-length
@@ -98,18 +106,18 @@ same-length c = c .before .before .before .before .before .before .before .fresh
 
 -- src/call.rt:20:1
 returns-3 : tie.Need-returns-3
-returns-3 c = call-opens _ _ _ _ _ _ _ (c .before .before .before .before .before .before .before .before .before .before .before .before .before .before .before .index .ensures .0) _ _ _ (c .before .before .before .before .before .before .before .before .before .before .before .before .if1 .left) (c .before .before .before .before .before .before .before .before .before .before .if2 .left) (c .before .before .index2 .ensures) (c .opened .ensures) (c .before .before .before .before .before .before .before .fresh .ensures)
+returns-3 c = call-opens _ _ _ _ _ _ _ (c .before .before .before .before .before .before .before .before .before .before .before .before .before .before .before .index .ensures .0) _ _ _ (eqb-true _ _ (not-false _ (c .before .before .before .before .before .before .before .before .before .before .before .if1 .left))) (leb-false _ _ (c .before .before .before .before .before .before .before .before .before .before .if2 .left)) (c .before .before .index2 .ensures) (c .opened .ensures) (c .before .before .before .before .before .before .before .fresh .ensures)
 
 pub call-spec : {M : Type 1} → statement M
 call-spec =
     tie.close
     (tie.spec
     index-requires
-    mul-if1
-    slice-read-if1
+    mul-wrong
+    slice-read-wrong
+    add-full
     stay-requires
     returns
-    add-if2
     stay-requires-2
     returns-2
     mul-counters

@@ -6,8 +6,8 @@ use Rattle.machine.proofs.line.line.Tie as tie
 use Rattle.machine.proofs.line.line.Reads as reads
 use Rattle.machine.proofs.line.line.Lts as lts
 use Rattle.machine.proofs.call.call.Reads as call-reads
-use Rattle.machine.proofs.call.ret.Reads as ret-reads
-use Rattle.machine.proofs.call.returned.Reads as returned-reads
+use Rattle.machine.proofs.ret.ret.Reads as ret-reads
+use Rattle.machine.proofs.ret.returned.Reads as returned-reads
 use Rattle.machine.proofs.fields.fields_at.Reads as fields-at-reads
 use Rattle.machine.proofs.fields.kind_at.Reads as kind-at-reads
 use Rattle.machine.proofs.guard.back.Reads as back-reads

@@ -1,6 +1,6 @@
 use mathlib.Core.Path.{ap, sym, _∙_, refl}
 use Rattle.reader.proofs.Numbering.{chosen, other}
-use Rattle.reader.specs.Functions.{endsFunction}
+use Rattle.machine.specs.Map.{endsFunction}
 use native.Mathlib.Omega.{arith}
 use borrow.Author.Needs.{needs}
 use Rattle.reader.proofs.functions.pass.Statement.{statement}

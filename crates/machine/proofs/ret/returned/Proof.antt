@@ -1,9 +1,9 @@
 use Rattle.machine.proofs.Returns.{return-closes, return-alarm, return-finishes}
 use borrow.Author.Needs.{needs}
-use Rattle.machine.proofs.call.returned.Statement.{statement}
-use Rattle.machine.proofs.call.returned.Tie as tie
-use Rattle.machine.proofs.call.returned.Reads as reads
-use Rattle.machine.proofs.call.returned.Lts as lts
+use Rattle.machine.proofs.ret.returned.Statement.{statement}
+use Rattle.machine.proofs.ret.returned.Tie as tie
+use Rattle.machine.proofs.ret.returned.Reads as reads
+use Rattle.machine.proofs.ret.returned.Lts as lts
 use Rattle.machine.proofs.machine.closed.Reads as closed-reads
 use Rattle.machine.proofs.machine.stay.Reads as stay-reads
 use Rattle.machine.proofs.words.index.Reads as index-reads

@@ -1,10 +1,10 @@
 use Rattle.machine.proofs.Returns.{ret-alarm, ret-returns}
 use borrow.Author.Needs.{needs}
-use Rattle.machine.proofs.call.ret.Statement.{statement}
-use Rattle.machine.proofs.call.ret.Tie as tie
-use Rattle.machine.proofs.call.ret.Reads as reads
-use Rattle.machine.proofs.call.ret.Lts as lts
-use Rattle.machine.proofs.call.returned.Reads as returned-reads
+use Rattle.machine.proofs.ret.ret.Statement.{statement}
+use Rattle.machine.proofs.ret.ret.Tie as tie
+use Rattle.machine.proofs.ret.ret.Reads as reads
+use Rattle.machine.proofs.ret.ret.Lts as lts
+use Rattle.machine.proofs.ret.returned.Reads as returned-reads
 use Rattle.machine.proofs.machine.stay.Reads as stay-reads
 use Rattle.machine.proofs.words.index.Reads as index-reads
 
