@@ -23,6 +23,13 @@ fn function_words() -> [u16; 32] {
     [0; 32]
 }
 
+// The bytes of a short hardened table.
+const SHORT: usize = 4000;
+
+fn few_line_bytes() -> [u8; 4000] {
+    [0; 4000]
+}
+
 // The bytes of the longest hardened table.
 fn line_bytes() -> [u8; 40960] {
     [0; 40960]
@@ -74,7 +81,22 @@ fn makes(
     are_same(made, lines)
 }
 
-fn hardens_linked(
+fn hardens_short(
+    rows: &[u8],
+    ends: &[u16; 1024],
+    elses: &[u16; 1024],
+    heads: &[u16; 32],
+    lines: &[u8],
+) -> bool
+    requires { ⌜ (verdictOf (now rows) ≡ Accepted) × (Links (tableOf (now rows)) (now ends) (now elses) (now heads)) × (length (now lines) ≤ 4000) ⌝ }
+    ensures { λ r. ⌜ r ≡ same (hardenedBytes (now (rows .entry))) (now (lines .entry)) ⌝ }
+{
+    let mut made = few_line_bytes();
+    let n = lines.len();
+    makes(rows, ends, elses, heads, lines, &mut made[..n])
+}
+
+fn hardens_long(
     rows: &[u8],
     ends: &[u16; 1024],
     elses: &[u16; 1024],
@@ -87,6 +109,23 @@ fn hardens_linked(
     let mut made = line_bytes();
     let n = lines.len();
     makes(rows, ends, elses, heads, lines, &mut made[..n])
+}
+
+// A short table gets a short buffer: to clear a long one would take longer than all the rest.
+fn hardens_linked(
+    rows: &[u8],
+    ends: &[u16; 1024],
+    elses: &[u16; 1024],
+    heads: &[u16; 32],
+    lines: &[u8],
+) -> bool
+    requires { ⌜ (verdictOf (now rows) ≡ Accepted) × (Links (tableOf (now rows)) (now ends) (now elses) (now heads)) × (length (now lines) ≤ 40960) ⌝ }
+    ensures { λ r. ⌜ r ≡ same (hardenedBytes (now (rows .entry))) (now (lines .entry)) ⌝ }
+{
+    if lines.len() <= SHORT {
+        return hardens_short(rows, ends, elses, heads, lines);
+    }
+    hardens_long(rows, ends, elses, heads, lines)
 }
 
 // Whether the rows are a table that hardens to the lines.

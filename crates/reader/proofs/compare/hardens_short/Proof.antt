@@ -1,18 +1,19 @@
+-- `reader::compare::hardens_short` meets its contract. Assumes nothing.
 use mathlib.Core.Path.{ap, sym, _∙_, refl, subst}
 use denote.Ref.{now}
 use native.Mathlib.Omega.{arith}
 use lib.Seq.{length-take-le}
 use borrow.Author.Needs.{needs}
-use Rattle.reader.proofs.compare.hardens_linked.Statement.{statement}
-use Rattle.reader.proofs.compare.hardens_linked.Tie as tie
-use Rattle.reader.proofs.compare.hardens_linked.Reads as reads
-use Rattle.reader.proofs.compare.hardens_linked.Lts as lts
-use Rattle.reader.proofs.compare.line_bytes.Reads as line-bytes-reads
+use Rattle.reader.proofs.compare.hardens_short.Statement.{statement}
+use Rattle.reader.proofs.compare.hardens_short.Tie as tie
+use Rattle.reader.proofs.compare.hardens_short.Reads as reads
+use Rattle.reader.proofs.compare.hardens_short.Lts as lts
+use Rattle.reader.proofs.compare.few_line_bytes.Reads as few-line-bytes-reads
 use Rattle.reader.proofs.compare.makes.Reads as makes-reads
 
 -- src/compare.rt:87:20
-line-bytes-requires : tie.Need-line-bytes-requires
-line-bytes-requires c κs = search needs
+few-line-bytes-requires : tie.Need-few-line-bytes-requires
+few-line-bytes-requires c κs = search needs
 
 -- src/compare.rt:89:44
 array-borrow-prefix-made : tie.Need-array-borrow-prefix-made
@@ -30,11 +31,11 @@ makes-requires c κs = (c .before .before .before .before .pre .0, c .before .be
 returns : tie.Need-returns
 returns c = c .before .makes .ensures
 
-pub hardens-linked-spec : {M : Type 1} → statement M
-hardens-linked-spec =
+pub hardens-short-spec : {M : Type 1} → statement M
+hardens-short-spec =
     tie.close
     (tie.spec
-    line-bytes-requires
+    few-line-bytes-requires
     array-borrow-prefix-made
     slice-aggregate-makes
     makes-requires
