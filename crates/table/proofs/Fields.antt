@@ -97,12 +97,12 @@ module _ (xs : List ℕ) {k : Kind} {n : ℕ} {f : Bool} (p : k ≡ kindOf (getD
   fits-is : fieldsFit (kindOf (getD xs 0 0)) (fields (getD xs 1 0) (getD xs 2 0) (getD xs 3 0) (getD xs 4 0 + 256 * getD xs 5 0)) ≡ f
   fits-is = rw (← p, ← w) (sym q)
 
-  pub first-fits : f ≡ true → kindOf (getD xs 0 0) ≡ firstKind xs
+  pub first-fits : f ≡ true → k ≡ firstKind xs
   unfolding properKind rowIn
-  first-fits e = rw (fits-is ∙ e)
+  first-fits e = rw (fits-is ∙ e) p
 
-  pub first-wrong : f ≡ false → kindOf 0 ≡ firstKind xs
-  unfolding properKind rowIn kindOf
+  pub first-wrong : f ≡ false → Unknown ≡ firstKind xs
+  unfolding properKind rowIn
   first-wrong e = rw (fits-is ∙ e)
 
 pub ruleset firsts = (first-fits, first-wrong)

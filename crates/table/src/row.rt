@@ -124,24 +124,18 @@ fn fields_fit(kind: Kind, op: u8, p: u8, q: u8, n: usize) -> bool
     }
 }
 
-// The kind's byte of the row that the bytes begin with, or 0 where a field is wrong. A byte comes back in a register, a Kind in memory.
-fn proper_byte(rows: &[u8]) -> u8
-    requires { ⌜ 5 < length (now rows) ⌝ }
-    ensures { λ r. ⌜ kindOf r ≡ firstKind (now (rows .entry)) ⌝ }
-{
-    let n = word(rows[4], rows[5]);
-    if fields_fit(kind_of(rows[0]), rows[1], rows[2], rows[3], n) {
-        return rows[0];
-    }
-    0
-}
-
 // The kind of the row that the bytes begin with, or Unknown where a field is wrong.
 pub fn first_kind(rows: &[u8]) -> Kind
     requires { ⌜ 5 < length (now rows) ⌝ }
     ensures { λ r. ⌜ r ≡ firstKind (now (rows .entry)) ⌝ }
 {
-    kind_of(proper_byte(rows))
+    let kind = kind_of(rows[0]);
+    let n = word(rows[4], rows[5]);
+    if fields_fit(kind, rows[1], rows[2], rows[3], n) {
+        kind
+    } else {
+        Kind::Unknown
+    }
 }
 
 pub fn is_function(kind: Kind) -> bool
