@@ -91,11 +91,11 @@ pub record Spending (bs spent₀ spent took₀ took : List ℕ) (i : ℕ) : Type
   pub is : Spent bs spent i
   pub took-is : Took bs took i
 
-pub spend-start : {bs m spent took : List ℕ} → Surveyed bs m → Spent bs spent 0 → 1024 ≤ length took → Spending bs spent spent took took 0
-spend-start s p r =
+pub spend-start : {bs spent took : List ℕ} → verdictOf bs ≡ Accepted → Spent bs spent 0 → 1024 ≤ length took → Spending bs spent spent took took 0
+spend-start {bs} a p r =
     record {
       le = omega arith;
-      few-rows = s .few-rows;
+      few-rows = few-rows bs a;
       same = refl;
       same-took = refl;
       room = r;

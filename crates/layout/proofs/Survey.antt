@@ -21,7 +21,7 @@ use Rattle.rules.proofs.Accepted.{Proper, proper, outside-nil, table-length}
 use Rattle.rules.proofs.Harden.{line-suc}
 use Rattle.rules.proofs.Function.{Formed, formed, placed-in}
 use Rattle.layout.specs.declared.place.Place.{Place}
-use Rattle.layout.specs.Place.{placeAt, putPlace, placed, placeOf, passed, entered, forked, looped, turned, closed, Mapped, Surveyed, Stands}
+use Rattle.layout.specs.Place.{placeAt, putPlace, placed, placeOf, outermost, passed, entered, forked, looped, turned, closed, Mapped, Surveyed, Stands}
 use Rattle.layout.proofs.Places.{mapped-more, few-rows, standing}
 
 -- the place that a row of kind k leaves
@@ -133,10 +133,9 @@ pub record Surveying (bs m₀ m : List ℕ) (i : ℕ) (here : Place) : Type 0 wh
   pub mapped : Mapped bs m i
   pub is : here ≡ placeOf (tableOf bs) i
 
-pub survey-start : {bs m : List ℕ} → verdictOf bs ≡ Accepted → 6150 ≤ length m
-    → Surveying bs m m 0 (record { opened = 0; region = 0; body = 0; opener = 0; repeat = 0; line = 0 })
+pub survey-start : {bs m : List ℕ} {here : Place} → verdictOf bs ≡ Accepted → 6150 ≤ length m → here ≡ outermost → Surveying bs m m 0 here
 unfolding placeOf regions openAt lineOf
-survey-start {bs} a r =
+survey-start {bs} a r e =
     record {
       accepted = a;
       le = omega arith;
@@ -144,7 +143,7 @@ survey-start {bs} a r =
       room = r;
       same = refl;
       mapped = record { each = λ i h. absurd (not-suc-le-zero h) };
-      is = refl;
+      is = e;
     }
 
 pub survey-stands : {bs m₀ m : List ℕ} {i : ℕ} {here : Place} → Surveying bs m₀ m i here → Stands bs i here

@@ -45,6 +45,10 @@ placed g fs l =
 unfoldable pub placeOf : Table → (i : ℕ) → Place
 placeOf t i = placed (regions t i) (openAt t i) (lineOf t i)
 
+-- the place of row 0: nothing is open
+abbrev pub outermost : Place
+outermost = record { opened = 0; region = 0; body = 0; opener = 0; repeat = 0; line = 0 }
+
 -- the place of the next row, by what this row does to the open parts, and where it writes so many lines
 abbrev pub passed : Place → (lines : ℕ) → Place
 passed p n =

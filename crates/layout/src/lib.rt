@@ -18,8 +18,7 @@ pub fn lay_out(rows: &[u8], map: &mut [u16], bases: &mut [u16], values: &mut [u1
     ensures { λ _. ⌜ Laid (now (rows .entry)) (now (map .exit)) (now (bases .exit)) (now (values .exit)) ⌝ }
 {
     let mut spent = [0u16; 1025];
-    place::survey(rows, map);
-    number::spend_all(rows, map, &mut spent, values);
+    number::survey_and_spend(rows, map, &mut spent, values);
     number::region_bases(rows, map, &spent, bases);
     number::row_values(rows, map, bases, values);
 }

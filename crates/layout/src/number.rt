@@ -2,7 +2,9 @@
 ghost use mathlib.Core.Path.{_≡_};
 ghost use Prim.Native.Nat.{ℕ, suc, _/_, _≤_, _<_};
 ghost use lib.ListN.{length};
+ghost use Rattle.rules.specs.declared.refusal.Verdict.the-variants.{Accepted};
 ghost use Rattle.rules.specs.Row.{tableOf};
+ghost use Rattle.rules.specs.Check.{verdictOf};
 ghost use Rattle.layout.specs.Place.{Stands, Surveyed};
 ghost use Rattle.layout.specs.Number.{takesAt, valueOf, tookBefore, Took, Spent, Spends, sums, Summed, Based, Valued};
 use crate::place;
@@ -35,29 +37,35 @@ fn take(rows: &[u8], i: usize, here: Place) -> u16
 }
 
 // Adds what row i takes to the word of its region, and keeps in word i of `took` what the rows before it took there.
-fn spend(rows: &[u8], map: &[u16], i: usize, spent: &mut [u16], took: &mut [u16])
-    requires { ⌜ (Surveyed (now rows) (now map)) × (i < length (now rows) / 6) × (1024 ≤ length (now took)) ⌝ }
+fn spend(rows: &[u8], i: usize, here: Place, spent: &mut [u16], took: &mut [u16])
+    requires { ⌜ (Stands (now rows) i here) × (i < length (now rows) / 6) × (i < length (now took)) ⌝ }
     requires { ⌜ Spent (now rows) (now spent) i ⌝ }
     ensures { λ _. ⌜ Spends (now (rows .entry)) i (now (spent .exit)) (now (took .entry)) (now (took .exit)) ⌝ }
 {
-    let here = place::stand(rows, map, i);
     let g = row::index(here.region);
     let before = spent[g];
     took[i] = before;
     spent[g] = before + take(rows, i, here);
 }
 
-// Adds up what all rows take, in each region.
-pub fn spend_all(rows: &[u8], map: &[u16], spent: &mut [u16], took: &mut [u16])
-    requires { ⌜ (Surveyed (now rows) (now map)) × (Spent (now rows) (now spent) 0) × (1024 ≤ length (now took)) ⌝ }
+// Fills the map, and adds up what all rows take, in each region. One pass: a sum waits for the one before it, and the survey fills
+// that time.
+pub fn survey_and_spend(rows: &[u8], map: &mut [u16], spent: &mut [u16], took: &mut [u16])
+    requires { ⌜ (verdictOf (now rows) ≡ Accepted) × (6150 ≤ length (now map)) ⌝ }
+    requires { ⌜ (Spent (now rows) (now spent) 0) × (1024 ≤ length (now took)) ⌝ }
+    ensures { λ _. ⌜ Surveyed (now (rows .entry)) (now (map .exit)) ⌝ }
     ensures { λ _. ⌜ (Spent (now (rows .entry)) (now (spent .exit)) (length (now (rows .entry)) / 6)) × (Took (now (rows .entry)) (now (took .exit)) (length (now (rows .entry)) / 6)) ⌝ }
 {
     let n = rows.len() / row::WIDTH;
+    let mut here = place::outermost();
     let mut i = 0;
     while i < n {
-        spend(rows, map, i, spent, took);
+        place::keep(map, i, here);
+        spend(rows, i, here, spent, took);
+        here = place::after(rows, map, i, here);
         i += 1;
     }
+    place::keep(map, n, here);
 }
 
 // A running sum of 1 and the sizes: a region's size is 1 and what its rows take.

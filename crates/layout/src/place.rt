@@ -5,7 +5,7 @@ ghost use lib.ListN.{length};
 ghost use Rattle.rules.specs.declared.refusal.Verdict.the-variants.{Accepted};
 ghost use Rattle.rules.specs.Row.{tableOf};
 ghost use Rattle.rules.specs.Check.{verdictOf};
-ghost use Rattle.layout.specs.Place.{placeAt, putPlace, placeOf, passed, entered, forked, looped, turned, closed, Mapped, Stands, Surveyed};
+ghost use Rattle.layout.specs.Place.{placeAt, putPlace, placeOf, outermost, passed, entered, forked, looped, turned, closed, Mapped, Stands, Surveyed};
 use crate::row;
 use rules::kind::Kind;
 
@@ -143,7 +143,7 @@ pub fn stand(rows: &[u8], map: &[u16], i: usize) -> Place
 }
 
 // Puts a place at index i of the map.
-fn keep(map: &mut [u16], i: usize, p: Place)
+pub fn keep(map: &mut [u16], i: usize, p: Place)
     requires { ⌜ 6 * i + 6 ≤ length (now map) ⌝ }
     ensures { λ _. ⌜ now (map .exit) ≡ putPlace (now (map .entry)) i p ⌝ }
 {
@@ -157,7 +157,7 @@ fn keep(map: &mut [u16], i: usize, p: Place)
 }
 
 // The place of the row after row i.
-fn after(rows: &[u8], map: &[u16], i: usize, here: Place) -> Place
+pub fn after(rows: &[u8], map: &[u16], i: usize, here: Place) -> Place
     requires { ⌜ (Stands (now rows) i here) × (i < length (now rows) / 6) ⌝ }
     requires { ⌜ (Mapped (now rows) (now map) (suc i)) × (6 * i + 6 ≤ length (now map)) ⌝ }
     ensures { λ r. ⌜ r ≡ placeOf (tableOf (now (rows .entry))) (suc i) ⌝ }
@@ -177,20 +177,27 @@ fn after(rows: &[u8], map: &[u16], i: usize, here: Place) -> Place
     }
 }
 
-// Fills the map with the place of each row, and of the end of the table.
-pub fn survey(rows: &[u8], map: &mut [u16])
-    requires { ⌜ (verdictOf (now rows) ≡ Accepted) × (6150 ≤ length (now map)) ⌝ }
-    ensures { λ _. ⌜ Surveyed (now (rows .entry)) (now (map .exit)) ⌝ }
+// The place of row 0: nothing is open.
+pub fn outermost() -> Place
+    ensures { λ r. ⌜ r ≡ outermost ⌝ }
 {
-    let n = rows.len() / row::WIDTH;
-    let mut here = Place {
+    Place {
         opened: 0,
         region: 0,
         body: 0,
         opener: 0,
         repeat: 0,
         line: 0,
-    };
+    }
+}
+
+// Fills the map with the place of each row, and of the end of the table.
+pub fn survey(rows: &[u8], map: &mut [u16])
+    requires { ⌜ (verdictOf (now rows) ≡ Accepted) × (6150 ≤ length (now map)) ⌝ }
+    ensures { λ _. ⌜ Surveyed (now (rows .entry)) (now (map .exit)) ⌝ }
+{
+    let n = rows.len() / row::WIDTH;
+    let mut here = outermost();
     let mut i = 0;
     while i < n {
         keep(map, i, here);
