@@ -7,7 +7,6 @@ ghost use Rattle.rules.specs.Promise.{HardenedPromise};
 ghost use Rattle.finuraho.specs.Given.{writes, refusedWith, runs, hardenedRuns};
 
 pub mod export;
-mod number;
 mod run;
 
 use reader::Found;
@@ -15,6 +14,7 @@ use rules::answer::Ran;
 use rules::answer::Wrote;
 use rules::refusal::Refusal;
 use rules::refusal::Verdict;
+use table::number;
 
 // A word for each row.
 fn row_words() -> [u16; 1024] {
