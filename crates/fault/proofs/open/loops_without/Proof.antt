@@ -1,11 +1,12 @@
 -- `fault::open::loops_without` meets its contract. Assumes nothing.
+use native.Mathlib.Omega.{arith}
 use borrow.Author.Tests.{eq-eqb, ne-eqb}
 use Rattle.fault.specs.Standing.{loopsWithout}
 use Rattle.fault.proofs.open.loops_without.Statement.{statement}
 use Rattle.fault.proofs.open.loops_without.Tie as tie
 
 sub-result : tie.Need-sub-result
-sub-result c = c .before .pre (c .if1 .taken)
+sub-result c = omega (arith, c .before .pre (c .if1 .taken))
 
 returns : tie.Need-returns
 returns c = unfold loopsWithout in rw (eq-eqb _ _ (c .if1 .taken))
