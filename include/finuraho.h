@@ -1,8 +1,8 @@
 /* Finuraho: checks and hardens fee-card programs, reads hardened ones back, and runs both.
  *
  * The rules are document 01, "Counter-hardened statement tables for fee cards". What each call gives back, for all bytes, numbers
- * and buffers, is proved (crates/finuraho/src/export.rt) to be what crates/rules/specs/Calls.antt says. That this header fits the
- * library is not proved: tests/header/run tests it.
+ * and buffers, is proved (crates/finuraho/src/export.rt) to be what crates/rules/specs/Calls.antt and Fault.antt say. That this
+ * header fits the library is not proved: tests/header/run tests it.
  *
  * `rt staticlib finuraho` makes target/staticlib/libfinuraho.a, the library to link. Of the C library it needs memcpy and memset.
  *
@@ -73,6 +73,12 @@ typedef struct finuraho_wrote {
     size_t length;  /* the answer's bytes, from the front of `out`; 0 where the call was turned away */
 } finuraho_wrote;
 
+/* The answer of the call that finds a table's fault. */
+typedef struct finuraho_found {
+    uint8_t number; /* 0, or why the table is turned away: 1 to 7, as the check gives it */
+    size_t row;     /* the row that the number is about, from 0 */
+} finuraho_found;
+
 /* The answer of a run. Turned away: outcome, steps and traced are 0 and the variables are those given. */
 typedef struct finuraho_ran {
     uint8_t number;                         /* 0, or why the call was turned away */
@@ -86,6 +92,14 @@ typedef struct finuraho_ran {
  * rows, rows_len: its bytes, 6 a row; only read.
  * Returns 0, or 1 to 7. */
 uint8_t finuraho_check(const uint8_t *rows, size_t rows_len);
+
+/* Finds the fault of a source table.
+ * rows, rows_len: its bytes, 6 a row; only read.
+ * Returns the number of the check, and the row that it is about:
+ *     1: the row that is not whole, 0 where there are no bytes; 2: 1024, the first row that is one too many;
+ *     3, 5, 6, 7: the first such row; 4: the first such row, or the number of rows where something is left open at the end;
+ *     0: the number of rows, since there is no fault. */
+finuraho_found finuraho_fault(const uint8_t *rows, size_t rows_len);
 
 /* Hardens a source table.
  * rows, rows_len: its bytes, 6 a row; only read.

@@ -1,4 +1,4 @@
-/* Prints where the header puts each field of the two structs; layout/src/main.rs prints the same from bench's Rust declarations. */
+/* Prints where the header puts each field of the three structs; layout/src/main.rs prints the same from Rust declarations. */
 #include <finuraho.h>
 #include <stddef.h>
 #include <stdio.h>
@@ -8,6 +8,9 @@ int main(void)
     printf("wrote %zu\n", sizeof(finuraho_wrote));
     printf("number %zu\n", offsetof(finuraho_wrote, number));
     printf("length %zu\n", offsetof(finuraho_wrote, length));
+    printf("found %zu\n", sizeof(finuraho_found));
+    printf("number %zu\n", offsetof(finuraho_found, number));
+    printf("row %zu\n", offsetof(finuraho_found, row));
     printf("ran %zu\n", sizeof(finuraho_ran));
     printf("number %zu\n", offsetof(finuraho_ran, number));
     printf("outcome %zu\n", offsetof(finuraho_ran, outcome));

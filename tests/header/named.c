@@ -93,6 +93,35 @@ static void wrong_or_misplaced(void)
     expect("no such function", finuraho_check(rows, length), FINURAHO_NO_SUCH_FUNCTION);
 }
 
+static void expect_fault(const char *what, size_t rows_len, uint8_t number, size_t row)
+{
+    finuraho_found found = finuraho_fault(rows, rows_len);
+    expect(what, found.number, number);
+    expect(what, found.row, row);
+}
+
+/* The row of each number, as the header says. */
+static void found_rows(void)
+{
+    put_dos(FINURAHO_MAX_ROWS - 1);
+    expect_fault("fault, 1,025 rows", length, FINURAHO_TOO_MANY_ROWS, FINURAHO_MAX_ROWS);
+    put_example();
+    expect_fault("fault, none", length, FINURAHO_ACCEPTED, 6);
+    expect_fault("fault, half a row", length - 3, FINURAHO_NO_WHOLE_ROWS, 5);
+    expect_fault("fault, left open", length - FINURAHO_ROW_BYTES, FINURAHO_MISPLACED, 5);
+    rows[3 * FINURAHO_ROW_BYTES] = 0x0a;
+    expect_fault("fault, no such kind", length, FINURAHO_WRONG_FIELD, 3);
+    put_example();
+    put(DO, 0, 0, 0, 0);
+    expect_fault("fault, outside a function", length, FINURAHO_MISPLACED, 6);
+    length = 0;
+    put(FUNCTION, 0, 0, 0, 0);
+    put(CALL, 0, 0, 0, 0);
+    put(CALL, 0, 0, 0, 1);
+    put(END, 0, 0, 0, 0);
+    expect_fault("fault, no such function", length, FINURAHO_NO_SUCH_FUNCTION, 2);
+}
+
 static uint8_t check_functions(int count)
 {
     int i;
@@ -131,10 +160,13 @@ static void too_many_parts(void)
 {
     expect("32 functions", check_functions(FINURAHO_MAX_FUNCTIONS), FINURAHO_ACCEPTED);
     expect("33 functions", check_functions(FINURAHO_MAX_FUNCTIONS + 1), FINURAHO_TOO_MANY_FUNCTIONS);
+    expect_fault("fault, 33 functions", length, FINURAHO_TOO_MANY_FUNCTIONS, 2 * FINURAHO_MAX_FUNCTIONS);
     expect("16 open", check_open(FINURAHO_MAX_CONSTRUCTS), FINURAHO_ACCEPTED);
     expect("17 open", check_open(FINURAHO_MAX_CONSTRUCTS + 1), FINURAHO_TOO_MANY_PARTS);
+    expect_fault("fault, 17 open", length, FINURAHO_TOO_MANY_PARTS, FINURAHO_MAX_CONSTRUCTS + 1);
     expect("64 regions", check_regions(FINURAHO_MAX_REGIONS), FINURAHO_ACCEPTED);
     expect("65 regions", check_regions(FINURAHO_MAX_REGIONS + 1), FINURAHO_TOO_MANY_PARTS);
+    expect_fault("fault, 65 regions", length, FINURAHO_TOO_MANY_PARTS, 2 * FINURAHO_MAX_REGIONS - 1);
 }
 
 static finuraho_ran run(size_t lines_len, uint16_t budget, uint16_t step, uint16_t place)
@@ -185,6 +217,8 @@ static void null_tables(void)
 {
     finuraho_ran ran;
     expect("check, NULL", finuraho_check(NULL, 0), FINURAHO_NO_WHOLE_ROWS);
+    expect("fault, NULL", finuraho_fault(NULL, 0).number, FINURAHO_NO_WHOLE_ROWS);
+    expect("its row", finuraho_fault(NULL, 0).row, 0);
     expect("check_hardened, NULL", finuraho_check_hardened(NULL, 0), FINURAHO_NOT_HARDENED);
     expect("harden, all NULL", finuraho_harden(NULL, 0, NULL, 0).number, FINURAHO_NO_WHOLE_ROWS);
     expect("read_back, all NULL", finuraho_read_back(NULL, 0, NULL, 0).number, FINURAHO_NOT_HARDENED);
@@ -216,6 +250,7 @@ int main(void)
 {
     too_many_rows();
     wrong_or_misplaced();
+    found_rows();
     too_many_parts();
     outcomes();
     short_buffers();

@@ -153,6 +153,19 @@ static void check(const char *at)
     printf("%u", finuraho_check(bytes_or_null(bytes, bytes_len), bytes_len));
 }
 
+/* `fault ROWS`; the number is also that of the check. */
+static void fault(const char *at)
+{
+    const uint8_t *rows;
+    finuraho_found found;
+    take_bytes(at);
+    rows = bytes_or_null(bytes, bytes_len);
+    found = finuraho_fault(rows, bytes_len);
+    printf("%u %zu", found.number, found.row);
+    if (finuraho_check(rows, bytes_len) != found.number)
+        stop("check and fault differ");
+}
+
 /* `harden OUTLEN ROWS`; the number is also that of the check, but where the output is too short. */
 static void harden(const char *at)
 {
@@ -219,7 +232,8 @@ static void answer(void)
         const char *word;
         void (*make)(const char *at);
     } calls[] = {
-        {"check ", check}, {"harden ", harden}, {"read ", read_back}, {"source ", run_source}, {"hardened ", run_hardened},
+        {"check ", check},    {"fault ", fault},       {"harden ", harden},
+        {"read ", read_back}, {"source ", run_source}, {"hardened ", run_hardened},
     };
     size_t call;
     for (call = 0; call < sizeof calls / sizeof calls[0]; call++) {

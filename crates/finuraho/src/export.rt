@@ -2,8 +2,10 @@
 // of its name promises.
 ghost use mathlib.Core.Path.{_≡_};
 ghost use Rattle.rules.specs.Calls.{checkCall, hardenCall, checkHardenedCall, readBackCall, runSourceCall};
+ghost use Rattle.rules.specs.Fault.{faultCall};
 ghost use Rattle.rules.specs.Promise.{HardenedPromise};
 ghost use Rattle.finuraho.specs.Given.{writes, runs, hardenedRuns};
+use rules::answer::Fault;
 use rules::answer::Ran;
 use rules::answer::Wrote;
 
@@ -12,6 +14,13 @@ pub extern "C" fn finuraho_check(rows: &[u8]) -> u8
     ensures { λ r. ⌜ r ≡ checkCall (now (rows .entry)) ⌝ }
 {
     crate::check(rows)
+}
+
+#[no_mangle]
+pub extern "C" fn finuraho_fault(rows: &[u8]) -> Fault
+    ensures { λ r. ⌜ r ≡ faultCall (now (rows .entry)) ⌝ }
+{
+    crate::fault(rows)
 }
 
 #[no_mangle]

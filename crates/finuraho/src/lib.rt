@@ -1,20 +1,22 @@
-// The public calls. Each promises one equation with its definition in rules/specs/Calls.antt: number, lengths and every lent
-// buffer, for every input; none has a `requires`. A hardened run promises demand 3 besides, of the call's own bytes, values, budget
+// The public calls. Each promises one equation with its definition in rules/specs/Calls.antt or Fault.antt: number, lengths and every
+// lent buffer, for every input; none has a `requires`. A hardened run promises demand 3 besides, of the call's own bytes, values, budget
 // and jump (rules/specs/Promise.antt).
 ghost use mathlib.Core.Path.{_≡_};
 ghost use Rattle.rules.specs.Calls.{checkCall, hardenCall, checkHardenedCall, readBackCall, runSourceCall, shortOutput, writing};
+ghost use Rattle.rules.specs.Fault.{faultCall};
 ghost use Rattle.rules.specs.Promise.{HardenedPromise};
 ghost use Rattle.finuraho.specs.Given.{writes, refusedWith, runs, hardenedRuns};
 
 pub mod export;
-mod number;
 mod run;
 
 use reader::Found;
+use rules::answer::Fault;
 use rules::answer::Ran;
 use rules::answer::Wrote;
 use rules::refusal::Refusal;
 use rules::refusal::Verdict;
+use table::number;
 
 // A word for each row.
 fn row_words() -> [u16; 1024] {
@@ -35,6 +37,13 @@ pub fn check(rows: &[u8]) -> u8
     let mut heads = function_words();
     let v = table::check::check(rows, &mut ends, &mut elses, &mut heads);
     number::of_verdict(v)
+}
+
+// The same number, and the row that it is about: the number of rows where that is the end of the table, or where there is no fault.
+pub fn fault(rows: &[u8]) -> Fault
+    ensures { λ r. ⌜ r ≡ faultCall (now (rows .entry)) ⌝ }
+{
+    fault::find(rows)
 }
 
 fn refused(r: Refusal) -> Wrote

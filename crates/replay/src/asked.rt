@@ -35,6 +35,7 @@ pub fn start() -> Asked
 fn bytes_after(kind: u8) -> u8 {
     match kind {
         b'c' => 1,
+        b'f' => 1,
         b's' => 4,
         b'H' => 7,
         _ => 2,

@@ -39,6 +39,10 @@ fn tables(kind: u8, bytes: &[u8], room: usize, out: &mut [u8])
         check(bytes);
         return;
     }
+    if kind == b'f' {
+        fault(bytes);
+        return;
+    }
     if kind == b'h' {
         harden(bytes, &mut out[..room]);
         return;
@@ -49,6 +53,15 @@ fn tables(kind: u8, bytes: &[u8], room: usize, out: &mut [u8])
 // `check ROWS`
 fn check(rows: &[u8]) {
     show::number(finuraho::check(rows) as usize);
+    show::newline();
+}
+
+// `fault ROWS`
+fn fault(rows: &[u8]) {
+    let f = finuraho::fault(rows);
+    show::number(f.number as usize);
+    show::space();
+    show::number(f.row);
     show::newline();
 }
 

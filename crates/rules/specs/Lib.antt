@@ -27,3 +27,4 @@ pub mod Promise
 pub mod Reading
 pub mod Bounds
 pub mod Links
+pub mod Fault

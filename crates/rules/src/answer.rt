@@ -16,3 +16,10 @@ pub struct Ran {
     pub traced: u16,
     pub variables: [u16; 16],
 }
+
+// A table's fault: the number of 01, and the row that it is about; for the end of the table, the number of rows.
+#[repr(C)]
+pub struct Fault {
+    pub number: u8,
+    pub row: usize,
+}

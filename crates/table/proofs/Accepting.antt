@@ -84,7 +84,7 @@ linked {bs} s v = record {
 refused-checked : {bs e l a : List ℕ} {c : Refusal} → Refused c ≡ verdictOf bs → Checked bs (Refused c) e l a
 refused-checked q = record { verdict-is = q; links = λ z. refused-not z }
 
-verdict-of : (bs : List ℕ) → (length bs ≡ 0 → ⊥) → length bs % 6 ≡ 0 → length bs / 6 ≤ 1024 → verdictOf bs ≡ tableVerdict (tableOf bs)
+pub verdict-of : (bs : List ℕ) → (length bs ≡ 0 → ⊥) → length bs % 6 ≡ 0 → length bs / 6 ≤ 1024 → verdictOf bs ≡ tableVerdict (tableOf bs)
 unfolding verdictOf
 verdict-of bs some whole few = rw (ne-eqb (length bs) 0 some, whole, le-ltb 1024 (length bs / 6) few)
 

@@ -42,7 +42,7 @@ abbrev bodyOf : (base g : ℕ) → Open
 bodyOf base g = record { part = body; opener = base; region = g }
 
 -- ---- the row of function n
-next-function : (t : Table) (i : ℕ) → isFunction (kindAt t i) ≡ true → functions t (suc i) ≡ suc (functions t i)
+pub next-function : (t : Table) (i : ℕ) → isFunction (kindAt t i) ≡ true → functions t (suc i) ≡ suc (functions t i)
 unfolding functions
 next-function t i e = rw e
 

@@ -36,23 +36,23 @@ unfolding functions
 same-functions bs i q n = rw (ap isFunction q ∙ n)
 
 -- 6, "a 17th open if or loop, or a 65th region"
-few-parts : (h : Open) (hs : List Open) (g d o : ℕ) → length hs ≡ d → g ≡ bodyRegion (h ∷ hs) + o → d < maxConstructs → o < maxRegions
+pub few-parts : (h : Open) (hs : List Open) (g d o : ℕ) → length hs ≡ d → g ≡ bodyRegion (h ∷ hs) + o → d < maxConstructs → o < maxRegions
     → allConstructs (h ∷ hs) || allRegions g (h ∷ hs) ≡ false
 few-parts h hs g d o p q a b = rw (lt-leb maxConstructs (constructsIn (h ∷ hs)) (omega arith), lt-leb maxRegions (g - bodyRegion (h ∷ hs)) (omega arith))
 
-few-regions : (h : Open) (hs : List Open) (g o : ℕ) → g ≡ bodyRegion (h ∷ hs) + o → o < maxRegions → allRegions g (h ∷ hs) ≡ false
+pub few-regions : (h : Open) (hs : List Open) (g o : ℕ) → g ≡ bodyRegion (h ∷ hs) + o → o < maxRegions → allRegions g (h ∷ hs) ≡ false
 few-regions h hs g o q b = lt-leb maxRegions (g - bodyRegion (h ∷ hs)) (omega arith)
 
-many-regions : (h : Open) (hs : List Open) (g o : ℕ) → g ≡ bodyRegion (h ∷ hs) + o → maxRegions ≤ o → allRegions g (h ∷ hs) ≡ true
+pub many-regions : (h : Open) (hs : List Open) (g o : ℕ) → g ≡ bodyRegion (h ∷ hs) + o → maxRegions ≤ o → allRegions g (h ∷ hs) ≡ true
 many-regions h hs g o q b = le-leb maxRegions (g - bodyRegion (h ∷ hs)) (omega arith)
 
-many-constructs : (h : Open) (hs : List Open) (d : ℕ) → length hs ≡ d → maxConstructs ≤ d → allConstructs (h ∷ hs) ≡ true
+pub many-constructs : (h : Open) (hs : List Open) (d : ℕ) → length hs ≡ d → maxConstructs ≤ d → allConstructs (h ∷ hs) ≡ true
 many-constructs h hs d p a = le-leb maxConstructs (constructsIn (h ∷ hs)) (omega arith)
 
-and-none : {a : Bool} (c : Bool) → a ≡ false → a && c ≡ false
+pub and-none : {a : Bool} (c : Bool) → a ≡ false → a && c ≡ false
 and-none c e = rw e
 
-or-true : (a : Bool) → a || true ≡ true
+pub or-true : (a : Bool) → a || true ≡ true
 or-true true = refl
 or-true false = refl
 

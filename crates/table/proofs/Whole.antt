@@ -109,15 +109,15 @@ pub calls-start : {bs : List ℕ} → CallsTo bs 0
 unfolding callsVerdict
 calls-start = record { le = omega arith; good = refl }
 
-calls-one : (t : Table) (i : ℕ) (b : Bool) → callsVerdict t i ≡ Accepted → noSuchFunction t i ≡ b → callsVerdict t (suc i) ≡ refuseIf b NoSuchFunction
+pub calls-one : (t : Table) (i : ℕ) (b : Bool) → callsVerdict t i ≡ Accepted → noSuchFunction t i ≡ b → callsVerdict t (suc i) ≡ refuseIf b NoSuchFunction
 unfolding callsVerdict
 calls-one t i b g q = rw (g, q)
 
-calls-stay : (t : Table) (i : ℕ) {c : Refusal} → callsVerdict t i ≡ Refused c → (j : ℕ) → i ≤ j → callsVerdict t j ≡ Refused c
+pub calls-stay : (t : Table) (i : ℕ) {c : Refusal} → callsVerdict t i ≡ Refused c → (j : ℕ) → i ≤ j → callsVerdict t j ≡ Refused c
 unfolding callsVerdict
 calls-stay t i {c} e j h = le-ind (λ m. callsVerdict t m ≡ Refused c) e (λ m l p. rw p) j h
 
-beyond-is : (bs : List ℕ) (at n : ℕ) → 6 * at + 5 < length bs → n ≡ functionCount (tableOf bs)
+pub beyond-is : (bs : List ℕ) (at n : ℕ) → 6 * at + 5 < length bs → n ≡ functionCount (tableOf bs)
     → noSuchFunction (tableOf bs) at ≡ callsBeyond n (rowIn (take (length bs - 6 * at) (drop (6 * at) bs)) 0)
 unfolding callsBeyond
 beyond-is bs at n h q =

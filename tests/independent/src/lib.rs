@@ -3,6 +3,8 @@
 
 pub mod calls;
 pub mod damage;
+pub mod explain;
+pub mod fault;
 pub mod faults;
 pub mod harden;
 pub mod hardened_run;
@@ -17,11 +19,13 @@ pub mod random;
 pub mod readback;
 pub mod refusal;
 pub mod replay;
+pub mod replay_fault;
 pub mod replay_read;
 pub mod replay_run;
 pub mod row;
 pub mod source_run;
 pub mod table;
 pub mod text;
+pub mod texts;
 
 pub use calls::{check, harden, read_back, run_hardened, run_source, Ran, Written};

@@ -6,12 +6,15 @@ use std::path::Path;
 use std::process::ExitCode;
 
 use independent::protocol::Test;
-use independent::{replay, replay_read, replay_run, text};
+use independent::{explain, replay, replay_fault, replay_read, replay_run, text, texts};
 
 const USAGE: &str = "usage:
   independent harden                            rows on stdin, lines on stdout
   independent readback                          lines on stdin, rows on stdout
+  independent explain                           rows on stdin, number, row and words on stdout
+  independent texts SEED COUNT DIR              rows and lines for these three
   independent replay SEED COUNT DIR             tests of check and harden
+  independent replay-fault SEED COUNT DIR       tests of fault
   independent replay-read SEED COUNT DIR        tests of reading back
   independent replay-bytes DIR                  one byte of the listing, every way
   independent replay-run SEED COUNT DIR [long]  tests of runs";
@@ -22,6 +25,11 @@ fn main() -> ExitCode {
     let done = match words[..] {
         ["harden"] => text::harden(io::stdin().lock()).and_then(|text| print(&text)),
         ["readback"] => text::read_back(io::stdin().lock()).and_then(|text| print(&text)),
+        ["explain"] => explain::explain(io::stdin().lock()).and_then(|text| print(&text)),
+        ["texts", seed, count, to] => write_texts(seed, count, to),
+        ["replay-fault", seed, count, to] => {
+            files(replay_fault::tests, seed, count, to, Vec::new())
+        }
         ["replay", seed, count, to] => files(replay::tests, seed, count, to, Vec::new()),
         ["replay-read", seed, count, to] => files(replay_read::tests, seed, count, to, Vec::new()),
         ["replay-bytes", to] => replay::write(&replay_read::every_byte(), Path::new(to)),
@@ -48,6 +56,13 @@ fn print(text: &str) -> io::Result<()> {
     let mut out = io::stdout().lock();
     out.write_all(text.as_bytes())?;
     out.flush()
+}
+
+/// Writes the files of the command `texts`.
+fn write_texts(seed: &str, count: &str, to: &str) -> io::Result<()> {
+    let seed = seed.parse().map_err(|_| wrong_usage())?;
+    let count = count.parse().map_err(|_| wrong_usage())?;
+    texts::write(seed, count, Path::new(to))
 }
 
 /// Writes the two files of a replay command.

@@ -3,6 +3,7 @@
 //! string is `-`.
 
 use crate::calls::{self, Ran, Written, COUNTER_WORDS};
+use crate::fault::{self, Fault};
 use crate::machine::Variables;
 use crate::text::hex;
 
@@ -24,6 +25,13 @@ pub struct Test {
 pub fn check(rows: &[u8]) -> Test {
     let ask = format!("check {}", hex_or_dash(rows));
     Test { ask, answer: calls::check(rows).to_string() }
+}
+
+/// `fault HEXROWS`, answer `NUMBER ROW`.
+pub fn fault(rows: &[u8]) -> Test {
+    let Fault { number, row } = fault::find(rows);
+    let ask = format!("fault {}", hex_or_dash(rows));
+    Test { ask, answer: format!("{number} {row}") }
 }
 
 /// `harden OUTLEN HEXROWS`, answer `NUMBER LENGTH HEXOUT`.

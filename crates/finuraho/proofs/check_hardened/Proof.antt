@@ -7,7 +7,7 @@ use Rattle.finuraho.proofs.check_hardened.Statement.{statement}
 use Rattle.finuraho.proofs.check_hardened.Tie as tie
 use Rattle.finuraho.proofs.check_hardened.Reads as reads
 use Rattle.finuraho.proofs.check_hardened.Lts as lts
-use Rattle.finuraho.proofs.number.of_refusal.Reads as of-refusal-reads
+use Rattle.table.proofs.number.of_refusal.Reads as of-refusal-reads
 use Rattle.reader.proofs.is_hardened.Reads as is-hardened-reads
 
 -- src/lib.rt:61:8

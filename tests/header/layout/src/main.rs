@@ -1,14 +1,25 @@
-//! Prints where Rust puts each field of the two answers; ../layout.c prints the same from the
+//! Prints where Rust puts each field of the three answers; ../layout.c prints the same from the
 //! header.
 
 use std::mem::{offset_of, size_of};
 
 use finuraho_bench::calls::{Ran, Wrote};
 
+/// As in crates/rules/src/answer.rt; bench doesn't measure the call, so it is declared here.
+#[allow(dead_code)]
+#[repr(C)]
+struct Fault {
+    number: u8,
+    row: usize,
+}
+
 fn main() {
     println!("wrote {}", size_of::<Wrote>());
     println!("number {}", offset_of!(Wrote, number));
     println!("length {}", offset_of!(Wrote, length));
+    println!("found {}", size_of::<Fault>());
+    println!("number {}", offset_of!(Fault, number));
+    println!("row {}", offset_of!(Fault, row));
     println!("ran {}", size_of::<Ran>());
     println!("number {}", offset_of!(Ran, number));
     println!("outcome {}", offset_of!(Ran, outcome));

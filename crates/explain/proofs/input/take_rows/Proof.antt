@@ -1,0 +1,36 @@
+-- `explain::input::take_rows` meets its contract. Assumes nothing.
+use native.Mathlib.Omega.{arith}
+use mathlib.Core.Path.{sym}
+use lib.Seq.{length-take-le}
+use borrow.Author.Needs.{needs}
+use Rattle.explain.proofs.input.take_rows.Statement.{statement}
+use Rattle.explain.proofs.input.take_rows.Tie as tie
+
+slice-relend-prefix-take : tie.Need-slice-relend-prefix-take
+slice-relend-prefix-take c = search needs
+
+slice-aggregate-take : tie.Need-slice-aggregate-take
+slice-aggregate-take c = sym (length-take-le 6150 (c .before .before .before .before .args .rows .now) (omega arith))
+
+take-requires : tie.Need-take-requires
+take-requires c κs = search needs
+
+same-length : tie.Need-same-length
+same-length c = search needs
+
+same-length-2 : tie.Need-same-length-2
+same-length-2 c = search needs
+
+returns : tie.Need-returns
+returns c = search needs
+
+pub take-rows-spec : {M : Type 1} → statement M
+take-rows-spec =
+    tie.close
+    (tie.spec
+    slice-relend-prefix-take
+    slice-aggregate-take
+    take-requires
+    same-length
+    same-length-2
+    returns)

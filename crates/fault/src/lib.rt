@@ -1,0 +1,57 @@
+// Finding the fault of a source table: the number that `check` gives, and the row that it is about.
+ghost use mathlib.Core.Path.{_≡_};
+ghost use Rattle.rules.specs.Fault.{faultCall};
+ghost use Rattle.fault.specs.Found.{faultAt, CallsLeft};
+
+pub mod open;
+pub mod pass;
+
+use pass::Passed;
+use rules::answer::Fault;
+use rules::refusal::Refusal;
+use table::number;
+use table::row::calls_beyond;
+
+fn found(r: Refusal, row: usize) -> Fault
+    ensures { λ f. ⌜ f ≡ faultAt r row ⌝ }
+{
+    Fault {
+        number: number::of_refusal(r),
+        row,
+    }
+}
+
+// The calls of a table with `count` functions that has no other fault.
+fn calls(rows: &[u8], count: usize) -> Fault
+    requires { ⌜ CallsLeft (now rows) count ⌝ }
+    ensures { λ r. ⌜ r ≡ faultCall (now (rows .entry)) ⌝ }
+{
+    let mut at = 0;
+    while 6 * at + 5 < rows.len() {
+        let from = 6 * at;
+        if calls_beyond(&rows[from..], count) {
+            return found(Refusal::NoSuchFunction, at);
+        }
+        at = at + 1;
+    }
+    Fault { number: 0, row: at }
+}
+
+// One pass over the rows and one over the calls, in constant memory.
+pub fn find(rows: &[u8]) -> Fault
+    ensures { λ r. ⌜ r ≡ faultCall (now (rows .entry)) ⌝ }
+{
+    if rows.len() == 0 {
+        return found(Refusal::NoWholeRows, 0);
+    }
+    if rows.len() % 6 != 0 {
+        return found(Refusal::NoWholeRows, rows.len() / 6);
+    }
+    if rows.len() / 6 > 1024 {
+        return found(Refusal::TooManyRows, 1024);
+    }
+    match pass::rows(rows) {
+        Passed::Stopped(r, row) => found(r, row),
+        Passed::Counted(n) => calls(rows, n),
+    }
+}

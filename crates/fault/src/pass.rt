@@ -1,0 +1,61 @@
+// The pass over the rows: causes 3 to 6 row by row, then the end of the table.
+use crate::open::Next;
+use crate::open::Standing;
+use crate::open::step;
+use rules::refusal::Refusal;
+use table::row::first_kind;
+ghost use mathlib.Core.Path.{_≡_};
+ghost use Prim.Native.Nat.{_≤_, _<_};
+ghost use lib.ListN.{length};
+ghost use Rattle.fault.specs.Standing.{none};
+ghost use Rattle.fault.specs.Found.{endOf, PassedOk};
+
+// The first fault and its row, or the number of functions.
+pub enum Passed {
+    Stopped(Refusal, usize),
+    Counted(usize),
+}
+
+// Nothing is open before row 0.
+fn start() -> Standing
+    ensures { λ r. ⌜ r ≡ none ⌝ }
+{
+    Standing {
+        depth: 0,
+        loops: 0,
+        opened: 0,
+        count: 0,
+    }
+}
+
+// The end of the table, which is row `at`.
+fn end(s: Standing, at: usize) -> Passed
+    ensures { λ r. ⌜ r ≡ endOf s at ⌝ }
+{
+    if s.depth != 0 {
+        return Passed::Stopped(Refusal::Misplaced, at);
+    }
+    Passed::Counted(s.count)
+}
+
+pub fn rows(rows: &[u8]) -> Passed
+    requires { ⌜ length (now rows) ≤ 6144 ⌝ }
+    ensures { λ r. ⌜ PassedOk (now (rows .entry)) r ⌝ }
+{
+    // A function's body, and 16 ifs and loops in it.
+    let mut parts = [0u8; 17];
+    let mut s = start();
+    let mut at = 0;
+    while 6 * at + 5 < rows.len() {
+        let from = 6 * at;
+        let kind = first_kind(&rows[from..]);
+        match step(kind, s, &mut parts) {
+            Next::Faulty(r) => return Passed::Stopped(r, at),
+            Next::On(n) => {
+                s = n;
+                at = at + 1;
+            }
+        }
+    }
+    end(s, at)
+}
