@@ -6,15 +6,12 @@ use Prim.Native.Nat.{ℕ, zero, suc, _+_, _*_, _-_, _/_, _≤_, _<_}
 use native.Mathlib.Omega.{arith}
 use lib.ListN.{length, length-append}
 use Rattle.rules.specs.Row.{Row, Table, rowBytes, tableBytes}
-use Rattle.rules.specs.Line.{Line, doLine, tickLine, testLine, leaveLine, outLine, callLine, backLine, retLine, lineWidth, linesIn, lineAt, isRet}
+use Rattle.rules.specs.Line.{Line, doLine, tickLine, testLine, leaveLine, outLine, callLine, backLine, retLine, lineWidth, linesIn, lineAt}
 use Rattle.rules.specs.ReadBack.{rowFor, begins, functionRowIf, unreadTo, unread, sourceBytes}
-use Rattle.rules.proofs.Logic.{append-nil}
-use Rattle.machine.specs.declared.fields.LineKind.the-variants.{Tick}
-use Rattle.machine.specs.Fields.{lineKindAt, fieldsAt, asLine}
-use Rattle.machine.proofs.Decode.{length-lines, line-is}
+use Rattle.machine.proofs.Decode.{length-lines}
 use Rattle.reader.specs.Functions.{Short}
 use Rattle.reader.specs.Row.{Added}
-use Rattle.reader.specs.Candidate.{Here, PastTick, here, past, Fronted}
+use Rattle.reader.specs.Candidate.{Here, Fronted}
 use Rattle.reader.proofs.Stores.{added-none, added-both, added-length, added-front}
 
 -- ---- bytes of rows
@@ -95,39 +92,6 @@ reading-next {bs} {rows₀} {rows} {rows′} {rows″} {at} {opened} {to} {line}
           (added-both (tableBytes (unreadTo ls line)) (tableBytes first ++ tableBytes second) (r .added) (added-both (tableBytes first) (tableBytes second) a b));
     }
 
--- a tick is passed
-reading-skip : {bs rows₀ rows : List ℕ} {at line : ℕ} → Short bs → Reading bs rows₀ rows at false line → lineWidth * line + lineWidth ≤ length bs
-    → lineKindAt bs line ≡ Tick → Reading bs rows₀ rows at false (line + 1)
-unfolding unreadTo rowFor
-reading-skip {bs} {rows₀} {rows} {at} {line} s r h e =
-    let ls = linesIn bs in
-    let q : suc line ≡ line + 1 = omega arith in
-    let within : line < length ls = omega (arith, length-lines bs) in
-    let is : lineAt ls line ≡ asLine Tick (fieldsAt bs line) = line-is bs line within ∙ ap (λ k. asLine k (fieldsAt bs line)) e in
-    record {
-      opens = sym (ap (begins ls) (sym q) ∙ ap isRet is);
-      few = omega (arith, length-lines bs);
-      room = r .room;
-      length-is = r .length-is;
-      length-was = r .length-was;
-      added =
-          subst (λ xs. Added xs rows₀ rows 0 at)
-          (ap tableBytes
-          (sym (append-nil (unreadTo ls line)) ∙ ap (λ x. unreadTo ls line ++ x) (rw (← r .opens, is) refl))
-          ∙ ap (λ k. tableBytes (unreadTo ls k)) q)
-          (r .added);
-    }
-
-pub past-on : {bs : List ℕ} {line to : ℕ} {opening : Bool} → PastTick bs line opening to → line ≤ to
-past-on (here q) = omega arith
-past-on (past q f h e) = omega arith
-
-pub reading-past : {bs rows₀ rows : List ℕ} {at line to : ℕ} {opening : Bool} → Short bs → Reading bs rows₀ rows at opening line
-    → PastTick bs line opening to → Reading bs rows₀ rows at opening to
-reading-past s r (here q) = rw q r
-reading-past {bs} {rows₀} {rows} {at} {line} s r (past q f h e) =
-    rw (q, f) (reading-skip s (subst (λ o. Reading bs rows₀ rows at o line) f r) h e)
-
 pub reading-last : {bs rows₀ rows : List ℕ} {at line : ℕ} {opening : Bool} → Reading bs rows₀ rows at opening line → length bs / lineWidth ≤ line → Fronted bs rows at
 unfolding sourceBytes
 reading-last {bs} {rows₀} {rows} {at} {line} r h =
@@ -146,4 +110,4 @@ reading-long {bs} {rows₀} {rows} {at} {line} r h =
     let q : d + line ≡ length (linesIn bs) = omega (arith, length-lines bs, r .few) in
     omega (arith, r .added .to-is, grows (linesIn bs) line d, ap (λ k. length (tableBytes (unreadTo (linesIn bs) k))) q)
 
-pub ruleset readings = (reading-first, reading-next, reading-past, reading-last, reading-long)
+pub ruleset readings = (reading-first, reading-next, reading-last, reading-long)

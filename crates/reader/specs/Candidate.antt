@@ -9,7 +9,7 @@ use Rattle.rules.specs.Line.{lineWidth, linesIn, lineAt}
 use Rattle.rules.specs.ReadBack.{leavesTo, sourceBytes}
 use Rattle.machine.specs.declared.fields.LineKind.{LineKind}
 use Rattle.machine.specs.declared.fields.LineKind.the-variants.{Do, Tick, Test, Leave, Out, Call, Back, Ret}
-use Rattle.machine.specs.Fields.{lineKindAt, fieldsAt}
+use Rattle.machine.specs.Fields.{fieldsAt}
 use Rattle.reader.specs.declared.candidate.Candidate.{Candidate}
 use Rattle.reader.specs.declared.candidate.Candidate.the-variants.{TooLong, Bytes}
 use Rattle.reader.specs.Functions.{Short}
@@ -38,11 +38,6 @@ leaveKind bs k = cond (ltb (suc k) (fieldsAt bs k .go)) 0x04 0x06
 
 abbrev pub outKind : List ℕ → (k : ℕ) → ℕ
 outKind bs k = cond (ltb k (fieldsAt bs k .go)) 0x07 0x08
-
--- from line k to line r where no function opens, over a tick at the most
-pub data PastTick (bs : List ℕ) (k : ℕ) (opening : Bool) (r : ℕ) : Type 0 where
-  here : r ≡ k → PastTick bs k opening r
-  past : r ≡ k + 1 → opening ≡ false → lineWidth * k + lineWidth ≤ length bs → lineKindAt bs k ≡ Tick → PastTick bs k opening r
 
 -- the rows are at the front of the buffer, or they are more than a table may have
 pub record Fronted (lines rows : List ℕ) (n : ℕ) : Type 0 where

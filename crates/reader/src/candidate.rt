@@ -9,7 +9,7 @@ ghost use Rattle.rules.specs.ReadBack.{leavesTo, begins, functionRowIf, rowFor}
 ghost use Rattle.machine.specs.Fields.{fieldsAt};
 ghost use Rattle.reader.specs.Functions.{Short, Numbered};
 ghost use Rattle.reader.specs.Row.{Added};
-ghost use Rattle.reader.specs.Candidate.{isLeave, testKind, leaveKind, outKind, Here, PastTick, CandidateIs};
+ghost use Rattle.reader.specs.Candidate.{isLeave, testKind, leaveKind, outKind, Here, CandidateIs};
 use crate::functions;
 use crate::row::Row;
 use machine::fields;
@@ -174,25 +174,6 @@ fn stand(lines: &[u8], owners: &[u16; 2049], line: u16, rows: &mut [u8], at: usi
     }
 }
 
-// The line after a tick, where a tick stands here and no function opens; else this line. A tick stands for no row, and every second
-// line of a program's dos is one.
-fn past_tick(lines: &[u8], line: u16, opening: bool) -> u16
-    requires { ⌜ (Short (now lines)) × (line ≤ length (linesIn (now lines))) ⌝ }
-    ensures { λ r. ⌜ PastTick (now (lines .entry)) line opening r ⌝ }
-{
-    let count = (lines.len() / 20) as u16;
-    if opening {
-        return line;
-    }
-    if line >= count {
-        return line;
-    }
-    let LineKind::Tick = fields::kind_at(lines, line) else {
-        return line;
-    };
-    line + 1
-}
-
 // The rows of all lines; of no more lines where the rows are too many already.
 pub fn read_rows(lines: &[u8], owners: &[u16; 2049], rows: &mut [u8]) -> Candidate
     requires { ⌜ (Short (now lines)) × (Numbered (now lines) (now owners)) × (length (now rows) ≡ 6156) ⌝ }
@@ -209,7 +190,7 @@ pub fn read_rows(lines: &[u8], owners: &[u16; 2049], rows: &mut [u8]) -> Candida
         let opened = open(opening, rows, at);
         at = stand(lines, owners, line, rows, opened);
         opening = opens_next(lines, line);
-        line = past_tick(lines, line + 1, opening);
+        line += 1;
     }
     Candidate::Bytes(at)
 }
