@@ -31,7 +31,7 @@ pub fn read_back(input: impl Read) -> io::Result<String> {
 }
 
 /// "If any line is malformed, it prints only the line `unreadable`."
-fn unreadable() -> String {
+pub fn unreadable() -> String {
     "unreadable\n".to_string()
 }
 
@@ -66,7 +66,7 @@ fn nibble(digit: u8) -> Option<u8> {
 /// Reads records of `width` bytes to the end of the input and keeps the first
 /// `keep` of them, so the memory used does not depend on the input. None if any
 /// line is malformed.
-fn records(mut input: impl Read, width: usize, keep: usize) -> io::Result<Option<Vec<u8>>> {
+pub fn records(mut input: impl Read, width: usize, keep: usize) -> io::Result<Option<Vec<u8>>> {
     let mut reader = Records { width, keep, kept: Vec::new(), record: Vec::new(), high: None };
     let mut good = true;
     let mut chunk = [0; 4096];
