@@ -13,4 +13,5 @@ pub mod Runs
 pub mod Sound
 pub mod Survey
 pub mod Struck
+pub mod Singly
 pub mod Whole

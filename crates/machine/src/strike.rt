@@ -12,7 +12,7 @@ use crate::run::run_lines;
 use rules::step::Step;
 
 // The running function goes to a place of its own, and the run goes on from there; a place beyond its last ends the run.
-fn land(
+pub fn land(
     lines: &[u8],
     starts: &[u16; 33],
     owners: &[u8; 2049],

@@ -73,9 +73,11 @@ pub record Running (bs : List ℕ) (budget : ℕ) (start : Parts) (left : ℕ) (
   pub going : Going bs left p
   pub same : runFrom (tableOf bs) budget start ≡ runFrom (tableOf bs) left p
   pub kept : Kept (p .hot .traced) (start .slots) (p .slots)
+  pub longer : (more : ℕ) → runFrom (tableOf bs) (budget + more) start ≡ runFrom (tableOf bs) (left + more) p
+  pub further : (more : ℕ) → Going bs (budget + more) start → Going bs (left + more) p
 
 pub run-starts : {bs : List ℕ} {budget : ℕ} {start : Parts} → Going bs budget start → Running bs budget start budget start
-run-starts g = record { going = g; same = refl; kept = record { in-slots = omega (arith, g .room); same-length = refl; same-rest = refl } }
+run-starts g = record { going = g; same = refl; kept = record { in-slots = omega (arith, g .room); same-length = refl; same-rest = refl }; longer = λ more. refl; further = λ more x. x }
 
 module _ {bs map ends elses heads : List ℕ} (k : Known bs map ends elses heads) {budget left : ℕ} {start p : Parts} (r : Running bs budget start left p) where
   pub can-step : 0 < left → CanStep bs (p .hot) (p .slots)
@@ -93,18 +95,31 @@ module _ {bs map ends elses heads : List ℕ} (k : Known bs map ends elses heads
     kept-on : Kept (a .parts .hot .traced) (start .slots) (a .parts .slots)
     kept-on = step-is .keeps (start .slots) (r .kept)
 
+    going-on : (n i : ℕ) → 0 < n → Going bs n p → a .step ≡ Went i → Going bs (n - 1) (partsAt (a .parts) i (p .hot .steps + 1))
+    going-on n i l g z =
+        let s = step-is in
+        record {
+          fits = s .next i z;
+          few = omega (arith, g .few);
+          room = omega (arith, g .room, s .traced-more, kept-on .same-length, r .kept .same-length);
+          traced = omega (arith, g .traced, s .traced-more);
+        }
+
     pub run-again : (i : ℕ) → a .step ≡ Went i → Running bs budget start (left - 1) (partsAt (a .parts) i (p .hot .steps + 1))
     run-again i z =
         let s = step-is in
         record {
-          going = record {
-            fits = s .next i z;
-            few = omega (arith, r .going .few);
-            room = omega (arith, r .going .room, s .traced-more, kept-on .same-length, r .kept .same-length);
-            traced = omega (arith, r .going .traced, s .traced-more);
-          };
+          going = going-on left i h (r .going) z;
           same = r .same ∙ run-went (tableOf bs) p left h a (s .turn) i z;
           kept = record { in-slots = kept-on .in-slots; same-length = kept-on .same-length; same-rest = kept-on .same-rest };
+          longer =
+              λ more.
+              r .longer more ∙ run-went (tableOf bs) p (left + more) (omega arith) a (s .turn) i z
+              ∙ ap (λ n. runFrom (tableOf bs) n (partsAt (a .parts) i (p .hot .steps + 1))) (let q : left + more - 1 ≡ left - 1 + more = omega arith in q);
+          further =
+              λ more g.
+              subst (λ n. Going bs n (partsAt (a .parts) i (p .hot .steps + 1))) (let q : left + more - 1 ≡ left - 1 + more = omega arith in q)
+              (going-on (left + more) i (omega arith) (r .further more g) z);
         }
 
     -- the same with the numbers made anew
@@ -115,26 +130,33 @@ module _ {bs map ends elses heads : List ℕ} (k : Known bs map ends elses heads
         (run-again i z)
 
     pub run-ends : IsEnd (a .step) → (x : Stopped) → x ≡ stoppedAt (a .step) (a .parts .places) (a .parts .functions) (a .parts .vars) (countedHot p a)
-        → Ended (tableOf bs) budget start (stoppedWith x (a .parts .slots))
+        → Ended bs budget start (stoppedWith x (a .parts .slots))
     run-ends n x q =
-        subst (λ y. Ended (tableOf bs) budget start (stoppedWith y (a .parts .slots))) (sym q)
+        subst (λ y. Ended bs budget start (stoppedWith y (a .parts .slots))) (sym q)
         (record {
           answer-is = r .same ∙ run-stops (tableOf bs) p left h a (step-is .turn) n;
           kept = record { in-slots = kept-on .in-slots; same-length = kept-on .same-length; same-rest = kept-on .same-rest };
+          with-more =
+              λ more.
+              r .longer more ∙ run-stops (tableOf bs) p (left + more) (omega arith) a (step-is .turn) n
+              ∙ sym (onward-end (a .step) n (λ k. runFrom (tableOf bs) more (counted p a .parts)) (answerOf (counted p a)));
+          goes-on = λ more k g z. absurd (n k z);
         })
 
     pub run-ends-with : IsEnd (a .step) → (n : Hot) → n ≡ countedHot p a → (x : Stopped)
         → x ≡ stoppedAt (a .step) (a .parts .places) (a .parts .functions) (a .parts .vars) n
-        → Ended (tableOf bs) budget start (stoppedWith x (a .parts .slots))
+        → Ended bs budget start (stoppedWith x (a .parts .slots))
     run-ends-with e n m x q = run-ends e x (q ∙ ap (stoppedAt (a .step) (a .parts .places) (a .parts .functions) (a .parts .vars)) m)
 
   pub run-spent : left ≤ 0 → (x : Stopped) → x ≡ stoppedAt (Went (p .hot .place)) (p .places) (p .functions) (p .vars) (p .hot)
-      → Ended (tableOf bs) budget start (stoppedWith x (p .slots))
+      → Ended bs budget start (stoppedWith x (p .slots))
   run-spent h x q =
-      subst (λ y. Ended (tableOf bs) budget start (stoppedWith y (p .slots))) (sym q)
+      subst (λ y. Ended bs budget start (stoppedWith y (p .slots))) (sym q)
       (record {
         answer-is = r .same ∙ run-none (tableOf bs) left p h;
         kept = record { in-slots = r .kept .in-slots; same-length = r .kept .same-length; same-rest = r .kept .same-rest };
+        with-more = λ more. r .longer more ∙ ap (λ n. runFrom (tableOf bs) n p) (let q : left + more ≡ more = omega arith in q);
+        goes-on = λ more k g z. subst (λ n. Going bs n p) (let q : left + more ≡ more = omega arith in q) (r .further more g);
       })
 
 -- ---- the whole run
@@ -165,7 +187,7 @@ starts {bs} {slots} {vs} {budget} a h l e =
       traced = omega arith;
     })
 
-pub answers : (bs slots vs held : List ℕ) (budget o : ℕ) (m : Machine) (x : Stopped) → m ≡ startOf vs → Ended (tableOf bs) budget (partsIn m held) (stoppedWith x slots) → o ≡ outcomeOf (x .step)
+pub answers : (bs slots vs held : List ℕ) (budget o : ℕ) (m : Machine) (x : Stopped) → m ≡ startOf vs → Ended bs budget (partsIn m held) (stoppedWith x slots) → o ≡ outcomeOf (x .step)
     → ranWith (record { number = 0; outcome = o; steps = x .machine .hot .steps; traced = x .machine .hot .traced; variables = x .machine .variables }) slots
     ≡ running Accepted (sourceRun (tableOf bs) budget vs) vs held
 unfolding running

@@ -4,8 +4,9 @@ use mathlib.Core.Path.{_≡_}
 use mathlib.Core.List.{List, [], _∷_}
 use lib.ListN.{length, getD, take, drop, replicate}
 use Rattle.rules.specs.declared.answer.Ran.{Ran}
+use Rattle.rules.specs.declared.step.Step.the-variants.{Went}
 use Rattle.rules.specs.Limits.{maxOpen}
-use Rattle.rules.specs.Row.{Table}
+use Rattle.rules.specs.Row.{Table, tableOf}
 use Rattle.rules.specs.State.{Frame, frame}
 use Rattle.rules.specs.Run.{Turn, on, ends, Answer, run}
 use Rattle.rules.specs.Source.{Source, sourceStep}
@@ -74,10 +75,13 @@ pub record Kept (n : ℕ) (held slots : List ℕ) : Type 0 where
   pub same-length : length slots ≡ length held
   pub same-rest : drop n slots ≡ drop n held
 
--- a run of these parts came to this
-pub record Ended (t : Table) (budget : ℕ) (p : Parts) (a : After) : Type 0 where
-  pub answer-is : runFrom t budget p ≡ answerOf a
+-- a run of these parts came to this, and one with more steps in its budget comes to what it goes on to from here, which it may for as
+-- many steps as were to come
+pub record Ended (bs : List ℕ) (budget : ℕ) (p : Parts) (a : After) : Type 0 where
+  pub answer-is : runFrom (tableOf bs) budget p ≡ answerOf a
   pub kept : Kept (a .parts .hot .traced) (p .slots) (a .parts .slots)
+  pub with-more : (more : ℕ) → runFrom (tableOf bs) (budget + more) p ≡ onward (a .step) (λ k. runFrom (tableOf bs) more (a .parts)) (answerOf a)
+  pub goes-on : (more k : ℕ) → Going bs (budget + more) p → a .step ≡ Went k → Going bs more (a .parts)
 
 -- ---- the start, and what is given back
 abbrev pub startOf : (vars : List ℕ) → Machine

@@ -20,7 +20,7 @@ pub mod run;
 pub mod step;
 
 // Function 0 before the row after row 0, with these variables.
-fn start(variables: [u16; 16]) -> Machine
+pub fn start(variables: [u16; 16]) -> Machine
     ensures { λ r. ⌜ r ≡ startOf variables ⌝ }
 {
     Machine {

@@ -1,6 +1,5 @@
 // A run of at most as many steps as its budget.
 ghost use mathlib.Core.Path.{_≡_};
-ghost use Rattle.rules.specs.Row.{tableOf};
 ghost use Rattle.source.specs.Step.{Known};
 ghost use Rattle.source.specs.Run.{partsIn, stoppedWith, Going, Ended};
 use crate::step;
@@ -22,7 +21,7 @@ pub fn run_rows(
     trace: &mut [u16],
 ) -> Stopped
     requires { ⌜ (Known (now rows) (now map) (now ends) (now elses) (now heads)) × (Going (now rows) budget (partsIn start (now trace))) ⌝ }
-    ensures { λ r. ⌜ Ended (tableOf (now (rows .entry))) budget (partsIn start (now (trace .entry))) (stoppedWith r (now (trace .exit))) ⌝ }
+    ensures { λ r. ⌜ Ended (now (rows .entry)) budget (partsIn start (now (trace .entry))) (stoppedWith r (now (trace .exit))) ⌝ }
 {
     let mut places = start.places;
     let mut functions = start.functions;
@@ -53,4 +52,20 @@ pub fn run_rows(
         left -= 1;
     }
     at_end(Step::Went(h.place), places, functions, variables, h)
+}
+
+// One step is a run of one.
+pub fn step(
+    rows: &[u8],
+    map: &[u16],
+    ends: &[u16],
+    elses: &[u16],
+    heads: &[u16],
+    machine: Machine,
+    trace: &mut [u16],
+) -> Stopped
+    requires { ⌜ (Known (now rows) (now map) (now ends) (now elses) (now heads)) × (Going (now rows) 1 (partsIn machine (now trace))) ⌝ }
+    ensures { λ r. ⌜ Ended (now (rows .entry)) 1 (partsIn machine (now (trace .entry))) (stoppedWith r (now (trace .exit))) ⌝ }
+{
+    run_rows(rows, map, ends, elses, heads, machine, 1, trace)
 }

@@ -33,6 +33,23 @@ pub struct Frame {
     pub counters: [u16; COUNTERS],
 }
 
+/// What can be seen of a run from outside: a jump, and each step before it is
+/// done.
+#[derive(Clone, Debug, PartialEq, Eq)]
+pub enum Sight {
+    Jump { place: u16 },
+    Step { function: usize, place: usize, what: What },
+}
+
+/// A step: 01's word for its kind, the counters that it looks at, each with what
+/// it holds, and for a back line where the function that returned last ended.
+#[derive(Clone, Debug, PartialEq, Eq)]
+pub struct What {
+    pub word: &'static str,
+    pub counters: Vec<(u8, u16)>,
+    pub ended: Option<u16>,
+}
+
 /// A hardened run and what it has done so far.
 pub struct HardenedRun<'a> {
     lines: &'a [Line],
@@ -89,14 +106,73 @@ impl<'a> HardenedRun<'a> {
 
     /// Runs until something ends it.
     pub fn run(&mut self, budget: u16, jump: Option<Jump>) -> Outcome {
+        self.run_seen(budget, jump, &mut |_, _| ())
+    }
+
+    /// The same, with each sight shown, and the number of the step.
+    pub fn run_seen(
+        &mut self,
+        budget: u16,
+        jump: Option<Jump>,
+        show: &mut dyn FnMut(u16, Sight),
+    ) -> Outcome {
         loop {
             if self.steps == budget {
                 return Outcome::BudgetSpent;
             }
-            if let Err(outcome) = self.strike(jump).and_then(|()| self.step()) {
+            if let Some(jump) = jump.filter(|jump| jump.k == self.steps) {
+                show(self.steps, Sight::Jump { place: jump.place });
+            }
+            if let Err(outcome) = self.strike(jump) {
+                return outcome;
+            }
+            show(self.steps, self.sight());
+            if let Err(outcome) = self.step() {
                 return outcome;
             }
         }
+    }
+
+    /// The step that comes next.
+    fn sight(&self) -> Sight {
+        let frame = self.frames.last().expect("one function is open");
+        let (function, place) = (frame.function, frame.place);
+        let span = self.span();
+        let what = match place == span.m {
+            true => self.end_seen(),
+            false => self.line_seen(self.lines[span.first + place]),
+        };
+        Sight::Step { function, place, what }
+    }
+
+    /// What the regions' counters hold.
+    fn held(&self, regions: &[u8]) -> Vec<(u8, u16)> {
+        let frame = self.frames.last().expect("one function is open");
+        regions.iter().map(|region| (*region, frame.counters[usize::from(*region)])).collect()
+    }
+
+    /// "place m returns without a check"; with one function open "the host
+    /// compares its region 0 counter".
+    fn end_seen(&self) -> What {
+        let regions: &[u8] = if self.frames.len() == 1 { &[0] } else { &[] };
+        What { word: "end", counters: self.held(regions), ended: None }
+    }
+
+    /// The checks of a line, by the table of 01.
+    fn line_seen(&self, line: Line) -> What {
+        let (word, regions) = match line.kind {
+            line::DO => ("do", vec![]),
+            line::TICK => ("tick", vec![line.r]),
+            line::TEST => ("test", vec![line.r]),
+            line::LEAVE => ("leave", vec![line.r, line.s]),
+            line::OUT => ("out", vec![line.r]),
+            line::CALL => ("call", vec![line.r]),
+            line::BACK => ("back", vec![line.r]),
+            line::RET => ("ret", vec![line.r]),
+            kind => unreachable!("an accepted table has no line kind {kind}"),
+        };
+        let ended = (line.kind == line::BACK).then_some(self.returned);
+        What { word, counters: self.held(&regions), ended }
     }
 
     /// "before step k (from 0) the running function goes to that place";

@@ -29,6 +29,17 @@ impl Outcome {
     pub fn number(self) -> u8 {
         self as u8
     }
+
+    /// 01's own words.
+    pub fn words(self) -> &'static str {
+        match self {
+            Outcome::BudgetSpent => "budget spent",
+            Outcome::Finished => "finished",
+            Outcome::Alarm => "alarm",
+            Outcome::TooManyOpen => "too many open functions",
+            Outcome::PlaceBeyond => "the place is beyond m",
+        }
+    }
 }
 
 /// "do: op 0: vp = n; 1: vp = vq; 2: vp = vp + vq; 3: vp = vp - vq (2 and 3

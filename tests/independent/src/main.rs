@@ -1,18 +1,25 @@
 //! The command line.
 
 use std::env;
+use std::ffi::OsString;
 use std::io::{self, Write};
+use std::os::unix::ffi::OsStrExt;
 use std::path::Path;
 use std::process::ExitCode;
 
 use independent::protocol::Test;
-use independent::{explain, replay, replay_fault, replay_read, replay_run, text, texts};
+use independent::run_text::{self, Printed};
+use independent::{
+    explain, replay, replay_fault, replay_read, replay_run, run_cases, text, texts,
+};
 
 const USAGE: &str = "usage:
   independent harden                            rows on stdin, lines on stdout
   independent readback                          lines on stdin, rows on stdout
   independent explain                           rows on stdin, number, row and words on stdout
   independent texts SEED COUNT DIR              rows and lines for these three
+  independent run WORDS                         a run of the table on stdin
+  independent run-cases SEED COUNT DIR          command lines and inputs for it
   independent replay SEED COUNT DIR             tests of check and harden
   independent replay-fault SEED COUNT DIR       tests of fault
   independent replay-read SEED COUNT DIR        tests of reading back
@@ -20,7 +27,12 @@ const USAGE: &str = "usage:
   independent replay-run SEED COUNT DIR [long]  tests of runs";
 
 fn main() -> ExitCode {
-    let arguments: Vec<String> = env::args().skip(1).collect();
+    let given: Vec<OsString> = env::args_os().skip(1).collect();
+    if given.first().is_some_and(|word| word == "run") {
+        return ended(run(&given[1..]));
+    }
+    let arguments: Vec<String> =
+        given.iter().map(|word| word.to_string_lossy().into_owned()).collect();
     let words: Vec<&str> = arguments.iter().map(String::as_str).collect();
     let done = match words[..] {
         ["harden"] => text::harden(io::stdin().lock()).and_then(|text| print(&text)),
@@ -30,6 +42,7 @@ fn main() -> ExitCode {
         ["replay-fault", seed, count, to] => {
             files(replay_fault::tests, seed, count, to, Vec::new())
         }
+        ["run-cases", seed, count, to] => run_files(seed, count, to),
         ["replay", seed, count, to] => files(replay::tests, seed, count, to, Vec::new()),
         ["replay-read", seed, count, to] => files(replay_read::tests, seed, count, to, Vec::new()),
         ["replay-bytes", to] => replay::write(&replay_read::every_byte(), Path::new(to)),
@@ -39,6 +52,10 @@ fn main() -> ExitCode {
         }
         _ => Err(wrong_usage()),
     };
+    ended(done)
+}
+
+fn ended(done: io::Result<()>) -> ExitCode {
     match done {
         Ok(()) => ExitCode::SUCCESS,
         Err(error) => {
@@ -63,6 +80,22 @@ fn write_texts(seed: &str, count: &str, to: &str) -> io::Result<()> {
     let seed = seed.parse().map_err(|_| wrong_usage())?;
     let count = count.parse().map_err(|_| wrong_usage())?;
     texts::write(seed, count, Path::new(to))
+}
+
+/// A run of the table on standard input. A wrong word is told on standard error.
+fn run(words: &[OsString]) -> io::Result<()> {
+    let words: Vec<Vec<u8>> = words.iter().map(|word| word.as_bytes().to_vec()).collect();
+    match run_text::run(&words, io::stdin().lock())? {
+        Printed::Out(text) => print(&text),
+        Printed::Wrong(line) => io::stderr().write_all(&line),
+    }
+}
+
+/// Writes the cases of `run-cases`.
+fn run_files(seed: &str, count: &str, to: &str) -> io::Result<()> {
+    let seed = seed.parse().map_err(|_| wrong_usage())?;
+    let count = count.parse().map_err(|_| wrong_usage())?;
+    run_cases::write(&run_cases::cases(seed, count), Path::new(to))
 }
 
 /// Writes the two files of a replay command.

@@ -258,7 +258,7 @@ fn small_fault(rng: &mut Random) -> Vec<u8> {
 }
 
 /// 0, 1, small, large, 65,535 (which `some_slots` lends too few slots).
-fn some_budget(rng: &mut Random) -> u16 {
+pub fn some_budget(rng: &mut Random) -> u16 {
     word(match rng.below(100) {
         0..=3 => 0,
         4..=7 => 1,
@@ -285,7 +285,7 @@ fn some_slots(rng: &mut Random, budget: u16) -> usize {
 
 /// A jump within the run, at its end, past it, or none; a place in the running
 /// function, its m, or beyond.
-fn some_strike(rng: &mut Random, lines: &[u8], variables: &Variables, budget: u16) -> Struck {
+pub fn some_strike(rng: &mut Random, lines: &[u8], variables: &Variables, budget: u16) -> Struck {
     let (steps, running) = unstruck(lines, variables, budget.min(2000));
     let slots = some_slots(rng, budget);
     let words = rng.pick(&[1024, 1024, 1024, 1024, 1024, 1024, 1024, 1100, 1100, 1025, 1023, 0]);

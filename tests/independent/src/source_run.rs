@@ -4,6 +4,15 @@ use crate::machine::{do_it, holds, Outcome, Variables, MOST_OPEN_FUNCTIONS};
 use crate::row::Row;
 use crate::table::{Block, Else, Stmt, Table};
 
+/// A step of the run: the number of the running function, the row, and 01's word
+/// for the row's kind.
+#[derive(Clone, Copy, Debug, PartialEq, Eq)]
+pub struct Reached {
+    pub function: usize,
+    pub row: usize,
+    pub word: &'static str,
+}
+
 /// A source run and what it has done so far.
 pub struct SourceRun<'a> {
     table: &'a Table,
@@ -16,6 +25,8 @@ pub struct SourceRun<'a> {
     pub calls: u16,
     /// "the numbers of those opened and not returned, oldest first"
     pub open: Vec<usize>,
+    /// the rows reached, one for each step
+    pub reached: Vec<Reached>,
 }
 
 /// How a block was left.
@@ -29,7 +40,16 @@ enum Flow {
 
 impl<'a> SourceRun<'a> {
     pub fn new(table: &'a Table, variables: Variables, budget: u16) -> SourceRun<'a> {
-        SourceRun { table, budget, steps: 0, variables, trace: Vec::new(), calls: 0, open: vec![0] }
+        SourceRun {
+            table,
+            budget,
+            steps: 0,
+            variables,
+            trace: Vec::new(),
+            calls: 0,
+            open: vec![0],
+            reached: Vec::new(),
+        }
     }
 
     /// "Function 0 runs first."
@@ -42,11 +62,13 @@ impl<'a> SourceRun<'a> {
 
     /// "Each row reached is one step". A run whose budget is spent stops before
     /// the step.
-    fn step(&mut self) -> Result<(), Outcome> {
+    fn step(&mut self, row: usize, word: &'static str) -> Result<(), Outcome> {
         if self.steps == self.budget {
             return Err(Outcome::BudgetSpent);
         }
         self.steps += 1;
+        let function = *self.open.last().expect("one function is open");
+        self.reached.push(Reached { function, row, word });
         Ok(())
     }
 
@@ -56,7 +78,7 @@ impl<'a> SourceRun<'a> {
         let table = self.table;
         let flow = self.block(&table.functions[number].body)?;
         assert!(flow == Flow::On, "breaks and continues stand in loops");
-        self.step()?;
+        self.step(table.functions[number].end, "end")?;
         if self.open.len() == 1 {
             return Err(Outcome::Finished);
         }
@@ -75,16 +97,16 @@ impl<'a> SourceRun<'a> {
     }
 
     fn statement(&mut self, stmt: &Stmt) -> Result<Flow, Outcome> {
-        self.step()?;
+        self.step(stmt.row(), word_of(stmt))?;
         match stmt {
             Stmt::Do { row, what } => self.perform(*row, *what),
             Stmt::Break { .. } => return Ok(Flow::Broken),
             Stmt::Continue { .. } => return Ok(Flow::Continued),
             Stmt::Call { function, .. } => self.call(usize::from(*function))?,
-            Stmt::If { test, then, other, .. } => {
-                return self.conditional(*test, then, other.as_ref())
+            Stmt::If { test, then, other, end, .. } => {
+                return self.conditional(*test, then, other.as_ref(), *end)
             }
-            Stmt::While { test, body, .. } => self.repeat(*test, body)?,
+            Stmt::While { row, test, body, end } => self.repeat(*row, *test, body, *end)?,
         }
         Ok(Flow::On)
     }
@@ -115,32 +137,46 @@ impl<'a> SourceRun<'a> {
         test: Row,
         then: &Block,
         other: Option<&Else>,
+        end: usize,
     ) -> Result<Flow, Outcome> {
-        let part = match (self.test(test), other) {
-            (true, _) => then,
-            (false, Some(other)) => &other.block,
+        let (part, closing, word) = match (self.test(test), other) {
+            (true, Some(other)) => (then, other.row, "else"),
+            (true, None) => (then, end, "end"),
+            (false, Some(other)) => (&other.block, end, "end"),
             (false, None) => return Ok(Flow::On),
         };
         let flow = self.block(part)?;
         if flow == Flow::On {
             // The row that closes the part: the else row, which "reached from
             // the then part goes past its end", or the end row.
-            self.step()?;
+            self.step(closing, word)?;
         }
         Ok(flow)
     }
 
     /// The step of the first test has been counted. "break goes past the loop's
     /// end; continue and the loop's end go to its test."
-    fn repeat(&mut self, test: Row, body: &Block) -> Result<(), Outcome> {
+    fn repeat(&mut self, row: usize, test: Row, body: &Block, end: usize) -> Result<(), Outcome> {
         while self.test(test) {
             match self.block(body)? {
                 Flow::Broken => return Ok(()),
                 Flow::Continued => {}
-                Flow::On => self.step()?, // the end row
+                Flow::On => self.step(end, "end")?,
             }
-            self.step()?; // the test again
+            self.step(row, "loop")?; // the test again
         }
         Ok(())
+    }
+}
+
+/// The table of row kinds: "if, loop (while)" and so on.
+fn word_of(stmt: &Stmt) -> &'static str {
+    match stmt {
+        Stmt::Do { .. } => "do",
+        Stmt::If { .. } => "if",
+        Stmt::While { .. } => "loop",
+        Stmt::Break { .. } => "break",
+        Stmt::Continue { .. } => "continue",
+        Stmt::Call { .. } => "call",
     }
 }

@@ -1,0 +1,57 @@
+use borrow.Author.Needs.{needs}
+use native.Mathlib.Omega.{arith}
+use lib.ListN.{length}
+use Prim.Native.Nat.{_-_, _≤_}
+use Rattle.run.proofs.print.word.Statement.{statement}
+use Rattle.run.proofs.print.word.Tie as tie
+use Rattle.run.proofs.print.word.Reads as reads
+use Rattle.run.proofs.print.word.Lts as lts
+use Rattle.run.proofs.print.put.Reads as put-reads
+
+abbrev Inv-loop : tie.InvT-loop
+Inv-loop w at text₀ next₀ i₀ text next i = (i ≤ length w) × (next ≤ 65536)
+
+abbrev μ-loop : tie.MeasureT-loop
+μ-loop w at text₀ next₀ i₀ text next i = length w - i
+
+-- src/print.rt:25:5
+loop-holds : tie.Need-loop-holds Inv-loop μ-loop
+loop-holds c = search needs
+
+-- src/print.rt:26:20
+shared-slice-read-put : tie.Need-shared-slice-read-put Inv-loop μ-loop
+shared-slice-read-put c = search needs
+
+-- src/print.rt:26:9
+put-requires : tie.Need-put-requires Inv-loop μ-loop
+put-requires c κs = search needs
+
+-- src/print.rt:27:9
+add-i : tie.Need-add-i Inv-loop μ-loop
+add-i c = search needs
+
+-- src/print.rt:25:5
+loop-less : tie.Need-loop-less Inv-loop μ-loop
+loop-less c = search needs
+
+-- src/print.rt:25:5
+loop-again : tie.Need-loop-again Inv-loop μ-loop
+loop-again c = search needs
+
+-- src/print.rt:19:1
+returns : tie.Need-returns Inv-loop μ-loop
+returns c = search needs
+
+pub word-spec : {M : Type 1} → statement M
+word-spec =
+    tie.close
+    (tie.spec
+    Inv-loop
+    μ-loop
+    loop-holds
+    shared-slice-read-put
+    put-requires
+    add-i
+    loop-less
+    loop-again
+    returns)

@@ -1,0 +1,68 @@
+use native.Mathlib.Omega.{arith}
+use mathlib.Core.Path.{_≡_}
+use lib.ListN.{length, length-set}
+use Prim.Native.Nat.{_-_, _≤_}
+use borrow.Author.Needs.{needs}
+use Rattle.run.proofs.wrong.plain.Statement.{statement}
+use Rattle.run.proofs.wrong.plain.Tie as tie
+use Rattle.run.proofs.wrong.plain.Reads as reads
+use Rattle.run.proofs.wrong.plain.Lts as lts
+use Rattle.run.proofs.wrong.shown.Reads as shown-reads
+
+abbrev Inv-loop : tie.InvT-loop
+Inv-loop word₀ i₀ word i = (i ≤ length word₀) × (length word ≡ length word₀)
+
+abbrev μ-loop : tie.MeasureT-loop
+μ-loop word₀ i₀ word i = length word₀ - i
+
+-- src/wrong.rt:44:5
+loop-holds : tie.Need-loop-holds Inv-loop μ-loop
+loop-holds c = search needs
+
+-- src/wrong.rt:45:25
+slice-read-shown : tie.Need-slice-read-shown Inv-loop μ-loop
+slice-read-shown c = search needs
+
+-- src/wrong.rt:45:19
+shown-requires : tie.Need-shown-requires Inv-loop μ-loop
+shown-requires c κs = search needs
+
+-- src/wrong.rt:45:9
+slice-write-word : tie.Need-slice-write-word Inv-loop μ-loop
+slice-write-word c = search needs
+
+-- src/wrong.rt:46:9
+add-i : tie.Need-add-i Inv-loop μ-loop
+add-i c = search needs
+
+-- src/wrong.rt:44:5
+loop-less : tie.Need-loop-less Inv-loop μ-loop
+loop-less c = search needs
+
+-- src/wrong.rt:44:5
+loop-again : tie.Need-loop-again Inv-loop μ-loop
+loop-again c = (omega arith, simp length-set (omega arith))
+
+-- src/wrong.rt:42:1
+same-length : tie.Need-same-length Inv-loop μ-loop
+same-length c = search needs
+
+-- src/wrong.rt:42:1
+returns : tie.Need-returns Inv-loop μ-loop
+returns c = search needs
+
+pub plain-spec : {M : Type 1} → statement M
+plain-spec =
+    tie.close
+    (tie.spec
+    Inv-loop
+    μ-loop
+    loop-holds
+    slice-read-shown
+    shown-requires
+    slice-write-word
+    add-i
+    loop-less
+    loop-again
+    same-length
+    returns)

@@ -1,0 +1,14 @@
+-- What listing a step of a hardened run needs to know of the lines and the numbers.
+use Prim.Native.Nat.{ℕ, _+_, _≤_, _<_}
+use mathlib.Core.List.{List}
+use mathlib.Core.Logic.{_≢_}
+use lib.ListN.{getD}
+use Rattle.machine.specs.declared.machine.Hot.{Hot}
+use Rattle.machine.specs.Ready.{Room, LineHere}
+
+-- the running function is at one of its places, and where that is not its place m at a line
+pub record Placed (bs starts : List ℕ) (h : Hot) (ws : List ℕ) : Type 0 where
+  pub known : h .function < 32
+  pub not-before : getD starts (h .function) 0 ≤ h .place
+  pub has-room : Room (h .depth) ws
+  pub here : h .place ≢ getD starts (h .function + 1) 0 → LineHere bs (h .place)

@@ -1,0 +1,199 @@
+// The command line: which run, and with what.
+ghost use mathlib.Core.Path.{_≡_};
+ghost use lib.ListN.{length};
+use crate::number::Number;
+use crate::word;
+use crate::word::Word;
+use crate::wrong::Expected;
+
+// A budget, a jump and `show` are given once at most.
+pub struct Asked {
+    pub hardened: bool,
+    pub show: bool,
+    pub budgeted: bool,
+    pub struck: bool,
+    pub budget: u16,
+    pub step: u16,
+    pub place: u16,
+}
+
+// What was expected in a word's place, and how many of its bytes the buffer holds.
+pub struct Fault {
+    pub expected: Expected,
+    pub length: usize,
+}
+
+pub enum Given {
+    Missing,
+    Wrong(Fault),
+    Right(Asked),
+}
+
+// What is asked with one word more, or what was expected in its place.
+pub enum Taken {
+    Wrong(Expected),
+    Right(Asked),
+}
+
+// Reads each word into the buffer, where the first wrong one stays.
+pub fn read(buffer: &mut [u8], variables: &mut [u16; 16]) -> Given
+    requires { ⌜ 4096 ≡ length (now buffer) ⌝ }
+{
+    if os::arg_count() < 2 {
+        return Given::Missing;
+    }
+    let n = os::arg(1, buffer);
+    if is_long() {
+        return wrong(Expected::Shorter, 4096);
+    }
+    if word::is(&buffer[..n], b"source") {
+        return read_rest(begun(false), buffer, variables);
+    }
+    if word::is(&buffer[..n], b"hardened") {
+        return read_rest(begun(true), buffer, variables);
+    }
+    wrong(Expected::Run, n)
+}
+
+// The words behind the first.
+fn read_rest(start: Asked, buffer: &mut [u8], variables: &mut [u16; 16]) -> Given
+    requires { ⌜ 4096 ≡ length (now buffer) ⌝ }
+{
+    let count = os::arg_count();
+    let mut seen = [0u8; 16];
+    let mut asked = start;
+    let mut i = 2;
+    while i < count {
+        let n = os::arg(i, buffer);
+        if is_long() {
+            return wrong(Expected::Shorter, 4096);
+        }
+        match take(word::read(&buffer[..n]), asked, variables, &mut seen) {
+            Taken::Wrong(e) => return wrong(e, n),
+            Taken::Right(a) => asked = a,
+        }
+        i += 1;
+    }
+    Given::Right(asked)
+}
+
+// Whether the last argument read was longer than the buffer.
+fn is_long() -> bool {
+    os::errno() == libc::ENAMETOOLONG
+}
+
+fn wrong(expected: Expected, length: usize) -> Given {
+    Given::Wrong(Fault { expected, length })
+}
+
+// No jump, and the largest budget.
+fn begun(hardened: bool) -> Asked {
+    Asked {
+        hardened,
+        show: false,
+        budgeted: false,
+        struck: false,
+        budget: 65535,
+        step: 65535,
+        place: 0,
+    }
+}
+
+fn take(w: Word, a: Asked, variables: &mut [u16; 16], seen: &mut [u8; 16]) -> Taken {
+    match w {
+        Word::Budget(x) => take_budget(x, a),
+        Word::Variable(k, v) => take_variable(k, v, a, variables, seen),
+        Word::Jump(k, p) => take_jump(k, p, a),
+        Word::Show => take_show(a),
+        Word::Wrong(e) => Taken::Wrong(fitting(e, a.hardened)),
+    }
+}
+
+// A source run has no jump.
+fn fitting(e: Expected, hardened: bool) -> Expected {
+    if hardened {
+        return in_hardened(e);
+    }
+    match e {
+        Expected::Jump => Expected::NoJump,
+        _ => e,
+    }
+}
+
+fn in_hardened(e: Expected) -> Expected {
+    match e {
+        Expected::Any => Expected::AnyOrJump,
+        _ => e,
+    }
+}
+
+fn take_budget(x: u16, a: Asked) -> Taken {
+    if a.budgeted {
+        return Taken::Wrong(Expected::OneBudget);
+    }
+    Taken::Right(Asked {
+        hardened: a.hardened,
+        show: a.show,
+        budgeted: true,
+        struck: a.struck,
+        budget: x,
+        step: a.step,
+        place: a.place,
+    })
+}
+
+fn take_jump(step: u16, place: u16, a: Asked) -> Taken {
+    if !a.hardened {
+        return Taken::Wrong(Expected::NoJump);
+    }
+    if a.struck {
+        return Taken::Wrong(Expected::OneJump);
+    }
+    Taken::Right(Asked {
+        hardened: a.hardened,
+        show: a.show,
+        budgeted: a.budgeted,
+        struck: true,
+        budget: a.budget,
+        step,
+        place,
+    })
+}
+
+fn take_show(a: Asked) -> Taken {
+    if a.show {
+        return Taken::Wrong(Expected::OneShow);
+    }
+    Taken::Right(Asked {
+        hardened: a.hardened,
+        show: true,
+        budgeted: a.budgeted,
+        struck: a.struck,
+        budget: a.budget,
+        step: a.step,
+        place: a.place,
+    })
+}
+
+// `seen` has a 1 for each variable that was given.
+fn take_variable(
+    k: u16,
+    value: Number,
+    a: Asked,
+    variables: &mut [u16; 16],
+    seen: &mut [u8; 16],
+) -> Taken {
+    if 15 < k {
+        return Taken::Wrong(fitting(Expected::Any, a.hardened));
+    }
+    let Number::Value(x) = value else {
+        return Taken::Wrong(Expected::Variable(k));
+    };
+    let i = k as usize;
+    if seen[i] != 0 {
+        return Taken::Wrong(Expected::OneVariable(k));
+    }
+    seen[i] = 1;
+    variables[i] = x;
+    Taken::Right(a)
+}

@@ -1,0 +1,234 @@
+// A hardened run made step by step, each step listed before it is made. It comes to what the run comes to: `walk` promises what
+// `machine::run::run_lines` does, `strike` what `machine::strike::strike` does.
+ghost use mathlib.Core.Path.{_≡_};
+ghost use mathlib.Core.Bool.{true};
+ghost use Prim.Native.Nat.{_≤_};
+ghost use lib.ListN.{length};
+ghost use Rattle.rules.specs.Line.{linesIn};
+ghost use Rattle.rules.specs.ReadBack.{isHardened};
+ghost use Rattle.machine.specs.Step.{mapOf};
+ghost use Rattle.machine.specs.Run.{partsIn, stoppedWith, runOf};
+ghost use Rattle.machine.specs.Stands.{Ready, Going};
+ghost use Rattle.machine.specs.Struck.{landOf, struckOf};
+use crate::line;
+use crate::print;
+use machine::machine::Machine;
+use machine::machine::Stopped;
+use machine::machine::begun;
+use machine::map;
+use machine::run;
+use machine::strike::land;
+use machine::words;
+use rules::step::Step;
+
+fn walk(
+    lines: &[u8],
+    starts: &[u16; 33],
+    owners: &[u8; 2049],
+    home: u16,
+    start: Machine,
+    budget: u16,
+    counters: &mut [u16],
+    trace: &mut [u16],
+    text: &mut [u8; 65536],
+) -> Stopped
+    requires { ⌜ (Ready (now lines) (mapOf (now starts) (now owners) home)) × (Going (linesIn (now lines)) budget (partsIn start (now counters) (now trace))) ⌝ }
+    ensures { λ r. ⌜ stoppedWith r (now (counters .exit)) (now (trace .exit)) ≡ runOf (now (lines .entry)) (mapOf (now (starts .entry)) (now (owners .entry)) home) budget (partsIn start (now (counters .entry)) (now (trace .entry))) ⌝ }
+{
+    let mut m = start;
+    let mut left = budget;
+    let mut at = 0;
+    while 0 < left {
+        let h = m.hot;
+        at = line::list(lines, starts, h, counters, at, text);
+        let x = run::step(lines, starts, owners, home, m, counters, trace);
+        let s = x.step;
+        let Step::Went(_) = s else {
+            print::flush(at, text);
+            return x;
+        };
+        m = x.machine;
+        left -= 1;
+    }
+    print::flush(at, text);
+    let h = m.hot;
+    Stopped {
+        step: Step::Went(h.place),
+        machine: m,
+    }
+}
+
+// The jump is listed, and then made; a place beyond the last ends the run.
+fn land_and_walk(
+    lines: &[u8],
+    starts: &[u16; 33],
+    owners: &[u8; 2049],
+    home: u16,
+    struck: Machine,
+    left: u16,
+    place: u16,
+    counters: &mut [u16],
+    trace: &mut [u16],
+    text: &mut [u8; 65536],
+) -> Stopped
+    requires { ⌜ (Ready (now lines) (mapOf (now starts) (now owners) home)) × (Going (linesIn (now lines)) left (partsIn struck (now counters) (now trace))) ⌝ }
+    ensures { λ r. ⌜ stoppedWith r (now (counters .exit)) (now (trace .exit)) ≡ landOf (now (lines .entry)) (mapOf (now (starts .entry)) (now (owners .entry)) home) left place (partsIn struck (now (counters .entry)) (now (trace .entry))) ⌝ }
+{
+    io::write_all(1, b"jump to place ");
+    io::print_decimal(1, place as u64);
+    io::write_all(1, b"\n");
+    let x = land(
+        lines,
+        starts,
+        owners,
+        home,
+        struck,
+        0,
+        place,
+        counters,
+        trace,
+    );
+    let s = x.step;
+    let Step::Went(_) = s else {
+        return x;
+    };
+    walk(
+        lines,
+        starts,
+        owners,
+        home,
+        x.machine,
+        left,
+        counters,
+        trace,
+        text,
+    )
+}
+
+fn strike(
+    lines: &[u8],
+    starts: &[u16; 33],
+    owners: &[u8; 2049],
+    home: u16,
+    start: Machine,
+    budget: u16,
+    step: u16,
+    place: u16,
+    counters: &mut [u16],
+    trace: &mut [u16],
+    text: &mut [u8; 65536],
+) -> Stopped
+    requires { ⌜ (Ready (now lines) (mapOf (now starts) (now owners) home)) × (Going (linesIn (now lines)) budget (partsIn start (now counters) (now trace))) ⌝ }
+    ensures { λ r. ⌜ stoppedWith r (now (counters .exit)) (now (trace .exit)) ≡ struckOf (now (lines .entry)) (mapOf (now (starts .entry)) (now (owners .entry)) home) budget step place (partsIn start (now (counters .entry)) (now (trace .entry))) ⌝ }
+{
+    if budget <= step {
+        return walk(
+            lines,
+            starts,
+            owners,
+            home,
+            start,
+            budget,
+            counters,
+            trace,
+            text,
+        );
+    }
+    let x = walk(
+        lines,
+        starts,
+        owners,
+        home,
+        start,
+        step,
+        counters,
+        trace,
+        text,
+    );
+    let s = x.step;
+    let Step::Went(_) = s else {
+        return x;
+    };
+    let left = budget - step;
+    land_and_walk(
+        lines,
+        starts,
+        owners,
+        home,
+        x.machine,
+        left,
+        place,
+        counters,
+        trace,
+        text,
+    )
+}
+
+fn no_starts() -> [u16; 33]
+    ensures { λ r. ⌜ length r ≡ 33 ⌝ }
+{
+    [0; 33]
+}
+
+fn no_owners() -> [u8; 2049]
+    ensures { λ r. ⌜ length r ≡ 2049 ⌝ }
+{
+    [0; 2049]
+}
+
+fn no_counters() -> [u16; 1024]
+    ensures { λ r. ⌜ length r ≡ 1024 ⌝ }
+{
+    [0; 1024]
+}
+
+// The steps of a hardened table's run. What it leaves in the trace is not looked at afterwards.
+fn list_accepted(
+    lines: &[u8],
+    variables: [u16; 16],
+    budget: u16,
+    step: u16,
+    place: u16,
+    trace: &mut [u16],
+    text: &mut [u8; 65536],
+)
+    requires { ⌜ isHardened (now lines) ≡ true ⌝ }
+    requires { ⌜ budget ≤ length (now trace) ⌝ }
+{
+    let mut starts = no_starts();
+    let mut owners = no_owners();
+    let mut counters = no_counters();
+    map::survey(lines, &mut starts, &mut owners);
+    let home = map::home_of(lines, &starts, &owners);
+    words::fresh(&mut counters, 0, 1);
+    strike(
+        lines,
+        &starts,
+        &owners,
+        home,
+        begun(variables),
+        budget,
+        step,
+        place,
+        &mut counters,
+        trace,
+        text,
+    );
+}
+
+// Nothing is listed where the lines are no hardened table.
+pub fn list(
+    lines: &[u8],
+    variables: [u16; 16],
+    budget: u16,
+    step: u16,
+    place: u16,
+    trace: &mut [u16],
+    text: &mut [u8; 65536],
+)
+    requires { ⌜ budget ≤ length (now trace) ⌝ }
+{
+    if reader::is_hardened(lines) {
+        list_accepted(lines, variables, budget, step, place, trace, text);
+    }
+}

@@ -1,0 +1,110 @@
+// Runs a table at the bench:
+//
+//     run source [budget=N] [v0=N .. v15=N] [show] < rows
+//     run hardened [budget=N] [v0=N .. v15=N] [jump=STEP:PLACE] [show] < lines
+//
+// It prints outcome, steps, trace and variables, each on a line of its own, and with `show` each step before them; or `refused N`, or
+// `unreadable`, as the programs harden and readback do. A missing budget is 65,535, a missing variable 0. A wrong word is answered by
+// a line on standard error, and nothing is run. The input is read to its end in constant memory before anything is printed.
+ghost use mathlib.Core.Path.{_≡_};
+ghost use lib.ListN.{length};
+
+mod answer;
+mod arguments;
+mod hardened_steps;
+mod input;
+mod line;
+mod number;
+mod print;
+mod row;
+mod source_steps;
+mod word;
+mod wrong;
+
+use arguments::Asked;
+use arguments::Given;
+use console::input::Read;
+use console::output;
+
+// Slots for the longest trace.
+fn slots() -> [u16; 65535] {
+    [0; 65535]
+}
+
+fn main() {
+    let mut buffer = io::buffer();
+    let mut variables = [0u16; 16];
+    match arguments::read(&mut buffer, &mut variables) {
+        Given::Missing => wrong::missing(),
+        Given::Wrong(f) => {
+            let expected = f.expected;
+            let n = output::within(f.length, &buffer);
+            wrong::say(&mut buffer[..n], expected);
+        }
+        Given::Right(a) => {
+            let mut bytes = io::large_buffer();
+            run(a, variables, &mut buffer, &mut bytes);
+        }
+    }
+}
+
+fn run(a: Asked, variables: [u16; 16], chunk: &mut [u8], bytes: &mut [u8])
+    requires { ⌜ 65536 ≡ length (now bytes) ⌝ }
+{
+    let mut text = io::large_buffer();
+    let mut trace = slots();
+    if a.hardened {
+        match input::lines(chunk, bytes) {
+            Read::Bytes(n) => {
+                let all = output::within(n, bytes);
+                hardened_run(a, &bytes[..all], variables, &mut trace, &mut text);
+            }
+            Read::Unreadable => output::unreadable(),
+        }
+        return;
+    }
+    match input::rows(chunk, bytes) {
+        Read::Bytes(n) => {
+            let all = output::within(n, bytes);
+            source_run(a, &bytes[..all], variables, &mut trace, &mut text);
+        }
+        Read::Unreadable => output::unreadable(),
+    }
+}
+
+fn source_run(
+    a: Asked,
+    rows: &[u8],
+    variables: [u16; 16],
+    trace: &mut [u16; 65535],
+    text: &mut [u8; 65536],
+) {
+    if a.show {
+        source_steps::list(rows, variables, a.budget, trace, text);
+    }
+    let r = finuraho::run_source(rows, variables, a.budget, trace);
+    answer::tell(r, trace, text);
+}
+
+fn hardened_run(
+    a: Asked,
+    lines: &[u8],
+    variables: [u16; 16],
+    trace: &mut [u16; 65535],
+    text: &mut [u8; 65536],
+) {
+    if a.show {
+        hardened_steps::list(lines, variables, a.budget, a.step, a.place, trace, text);
+    }
+    let mut counters = [0u16; 1024];
+    let r = finuraho::run_hardened(
+        lines,
+        variables,
+        a.budget,
+        a.step,
+        a.place,
+        trace,
+        &mut counters,
+    );
+    answer::tell(r, trace, text);
+}

@@ -1,0 +1,106 @@
+// A source run made step by step, each step listed before it is made. It comes to what the run comes to.
+ghost use mathlib.Core.Path.{_≡_};
+ghost use Prim.Native.Nat.{_≤_};
+ghost use lib.ListN.{length};
+ghost use Rattle.rules.specs.declared.refusal.Verdict.the-variants.{Accepted};
+ghost use Rattle.rules.specs.Row.{tableOf};
+ghost use Rattle.rules.specs.Check.{verdictOf};
+ghost use Rattle.rules.specs.Links.{Links};
+ghost use Rattle.source.specs.Step.{Known};
+ghost use Rattle.source.specs.Run.{partsIn, stoppedWith, Going, answerOf, runFrom};
+use crate::print;
+use crate::row;
+use layout::place;
+use machine::machine::Machine;
+use machine::machine::Stopped;
+use rules::refusal::Verdict;
+use rules::step::Step;
+use source::run;
+
+fn walk(
+    rows: &[u8],
+    map: &[u16],
+    ends: &[u16],
+    elses: &[u16],
+    heads: &[u16],
+    start: Machine,
+    budget: u16,
+    trace: &mut [u16],
+    text: &mut [u8; 65536],
+) -> Stopped
+    requires { ⌜ (Known (now rows) (now map) (now ends) (now elses) (now heads)) × (Going (now rows) budget (partsIn start (now trace))) ⌝ }
+    ensures { λ r. ⌜ runFrom (tableOf (now (rows .entry))) budget (partsIn start (now (trace .entry))) ≡ answerOf (stoppedWith r (now (trace .exit))) ⌝ }
+{
+    let mut m = start;
+    let mut left = budget;
+    let mut at = 0;
+    while 0 < left {
+        let h = m.hot;
+        at = row::list(rows, h, at, text);
+        let x = run::step(rows, map, ends, elses, heads, m, trace);
+        let s = x.step;
+        let Step::Went(_) = s else {
+            print::flush(at, text);
+            return x;
+        };
+        m = x.machine;
+        left -= 1;
+    }
+    print::flush(at, text);
+    let h = m.hot;
+    Stopped {
+        step: Step::Went(h.place),
+        machine: m,
+    }
+}
+
+// The steps of an accepted table's run.
+fn list_accepted(
+    rows: &[u8],
+    ends: &[u16; 1024],
+    elses: &[u16; 1024],
+    heads: &[u16; 32],
+    variables: [u16; 16],
+    budget: u16,
+    trace: &mut [u16],
+    text: &mut [u8; 65536],
+)
+    requires { ⌜ verdictOf (now rows) ≡ Accepted ⌝ }
+    requires { ⌜ Links (tableOf (now rows)) (now ends) (now elses) (now heads) ⌝ }
+    requires { ⌜ budget ≤ length (now trace) ⌝ }
+{
+    let mut map = [0u16; 6150];
+    place::survey(rows, &mut map);
+    walk(
+        rows,
+        &map,
+        ends,
+        elses,
+        heads,
+        source::start(variables),
+        budget,
+        trace,
+        text,
+    );
+}
+
+// Nothing is listed where the table is refused.
+pub fn list(
+    rows: &[u8],
+    variables: [u16; 16],
+    budget: u16,
+    trace: &mut [u16],
+    text: &mut [u8; 65536],
+)
+    requires { ⌜ budget ≤ length (now trace) ⌝ }
+{
+    let mut ends = [0u16; 1024];
+    let mut elses = [0u16; 1024];
+    let mut heads = [0u16; 32];
+    match table::check::check(rows, &mut ends, &mut elses, &mut heads) {
+        Verdict::Refused(_) => {}
+        Verdict::Accepted => {
+            list_accepted(rows, &ends, &elses, &heads, variables, budget, trace, text)
+        }
+    }
+}

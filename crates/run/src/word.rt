@@ -1,0 +1,129 @@
+// What one word behind the first says.
+ghost use Rattle.io.specs.Counts.{Counts};
+use crate::number::Number;
+use crate::number::decimal;
+use crate::wrong::Expected;
+
+pub enum Word {
+    Budget(u16),
+    // a variable's number, which may be too large, and its value
+    Variable(u16, Number),
+    Jump(u16, u16),
+    Show,
+    Wrong(Expected),
+}
+
+// How many bytes the name has, where the word begins with it; else 0.
+fn skip(word: &[u8], name: &[u8]) -> usize
+    ensures { λ r. ⌜ Counts r (now (word .entry)) ⌝ }
+{
+    if word.len() < name.len() {
+        return 0;
+    }
+    let mut i = 0;
+    while i < name.len() {
+        if word[i] != name[i] {
+            return 0;
+        }
+        i += 1;
+    }
+    i
+}
+
+pub fn is(word: &[u8], name: &[u8]) -> bool {
+    if word.len() != name.len() {
+        return false;
+    }
+    skip(word, name) == word.len()
+}
+
+// Where the first such byte stands; the length where there is none.
+fn find(b: u8, text: &[u8]) -> usize
+    ensures { λ r. ⌜ Counts r (now (text .entry)) ⌝ }
+{
+    let mut i = 0;
+    while i < text.len() {
+        if text[i] == b {
+            return i;
+        }
+        i += 1;
+    }
+    i
+}
+
+pub fn read(word: &[u8]) -> Word {
+    if is(word, b"show") {
+        return Word::Show;
+    }
+    let b = skip(word, b"budget=");
+    if 0 < b {
+        return budget(&word[b..]);
+    }
+    let j = skip(word, b"jump=");
+    if 0 < j {
+        return jump(&word[j..]);
+    }
+    let v = skip(word, b"v");
+    if 0 < v {
+        return variable(&word[v..]);
+    }
+    Word::Wrong(Expected::Any)
+}
+
+// `20`
+fn budget(text: &[u8]) -> Word {
+    match decimal(text) {
+        Number::Value(x) => Word::Budget(x),
+        Number::Other => Word::Wrong(Expected::Budget),
+    }
+}
+
+// `4:6`
+fn jump(text: &[u8]) -> Word {
+    let at = find(b':', text);
+    if at < text.len() {
+        let behind = at + 1;
+        return jump_of(decimal(&text[..at]), decimal(&text[behind..]));
+    }
+    Word::Wrong(Expected::Jump)
+}
+
+fn jump_of(step: Number, place: Number) -> Word {
+    let Number::Value(k) = step else {
+        return Word::Wrong(Expected::Jump);
+    };
+    let Number::Value(p) = place else {
+        return Word::Wrong(Expected::Jump);
+    };
+    Word::Jump(k, p)
+}
+
+// `1=1`
+fn variable(text: &[u8]) -> Word {
+    let at = find(b'=', text);
+    if at < text.len() {
+        let behind = at + 1;
+        return variable_of(name(&text[..at]), decimal(&text[behind..]));
+    }
+    Word::Wrong(Expected::Any)
+}
+
+// The number of a variable, with no 0 before it.
+fn name(text: &[u8]) -> Number {
+    if text.len() == 2 {
+        if text[0] == b'0' {
+            return Number::Other;
+        }
+    }
+    if 2 < text.len() {
+        return Number::Other;
+    }
+    decimal(text)
+}
+
+fn variable_of(which: Number, value: Number) -> Word {
+    match which {
+        Number::Value(k) => Word::Variable(k, value),
+        Number::Other => Word::Wrong(Expected::Any),
+    }
+}

@@ -1,0 +1,84 @@
+// The line for a wrong word, on standard error: the word, and what is expected there.
+
+pub enum Expected {
+    // the first word
+    Run,
+    // any other word, in a source run and in a hardened run
+    Any,
+    AnyOrJump,
+    // a number, or two
+    Budget,
+    Variable(u16),
+    Jump,
+    // no jump in a source run
+    NoJump,
+    // no second one
+    OneBudget,
+    OneVariable(u16),
+    OneJump,
+    OneShow,
+    // so many bytes at most
+    Shorter,
+}
+
+// There is no first word. This is the whole usage.
+pub fn missing() {
+    io::write_all(
+        2,
+        b"missing word: expected source or hardened, then any of budget=0..65535 (65535 if missing), v0..v15=0..65535 (0 if missing), show and, for hardened, jump=STEP:PLACE (none if missing)\n",
+    );
+}
+
+pub fn say(word: &mut [u8], expected: Expected) {
+    plain(word);
+    io::write_all(2, b"wrong word \"");
+    io::write_all(2, word);
+    io::write_all(2, b"\": expected ");
+    expect(expected);
+    io::write_all(2, b"\n");
+}
+
+// Bytes that would end the line or leave it become question marks.
+fn plain(word: &mut [u8]) {
+    let mut i = 0;
+    while i < word.len() {
+        word[i] = shown(word[i]);
+        i += 1;
+    }
+}
+
+fn shown(b: u8) -> u8 {
+    match b {
+        0..=31 | 127 => b'?',
+        _ => b,
+    }
+}
+
+fn expect(expected: Expected) {
+    match expected {
+        Expected::Run => say_word(b"source or hardened"),
+        Expected::Any => say_word(b"budget=0..65535, v0..v15=0..65535 or show"),
+        Expected::AnyOrJump => {
+            say_word(b"budget=0..65535, v0..v15=0..65535, jump=STEP:PLACE or show")
+        }
+        Expected::Budget => say_word(b"budget=0..65535"),
+        Expected::Variable(k) => variable(k, b"=0..65535"),
+        Expected::Jump => say_word(b"jump=STEP:PLACE, each 0..65535"),
+        Expected::NoJump => say_word(b"jump in a hardened run only"),
+        Expected::OneBudget => say_word(b"budget only once"),
+        Expected::OneVariable(k) => variable(k, b" only once"),
+        Expected::OneJump => say_word(b"jump only once"),
+        Expected::OneShow => say_word(b"show only once"),
+        Expected::Shorter => say_word(b"at most 4096 bytes"),
+    }
+}
+
+fn say_word(w: &[u8]) {
+    io::write_all(2, w);
+}
+
+fn variable(k: u16, behind: &[u8]) {
+    say_word(b"v");
+    io::print_decimal(2, k as u64);
+    say_word(behind);
+}
