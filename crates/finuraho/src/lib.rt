@@ -18,23 +18,13 @@ use rules::refusal::Refusal;
 use rules::refusal::Verdict;
 use table::number;
 
-// A word for each row.
-fn row_words() -> [u16; 1024] {
-    [0; 1024]
-}
-
-// A word for each function.
-fn function_words() -> [u16; 32] {
-    [0; 32]
-}
-
 // The number that the bytes get as a source table: 0 where hardening accepts them.
 pub fn check(rows: &[u8]) -> u8
     ensures { λ r. ⌜ r ≡ checkCall (now (rows .entry)) ⌝ }
 {
-    let mut ends = row_words();
-    let mut elses = row_words();
-    let mut heads = function_words();
+    let mut ends = table::check::row_words();
+    let mut elses = table::check::row_words();
+    let mut heads = table::check::function_words();
     let v = table::check::check(rows, &mut ends, &mut elses, &mut heads);
     number::of_verdict(v)
 }
@@ -59,9 +49,9 @@ fn refused(r: Refusal) -> Wrote
 pub fn harden(rows: &[u8], out: &mut [u8]) -> Wrote
     ensures { λ r. ⌜ writes r (now (out .exit)) ≡ hardenCall (now (rows .entry)) (now (out .entry)) ⌝ }
 {
-    let mut ends = row_words();
-    let mut elses = row_words();
-    let mut heads = function_words();
+    let mut ends = table::check::row_words();
+    let mut elses = table::check::row_words();
+    let mut heads = table::check::function_words();
     match table::check::check(rows, &mut ends, &mut elses, &mut heads) {
         Verdict::Refused(r) => refused(r),
         Verdict::Accepted => hardener::harden_linked(rows, &ends, &elses, &heads, out),
@@ -107,9 +97,9 @@ pub fn read_back(lines: &[u8], out: &mut [u8]) -> Wrote
 pub fn run_source(rows: &[u8], variables: [u16; 16], budget: u16, trace: &mut [u16]) -> Ran
     ensures { λ r. ⌜ runs r (now (trace .exit)) ≡ runSourceCall (now (rows .entry)) variables budget (now (trace .entry)) ⌝ }
 {
-    let mut ends = row_words();
-    let mut elses = row_words();
-    let mut heads = function_words();
+    let mut ends = table::check::row_words();
+    let mut elses = table::check::row_words();
+    let mut heads = table::check::function_words();
     match table::check::check(rows, &mut ends, &mut elses, &mut heads) {
         Verdict::Refused(r) => run::refused(r, variables),
         Verdict::Accepted => run::source_run(rows, &ends, &elses, &heads, variables, budget, trace),

@@ -24,13 +24,13 @@ pub struct Line {
     pub go: u16,
 }
 
-fn low(x: u16) -> u8
+pub fn low(x: u16) -> u8
     ensures { λ r. ⌜ r ≡ x % 256 ⌝ }
 {
     (x % 256) as u8
 }
 
-fn high(x: u16) -> u8
+pub fn high(x: u16) -> u8
     ensures { λ r. ⌜ r ≡ x / 256 ⌝ }
 {
     (x / 256) as u8

@@ -12,16 +12,7 @@ ghost use Rattle.rules.specs.Check.{verdictOf};
 ghost use Rattle.rules.specs.Harden.{hardenedBytes};
 ghost use Rattle.rules.specs.Links.{Links};
 use rules::refusal::Verdict;
-
-// A word for each row.
-fn row_words() -> [u16; 1024] {
-    [0; 1024]
-}
-
-// A word for each function.
-fn function_words() -> [u16; 32] {
-    [0; 32]
-}
+use table::check;
 
 // The bytes of a short hardened table.
 const SHORT: usize = 4000;
@@ -133,10 +124,10 @@ pub fn hardens_to(rows: &[u8], lines: &[u8]) -> bool
     requires { ⌜ length (now lines) ≤ 40960 ⌝ }
     ensures { λ r. ⌜ r ≡ isAccepted (verdictOf (now (rows .entry))) && same (hardenedBytes (now (rows .entry))) (now (lines .entry)) ⌝ }
 {
-    let mut ends = row_words();
-    let mut elses = row_words();
-    let mut heads = function_words();
-    match table::check::check(rows, &mut ends, &mut elses, &mut heads) {
+    let mut ends = check::row_words();
+    let mut elses = check::row_words();
+    let mut heads = check::function_words();
+    match check::check(rows, &mut ends, &mut elses, &mut heads) {
         Verdict::Refused(_) => false,
         Verdict::Accepted => hardens_linked(rows, &ends, &elses, &heads, lines),
     }

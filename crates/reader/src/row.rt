@@ -1,8 +1,9 @@
 // A row as its six bytes, put behind the rows before it.
 ghost use mathlib.Core.Path.{_≡_};
-ghost use Prim.Native.Nat.{_+_, _*_, _/_, _%_, _≤_};
+ghost use Prim.Native.Nat.{_+_, _*_, _≤_};
 ghost use lib.ListN.{length};
 ghost use Rattle.reader.specs.Row.{six, bareRow, copiedRow, callRow, Added};
+use hardener::line;
 
 pub struct Row {
     pub kind: u8,
@@ -11,18 +12,6 @@ pub struct Row {
     pub q: u8,
     pub low: u8,
     pub high: u8,
-}
-
-fn low(x: u16) -> u8
-    ensures { λ r. ⌜ r ≡ x % 256 ⌝ }
-{
-    (x % 256) as u8
-}
-
-fn high(x: u16) -> u8
-    ensures { λ r. ⌜ r ≡ x / 256 ⌝ }
-{
-    (x / 256) as u8
 }
 
 impl Row {
@@ -68,8 +57,8 @@ impl Row {
             op: 0,
             p: 0,
             q: 0,
-            low: low(function),
-            high: high(function),
+            low: line::low(function),
+            high: line::high(function),
         }
     }
 

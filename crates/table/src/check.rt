@@ -134,6 +134,16 @@ fn calls(rows: &[u8], count: usize) -> Verdict
     Verdict::Accepted
 }
 
+// A word for each row, for its links.
+pub fn row_words() -> [u16; 1024] {
+    [0; 1024]
+}
+
+// A word for each function, for its row.
+pub fn function_words() -> [u16; 32] {
+    [0; 32]
+}
+
 // The verdict of the bytes as a source table, and where it is accepted its links.
 pub fn check(
     rows: &[u8],

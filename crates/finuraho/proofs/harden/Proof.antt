@@ -6,9 +6,9 @@ use Rattle.finuraho.proofs.harden.Statement.{statement}
 use Rattle.finuraho.proofs.harden.Tie as tie
 use Rattle.finuraho.proofs.harden.Reads as reads
 use Rattle.finuraho.proofs.harden.Lts as lts
-use Rattle.finuraho.proofs.function_words.Reads as function-words-reads
+use Rattle.table.proofs.check.function_words.Reads as function-words-reads
 use Rattle.finuraho.proofs.refused.Reads as refused-reads
-use Rattle.finuraho.proofs.row_words.Reads as row-words-reads
+use Rattle.table.proofs.check.row_words.Reads as row-words-reads
 use Rattle.hardener.proofs.harden_linked.Reads as harden-linked-reads
 use Rattle.table.proofs.check.check.Reads as check-reads
 

@@ -8,8 +8,8 @@ use Rattle.finuraho.proofs.run_source.Statement.{statement}
 use Rattle.finuraho.proofs.run_source.Tie as tie
 use Rattle.finuraho.proofs.run_source.Reads as reads
 use Rattle.finuraho.proofs.run_source.Lts as lts
-use Rattle.finuraho.proofs.function_words.Reads as function-words-reads
-use Rattle.finuraho.proofs.row_words.Reads as row-words-reads
+use Rattle.table.proofs.check.function_words.Reads as function-words-reads
+use Rattle.table.proofs.check.row_words.Reads as row-words-reads
 use Rattle.finuraho.proofs.run.refused.Reads as refused-reads
 use Rattle.finuraho.proofs.run.source_run.Reads as source-run-reads
 use Rattle.table.proofs.check.check.Reads as check-reads

@@ -9,9 +9,9 @@ use Rattle.reader.proofs.compare.hardens_to.Statement.{statement}
 use Rattle.reader.proofs.compare.hardens_to.Tie as tie
 use Rattle.reader.proofs.compare.hardens_to.Reads as reads
 use Rattle.reader.proofs.compare.hardens_to.Lts as lts
-use Rattle.reader.proofs.compare.function_words.Reads as function-words-reads
+use Rattle.table.proofs.check.function_words.Reads as function-words-reads
 use Rattle.reader.proofs.compare.hardens_linked.Reads as hardens-linked-reads
-use Rattle.reader.proofs.compare.row_words.Reads as row-words-reads
+use Rattle.table.proofs.check.row_words.Reads as row-words-reads
 use Rattle.table.proofs.check.check.Reads as check-reads
 
 -- src/compare.rt:97:20

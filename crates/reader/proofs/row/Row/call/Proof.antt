@@ -5,8 +5,8 @@ use Rattle.reader.proofs.row.Row.call.Statement.{statement}
 use Rattle.reader.proofs.row.Row.call.Tie as tie
 use Rattle.reader.proofs.row.Row.call.Reads as reads
 use Rattle.reader.proofs.row.Row.call.Lts as lts
-use Rattle.reader.proofs.row.high.Reads as high-reads
-use Rattle.reader.proofs.row.low.Reads as low-reads
+use Rattle.hardener.proofs.line.high.Reads as high-reads
+use Rattle.hardener.proofs.line.low.Reads as low-reads
 
 -- src/row.rt:71:18
 low-requires : tie.Need-low-requires
