@@ -2,7 +2,7 @@
 // `machine::run::run_lines` does, `strike` what `machine::strike::strike` does.
 ghost use mathlib.Core.Path.{_≡_};
 ghost use mathlib.Core.Bool.{true};
-ghost use Prim.Native.Nat.{_≤_};
+ghost use Prim.Native.Nat.{_≤_, _<_};
 ghost use lib.ListN.{length};
 ghost use Rattle.rules.specs.Line.{linesIn};
 ghost use Rattle.rules.specs.ReadBack.{isHardened};
@@ -105,6 +105,53 @@ fn land_and_walk(
     )
 }
 
+// To the jump's step, which the budget holds, and on from its place.
+fn walk_struck(
+    lines: &[u8],
+    starts: &[u16; 33],
+    owners: &[u8; 2049],
+    home: u16,
+    start: Machine,
+    budget: u16,
+    step: u16,
+    place: u16,
+    counters: &mut [u16],
+    trace: &mut [u16],
+    text: &mut [u8; 65536],
+) -> Stopped
+    requires { ⌜ (Ready (now lines) (mapOf (now starts) (now owners) home)) × (Going (linesIn (now lines)) budget (partsIn start (now counters) (now trace))) × (step < budget) ⌝ }
+    ensures { λ r. ⌜ stoppedWith r (now (counters .exit)) (now (trace .exit)) ≡ struckOf (now (lines .entry)) (mapOf (now (starts .entry)) (now (owners .entry)) home) budget step place (partsIn start (now (counters .entry)) (now (trace .entry))) ⌝ }
+{
+    let x = walk(
+        lines,
+        starts,
+        owners,
+        home,
+        start,
+        step,
+        counters,
+        trace,
+        text,
+    );
+    let s = x.step;
+    let Step::Went(_) = s else {
+        return x;
+    };
+    let left = budget - step;
+    land_and_walk(
+        lines,
+        starts,
+        owners,
+        home,
+        x.machine,
+        left,
+        place,
+        counters,
+        trace,
+        text,
+    )
+}
+
 fn strike(
     lines: &[u8],
     starts: &[u16; 33],
@@ -134,29 +181,14 @@ fn strike(
             text,
         );
     }
-    let x = walk(
+    walk_struck(
         lines,
         starts,
         owners,
         home,
         start,
+        budget,
         step,
-        counters,
-        trace,
-        text,
-    );
-    let s = x.step;
-    let Step::Went(_) = s else {
-        return x;
-    };
-    let left = budget - step;
-    land_and_walk(
-        lines,
-        starts,
-        owners,
-        home,
-        x.machine,
-        left,
         place,
         counters,
         trace,
