@@ -5,13 +5,19 @@ use mathlib.Core.List.{List, [], _∷_, _++_, append-assoc}
 use Prim.Native.Nat.{ℕ, zero, suc, _+_, _*_, _-_, _/_, _≤_, _<_}
 use native.Mathlib.Omega.{arith}
 use lib.ListN.{length, length-append}
-use Rattle.rules.specs.Row.{Row, Table, rowBytes, tableBytes}
-use Rattle.rules.specs.Line.{Line, doLine, tickLine, testLine, leaveLine, outLine, callLine, backLine, retLine, lineWidth, linesIn, lineAt}
+use Rattle.rules.specs.Row.{Table, rowBytes, tableBytes}
+use Rattle.rules.specs.Line.{Line, doLine, tickLine, testLine, leaveLine, outLine, callLine, backLine, retLine, lineWidth, linesIn, lineAt, isRet}
 use Rattle.rules.specs.ReadBack.{rowFor, begins, functionRowIf, unreadTo, unread, sourceBytes}
-use Rattle.machine.proofs.Decode.{length-lines}
+use Rattle.rules.proofs.Logic.{append-nil, clash}
+use Rattle.machine.specs.declared.fields.LineKind.the-variants.{Do, Tick}
+use Rattle.machine.specs.Fields.{lineKindAt, fieldsAt, asLine}
+use Rattle.machine.proofs.Decode.{length-lines, line-is}
 use Rattle.reader.specs.Functions.{Short}
-use Rattle.reader.specs.Row.{Added}
-use Rattle.reader.specs.Candidate.{Here, Fronted}
+use Rattle.machine.specs.Map.{endsFunction}
+use Rattle.reader.specs.declared.row.Row as Row
+use Rattle.reader.specs.Row.{Added, six, copiedRow}
+use Rattle.reader.specs.Candidate.{Here, Reading, Pair, DosRead, Fronted}
+use Rattle.reader.proofs.LineRows.{do-row, begins-next, no-function-row}
 use Rattle.reader.proofs.Stores.{added-none, added-both, added-length, added-front}
 
 -- ---- bytes of rows
@@ -50,15 +56,7 @@ grows ls k (suc d) =
     subst (λ j. length (tableBytes (unreadTo ls k)) ≤ length (tableBytes (unreadTo ls j))) (let q : suc (d + k) ≡ suc d + k = omega arith in q)
     (omega (arith, grows ls k d, ap length (bytes-append (unreadTo ls (d + k)) more), length-append (tableBytes (unreadTo ls (d + k))) (tableBytes more)))
 
--- ---- the rows of the lines before this one are written
-pub record Reading (bs rows₀ rows : List ℕ) (at : ℕ) (opening : Bool) (line : ℕ) : Type 0 where
-  pub opens : opening ≡ begins (linesIn bs) line
-  pub few : line ≤ length bs / lineWidth
-  pub room : at ≤ 6156
-  pub length-is : length rows ≡ 6156
-  pub length-was : length rows₀ ≡ 6156
-  pub added : Added (tableBytes (unreadTo (linesIn bs) line)) rows₀ rows 0 at
-
+-- ---- the loop
 pub reading-first : {bs rows : List ℕ} → length rows ≡ 6156 → Reading bs rows rows 0 true 0
 unfolding unreadTo tableBytes
 reading-first {bs} {rows} h =
@@ -92,6 +90,33 @@ reading-next {bs} {rows₀} {rows} {rows′} {rows″} {at} {opened} {to} {line}
           (added-both (tableBytes (unreadTo ls line)) (tableBytes first ++ tableBytes second) (r .added) (added-both (tableBytes first) (tableBytes second) a b));
     }
 
+-- a tick is passed
+reading-skip : {bs rows₀ rows : List ℕ} {at line : ℕ} → Reading bs rows₀ rows at false line → lineWidth * line + lineWidth ≤ length bs
+    → lineKindAt bs line ≡ Tick → Reading bs rows₀ rows at false (line + 1)
+unfolding unreadTo rowFor
+reading-skip {bs} {rows₀} {rows} {at} {line} r h e =
+    let ls = linesIn bs in
+    let q : suc line ≡ line + 1 = omega arith in
+    let within : line < length ls = omega (arith, length-lines bs) in
+    let is : lineAt ls line ≡ asLine Tick (fieldsAt bs line) = line-is bs line within ∙ ap (λ k. asLine k (fieldsAt bs line)) e in
+    record {
+      opens = sym (ap (begins ls) (sym q) ∙ ap isRet is);
+      few = omega (arith, length-lines bs);
+      room = r .room;
+      length-is = r .length-is;
+      length-was = r .length-was;
+      added =
+          subst (λ xs. Added xs rows₀ rows 0 at)
+          (ap tableBytes
+          (sym (append-nil (unreadTo ls line)) ∙ ap (λ x. unreadTo ls line ++ x) (rw (← r .opens, is) refl))
+          ∙ ap (λ k. tableBytes (unreadTo ls k)) q)
+          (r .added);
+    }
+
+reading-at : {bs rows₀ rows : List ℕ} {at at′ line line′ : ℕ} {opening : Bool} → Reading bs rows₀ rows at opening line → at ≡ at′ → line ≡ line′
+    → Reading bs rows₀ rows at′ opening line′
+reading-at r p q = rw (← p, ← q) r
+
 pub reading-last : {bs rows₀ rows : List ℕ} {at line : ℕ} {opening : Bool} → Reading bs rows₀ rows at opening line → length bs / lineWidth ≤ line → Fronted bs rows at
 unfolding sourceBytes
 reading-last {bs} {rows₀} {rows} {at} {line} r h =
@@ -109,5 +134,60 @@ reading-long {bs} {rows₀} {rows} {at} {line} r h =
     let d = length (linesIn bs) - line in
     let q : d + line ≡ length (linesIn bs) = omega (arith, length-lines bs, r .few) in
     omega (arith, r .added .to-is, grows (linesIn bs) line d, ap (λ k. length (tableBytes (unreadTo (linesIn bs) k))) q)
+
+-- ---- dos and their ticks
+pub no-dos : {opening : Bool} {bs rows : List ℕ} {at line : ℕ} → DosRead opening bs rows rows at line line
+no-dos {at = at} {line = line} = record { on = omega arith; leads = λ rows₀ r. reading-at r (let q : at ≡ at + 3 * (line - line) = omega arith in q) refl }
+
+-- none stood here
+pub dos-none : {opening : Bool} {bs rows₀ rows rows′ : List ℕ} {at line to : ℕ} → DosRead opening bs rows rows′ at line to → to ≤ line
+    → Reading bs rows₀ rows at opening line → Reading bs rows₀ rows′ at opening line
+dos-none {at = at} {line = line} {to = to} d h r =
+    reading-at (d .leads _ r) (let q : at + 3 * (to - line) ≡ at = omega (arith, d .on) in q) (let q : to ≡ line = omega (arith, d .on) in q)
+
+pub dos-where : {opening : Bool} {bs rows rows′ : List ℕ} {at line to : ℕ} → opening ≡ false → DosRead false bs rows rows′ at line to
+    → DosRead opening bs rows rows′ at line to
+dos-where e d = rw e d
+
+-- what answers no is never asked for a pair
+pub no-pair : {A : Type 0} → false ≡ true → A
+no-pair e = clash e refl
+
+-- the loop: so far to line `next` and byte `to`
+pub record DosTo (bs rows rows′ : List ℕ) (at line next to : ℕ) : Type 0 where
+  pub read : DosRead false bs rows rows′ at line next
+  pub low : next ≤ 2048
+  pub to-is : to ≡ at + 3 * (next - line)
+  pub length-is : length rows′ ≡ 6156
+
+pub dos-start : {bs rows : List ℕ} {at line : ℕ} → line ≤ 2048 → length rows ≡ 6156 → DosTo bs rows rows at line line at
+dos-start l q = record { read = no-dos; low = l; to-is = omega arith; length-is = q }
+
+pub dos-more : {bs rows rows′ rows″ : List ℕ} {at line next to to′ : ℕ} {r : Row.Row} → Short bs → DosTo bs rows rows′ at line next to → Pair bs next
+    → to ≤ 6144 → r ≡ copiedRow 2 bs next → Added (six r) rows′ rows″ to to′ → DosTo bs rows rows″ at line (next + 2) to′
+dos-more {bs} {rows} {rows′} {rows″} {at} {line} {next} {to} {to′} {r} s d p h q a = record {
+  read = record {
+    on = omega (arith, d .read .on);
+    leads = λ rows₀ x. reading-at (both rows₀ (reading-at (d .read .leads rows₀ x) (sym (d .to-is)) refl)) moved (omega arith);
+  };
+  low = omega (arith, p .inside, s .short);
+  to-is = moved;
+  length-is = added-length (six r) a ∙ d .length-is;
+}
+  where
+    moved : to′ ≡ at + 3 * (next + 2 - line)
+    moved = omega (arith, a .to-is, d .to-is, d .read .on)
+
+    here : Here bs next
+    here = record { table = s; inside = omega (arith, p .inside) }
+
+    both : (rows₀ : List ℕ) → Reading bs rows₀ rows′ to false next → Reading bs rows₀ rows″ to′ false (next + 1 + 1)
+    both rows₀ x =
+        reading-skip
+        (reading-next x (omega (arith, p .inside)) h (no-function-row rows′ to refl) (do-row here (p .first) q a) (begins-next here (sym (ap endsFunction (p .first)))))
+        (omega (arith, p .inside))
+        (p .second)
+
+pub ruleset dos-laws = (dos-start, dos-more)
 
 pub ruleset readings = (reading-first, reading-next, reading-last, reading-long)

@@ -9,19 +9,20 @@ ghost use Rattle.rules.specs.ReadBack.{leavesTo, begins, functionRowIf, rowFor}
 ghost use Rattle.machine.specs.Fields.{fieldsAt};
 ghost use Rattle.reader.specs.Functions.{Short, Numbered};
 ghost use Rattle.reader.specs.Row.{Added};
-ghost use Rattle.reader.specs.Candidate.{isLeave, testKind, leaveKind, outKind, Here, CandidateIs};
+ghost use Rattle.reader.specs.Candidate.{isLeave, testKind, leaveKind, outKind, Here, DosRead, CandidateIs};
+use crate::dos::dos;
 use crate::functions;
 use crate::row::Row;
 use machine::fields;
 use machine::fields::LineKind;
 
 // The bytes of the largest table.
-const LARGEST: usize = 6144;
+pub const LARGEST: usize = 6144;
 
 // The kinds of rows.
 const FUNCTION: u8 = 1;
 
-const DO: u8 = 2;
+pub const DO: u8 = 2;
 
 const IF: u8 = 3;
 
@@ -174,6 +175,17 @@ fn stand(lines: &[u8], owners: &[u16; 2049], line: u16, rows: &mut [u8], at: usi
     }
 }
 
+// The dos from this line on, where no function opens: the line behind them.
+fn past_dos(opening: bool, lines: &[u8], line: u16, rows: &mut [u8], at: usize) -> u16
+    requires { ⌜ (Short (now lines)) × (line ≤ 2048) × (length (now rows) ≡ 6156) ⌝ }
+    ensures { λ r. ⌜ DosRead opening (now (lines .entry)) (now (rows .entry)) (now (rows .exit)) at line r ⌝ }
+{
+    if opening {
+        return line;
+    }
+    dos(lines, line, rows, at)
+}
+
 // The rows of all lines; of no more lines where the rows are too many already.
 pub fn read_rows(lines: &[u8], owners: &[u16; 2049], rows: &mut [u8]) -> Candidate
     requires { ⌜ (Short (now lines)) × (Numbered (now lines) (now owners)) × (length (now rows) ≡ 6156) ⌝ }
@@ -187,10 +199,16 @@ pub fn read_rows(lines: &[u8], owners: &[u16; 2049], rows: &mut [u8]) -> Candida
         if at > LARGEST {
             return Candidate::TooLong;
         }
-        let opened = open(opening, rows, at);
-        at = stand(lines, owners, line, rows, opened);
-        opening = opens_next(lines, line);
-        line += 1;
+        let next = past_dos(opening, lines, line, rows, at);
+        if line < next {
+            at = at + 3 * ((next - line) as usize);
+            line = next;
+        } else {
+            let opened = open(opening, rows, at);
+            at = stand(lines, owners, line, rows, opened);
+            opening = opens_next(lines, line);
+            line += 1;
+        }
     }
     Candidate::Bytes(at)
 }

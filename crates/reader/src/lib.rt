@@ -8,6 +8,7 @@ use crate::candidate::Candidate;
 
 pub mod candidate;
 pub mod compare;
+pub mod dos;
 pub mod functions;
 pub mod row;
 
