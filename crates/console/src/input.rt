@@ -12,8 +12,22 @@ pub enum Read {
     Unreadable,
 }
 
+// Rows of 12 digits. There is room for 1,025: one more than a table may have, so that a longer one still meets 2.
+pub fn take_rows(chunk: &mut [u8], bytes: &mut [u8]) -> Read
+    requires { ⌜ 65536 ≡ length (now bytes) ⌝ }
+{
+    take(12, chunk, &mut bytes[..6150])
+}
+
+// Lines of 40 digits. There is room for 2,049: one more than a hardened table may have, so that a longer one still meets 10.
+pub fn take_lines(chunk: &mut [u8], bytes: &mut [u8]) -> Read
+    requires { ⌜ 65536 ≡ length (now bytes) ⌝ }
+{
+    take(40, chunk, &mut bytes[..40980])
+}
+
 // Each line has so many digits.
-pub fn take(digits: usize, chunk: &mut [u8], bytes: &mut [u8]) -> Read
+fn take(digits: usize, chunk: &mut [u8], bytes: &mut [u8]) -> Read
     requires { ⌜ digits ≤ 40 ⌝ }
 {
     let r = read_all(digits, chunk, bytes);

@@ -4,9 +4,10 @@
 ghost use mathlib.Core.Path.{_≡_};
 ghost use lib.ListN.{length};
 
-mod input;
 mod output;
 mod words;
+
+use console::input;
 
 fn main() {
     let mut chunk = io::buffer();

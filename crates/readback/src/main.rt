@@ -5,8 +5,9 @@ ghost use mathlib.Core.Path.{_≡_};
 ghost use Prim.Native.Nat.{_≤_};
 ghost use lib.ListN.{length};
 
-mod input;
 mod output;
+
+use console::input;
 
 fn main() {
     let mut chunk = io::buffer();

@@ -12,7 +12,6 @@ ghost use lib.ListN.{length};
 mod answer;
 mod arguments;
 mod hardened_steps;
-mod input;
 mod line;
 mod number;
 mod print;
@@ -23,6 +22,7 @@ mod wrong;
 
 use arguments::Asked;
 use arguments::Given;
+use console::input;
 use console::input::Read;
 use console::output;
 
@@ -54,7 +54,7 @@ fn run(a: Asked, variables: [u16; 16], chunk: &mut [u8], bytes: &mut [u8])
     let mut text = io::large_buffer();
     let mut trace = slots();
     if a.hardened {
-        match input::lines(chunk, bytes) {
+        match input::take_lines(chunk, bytes) {
             Read::Bytes(n) => {
                 let all = output::within(n, bytes);
                 hardened_run(a, &bytes[..all], variables, &mut trace, &mut text);
@@ -63,7 +63,7 @@ fn run(a: Asked, variables: [u16; 16], chunk: &mut [u8], bytes: &mut [u8])
         }
         return;
     }
-    match input::rows(chunk, bytes) {
+    match input::take_rows(chunk, bytes) {
         Read::Bytes(n) => {
             let all = output::within(n, bytes);
             source_run(a, &bytes[..all], variables, &mut trace, &mut text);

@@ -2,38 +2,38 @@ use native.Mathlib.Omega.{arith}
 use mathlib.Core.Path.{sym}
 use lib.Seq.{length-take-le}
 use borrow.Author.Needs.{needs}
-use Rattle.run.proofs.input.lines.Statement.{statement}
-use Rattle.run.proofs.input.lines.Tie as tie
-use Rattle.run.proofs.input.lines.Reads as reads
-use Rattle.run.proofs.input.lines.Lts as lts
+use Rattle.console.proofs.input.take_rows.Statement.{statement}
+use Rattle.console.proofs.input.take_rows.Tie as tie
+use Rattle.console.proofs.input.take_rows.Reads as reads
+use Rattle.console.proofs.input.take_rows.Lts as lts
 use Rattle.console.proofs.input.take.Reads as take-reads
 
--- src/input.rt:18:28
+-- src/input.rt:11:28
 slice-relend-prefix-take : tie.Need-slice-relend-prefix-take
 slice-relend-prefix-take c = search needs
 
--- src/input.rt:18:28
+-- src/input.rt:11:28
 slice-aggregate-take : tie.Need-slice-aggregate-take
-slice-aggregate-take c = sym (length-take-le 40980 (c .before .before .before .before .args .bytes .now) (omega arith))
+slice-aggregate-take c = sym (length-take-le 6150 (c .before .before .before .before .args .bytes .now) (omega arith))
 
--- src/input.rt:18:5
+-- src/input.rt:11:5
 take-requires : tie.Need-take-requires
 take-requires c κs = search needs
 
--- src/input.rt:15:1
+-- src/input.rt:8:1
 same-length : tie.Need-same-length
 same-length c = search needs
 
--- src/input.rt:15:1
+-- src/input.rt:8:1
 same-length-2 : tie.Need-same-length-2
 same-length-2 c = search needs
 
--- src/input.rt:15:1
+-- src/input.rt:8:1
 returns : tie.Need-returns
 returns c = search needs
 
-pub lines-spec : {M : Type 1} → statement M
-lines-spec =
+pub take-rows-spec : {M : Type 1} → statement M
+take-rows-spec =
     tie.close
     (tie.spec
     slice-relend-prefix-take
