@@ -3,9 +3,13 @@
 //! table and the number that follows from how it was made, not from the checker.
 
 use crate::limits;
-use crate::make::{self, bytes_of, Maker, Shape, Spot, BODY, MIXED, PLAIN};
+use crate::make::{self, bytes_of, Maker, Shape, MIXED};
 use crate::random::Random;
 use crate::row::{self, Row, ROW_BYTES};
+use crate::scene::{
+    any_parts, bad_call, cut_end, parts_without_loop, right_row, scene, small_rows, small_table,
+    wrong_row, wrong_row_of, Part,
+};
 
 /// A table and its number.
 pub type Faulty = (Vec<u8>, u8);
@@ -91,156 +95,6 @@ fn mutate(rng: &mut Random, bytes: &mut Vec<u8>) {
             }
         }
     }
-}
-
-fn small_table(rng: &mut Random) -> Vec<u8> {
-    let rows = rng.between(3, 25);
-    make::table_of(rng, rows)
-}
-
-fn small_rows(rng: &mut Random) -> Vec<Row> {
-    small_table(rng).chunks(ROW_BYTES).map(Row::read).collect()
-}
-
-// What a row can be.
-
-/// A row with a wrong kind, op, p, q or unused field.
-fn wrong_row(rng: &mut Random) -> Row {
-    loop {
-        let mut row = right_row(rng);
-        match rng.below(6) {
-            0 => row.kind = rng.pick(&[0, 10, 11, 0x21, 0x28, 127, 128, 255]),
-            1 => row.op = rng.pick(&[1, 2, 3, 4, 5, 255]),
-            2 => row.p = rng.pick(&[1, 15, 16, 17, 128, 255]),
-            3 => row.q = rng.pick(&[1, 15, 16, 17, 128, 255]),
-            4 => row.n = rng.pick(&[1, 255, 256, 65_280, 65_535]),
-            _ => spoil_byte(rng, &mut row),
-        }
-        if !row.fields_right() {
-            return row;
-        }
-    }
-}
-
-/// One byte of the row becomes any byte.
-fn spoil_byte(rng: &mut Random, row: &mut Row) {
-    let mut bytes = row.bytes();
-    bytes[rng.below(ROW_BYTES)] = rng.byte();
-    *row = Row::read(&bytes);
-}
-
-/// Any row whose fields are right.
-fn right_row(rng: &mut Random) -> Row {
-    match rng.pick(&[1, 2, 2, 2, 3, 4, 5, 6, 7, 8, 9]) {
-        row::DO => make::do_row(rng),
-        kind @ (row::IF | row::LOOP) => make::test_row(rng, kind),
-        kind => Row::plain(kind),
-    }
-}
-
-/// Any wrong row of this kind.
-fn wrong_row_of(rng: &mut Random, kind: u8) -> Row {
-    loop {
-        let row = wrong_row(rng);
-        if row.kind == kind {
-            return row;
-        }
-    }
-}
-
-/// A call of a function that is in no table of these makers.
-fn bad_call(rng: &mut Random) -> Row {
-    let n = rng.pick(&[33, 34, 255, 256, 1024, 65_535]);
-    Row { n, ..Row::plain(row::CALL) }
-}
-
-// Where a row can stand.
-
-/// A part that is open around a row.
-#[derive(Clone, Copy, PartialEq, Eq)]
-enum Part {
-    Then,
-    Else,
-    Loop,
-}
-
-fn any_parts(rng: &mut Random, most: usize) -> Vec<Part> {
-    let count = rng.between(0, most);
-    (0..count).map(|_| rng.pick(&[Part::Then, Part::Else, Part::Loop])).collect()
-}
-
-fn parts_without_loop(rng: &mut Random) -> Vec<Part> {
-    let count = rng.between(0, 5);
-    (0..count).map(|_| rng.pick(&[Part::Then, Part::Else])).collect()
-}
-
-/// A table with the given rows inside the given parts of one of its functions.
-/// All other rows are right and well placed, whether they come before or after.
-fn scene(rng: &mut Random, parts: &[Part], rows: &[Row]) -> Vec<Row> {
-    let before = rng.below(3);
-    let after = rng.below(3);
-    let weights = if parts.len() > 8 { PLAIN } else { MIXED };
-    let functions = before + 1 + after;
-    let shape = Shape { rows: 0, functions, depth: parts.len() + 2, eager: 0, weights };
-    let mut maker = Maker::new(rng, shape);
-    some_functions(&mut maker, before);
-    maker.open_function();
-    some_rows(&mut maker, BODY);
-    let spot = open_parts(&mut maker, parts);
-    maker.rows.extend(rows);
-    some_rows(&mut maker, spot);
-    close_parts(&mut maker, parts);
-    maker.plain(row::END);
-    some_functions(&mut maker, after);
-    maker.rows
-}
-
-fn some_functions(maker: &mut Maker, count: usize) {
-    for _ in 0..count {
-        let room = maker.rng.below(6);
-        maker.function(room);
-    }
-}
-
-fn some_rows(maker: &mut Maker, spot: Spot) {
-    let room = maker.rng.below(4);
-    maker.block(room, spot);
-}
-
-fn open_parts(maker: &mut Maker, parts: &[Part]) -> Spot {
-    let mut spot = BODY;
-    for part in parts {
-        spot.open += 1;
-        match part {
-            Part::Then => maker.open_test(row::IF),
-            Part::Else => {
-                maker.open_test(row::IF);
-                some_rows(maker, spot);
-                maker.open_else();
-            }
-            Part::Loop => {
-                maker.open_test(row::LOOP);
-                spot.in_loop = true;
-            }
-        }
-        some_rows(maker, spot);
-    }
-    spot
-}
-
-fn close_parts(maker: &mut Maker, parts: &[Part]) {
-    for still_open in (0..parts.len()).rev() {
-        maker.plain(row::END);
-        let in_loop = parts[..still_open].contains(&Part::Loop);
-        some_rows(maker, Spot { open: still_open, in_loop });
-    }
-}
-
-/// Drops rows at the end, so that at least the last function stays open.
-fn cut_end(rng: &mut Random, rows: &mut Vec<Row>) {
-    let last = rows.iter().rposition(|row| row.kind == row::FUNCTION).expect("a function");
-    let keep = rng.between(last + 1, rows.len() - 1);
-    rows.truncate(keep);
 }
 
 // 1 and 2

@@ -26,6 +26,7 @@ pub mod row;
 pub mod run_cases;
 pub mod run_text;
 pub mod run_words;
+pub mod scene;
 pub mod source_run;
 pub mod table;
 pub mod text;

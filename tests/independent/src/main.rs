@@ -9,9 +9,7 @@ use std::process::ExitCode;
 
 use independent::protocol::Test;
 use independent::run_text::{self, Printed};
-use independent::{
-    explain, replay, replay_fault, replay_read, replay_run, run_cases, text, texts,
-};
+use independent::{explain, replay, replay_fault, replay_read, replay_run, run_cases, text, texts};
 
 const USAGE: &str = "usage:
   independent harden                            rows on stdin, lines on stdout
