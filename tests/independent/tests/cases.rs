@@ -1,26 +1,9 @@
 //! The worked listing and the cases (A) to (J) of 01, with the answers that the
 //! document gives.
 
+mod listing;
+
 use independent::{check, harden, limits, read_back, run_hardened, run_source, Ran};
-
-const LISTING: &str = "\
-2100000002000000000001000000000000000000
-2200000000000000000001000200000000000000
-2301000000000001000002000300060004000600
-2103000100000000000003000000000000000000
-2200000000000100000006000700000000000000
-2400000000000100000007000200030000000200
-2800000000000000000004000500000000000000
-";
-
-const INPUT: &str = "\
-010000000000
-020000000200
-050100000000
-020300010000
-060000000000
-060000000000
-";
 
 const NO_JUMP: u16 = 65_535;
 
@@ -39,7 +22,7 @@ fn first_values() -> [u16; 16] {
 
 /// A hardened run of the listing, its trace, and what the buffers must be after.
 fn struck(budget: u16, k: u16, place: u16) -> (Ran, Vec<u16>) {
-    let lines = bytes(LISTING);
+    let lines = bytes(listing::LINES);
     let mut slots = vec![9999; usize::from(budget) + 2];
     let mut words = vec![7; 1030];
     let ran = run_hardened(&lines, &first_values(), budget, k, place, &mut slots, &mut words);
@@ -62,27 +45,27 @@ fn expect(got: (Ran, Vec<u16>), outcome: u8, steps: u16, trace: &[u16], v0: u16)
 
 #[test]
 fn the_listing() {
-    assert_eq!(bytes(INPUT), limits::worked_listing());
+    assert_eq!(bytes(listing::ROWS), limits::worked_listing());
     let mut out = vec![0xee; 150];
-    let written = harden(&bytes(INPUT), &mut out);
+    let written = harden(&bytes(listing::ROWS), &mut out);
     assert_eq!((written.number, written.length), (0, 140));
-    assert_eq!(out[..140], bytes(LISTING));
+    assert_eq!(out[..140], bytes(listing::LINES));
     assert!(out[140..].iter().all(|b| *b == 0xee));
 }
 
 #[test]
 fn the_listing_read_back() {
     let mut out = vec![0xee; 40];
-    let written = read_back(&bytes(LISTING), &mut out);
+    let written = read_back(&bytes(listing::LINES), &mut out);
     assert_eq!((written.number, written.length), (0, 36));
-    assert_eq!(out[..36], bytes(INPUT));
+    assert_eq!(out[..36], bytes(listing::ROWS));
     assert!(out[36..].iter().all(|b| *b == 0xee));
 }
 
 #[test]
 fn case_a() {
     let mut slots = vec![9999; 20];
-    let ran = run_source(&bytes(INPUT), &first_values(), 20, &mut slots);
+    let ran = run_source(&bytes(listing::ROWS), &first_values(), 20, &mut slots);
     assert_eq!(slots[3..], [9999; 17]);
     slots.truncate(usize::from(ran.traced));
     expect((ran, slots), 1, 9, &[1, 3, 3], 0);

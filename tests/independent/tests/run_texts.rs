@@ -1,16 +1,10 @@
 //! The text of the program that runs a table at the bench.
 
+mod listing;
+
 use independent::run_text::{self, Printed};
 use independent::{limits, text};
-
-const ROWS: &str = "\
-010000000000
-020000000200
-050100000000
-020300010000
-060000000000
-060000000000
-";
+use listing::{LINES, ROWS};
 
 fn printed(words: &str, input: &str) -> Printed {
     let words: Vec<Vec<u8>> = words.split(' ').map(|word| word.as_bytes().to_vec()).collect();
@@ -29,10 +23,6 @@ fn wrong(words: &str) -> String {
         Printed::Out(text) => panic!("{text}"),
         Printed::Wrong(line) => String::from_utf8(line).unwrap(),
     }
-}
-
-fn lines() -> String {
-    text::harden(ROWS.as_bytes()).unwrap()
 }
 
 /// Case (A), listed by hand.
@@ -71,7 +61,7 @@ steps 5
 trace 1 3
 variables 1 1 0 0 0 0 0 0 0 0 0 0 0 0 0 0
 ";
-    assert_eq!(out("hardened budget=20 v1=1 jump=4:6 show", &lines()), caught);
+    assert_eq!(out("hardened budget=20 v1=1 jump=4:6 show", LINES), caught);
     let not_caught = "\
 jump to place 1
 step 0 function 0 place 1 tick counter 0 holds 1
@@ -82,7 +72,7 @@ steps 3
 trace
 variables 0 1 0 0 0 0 0 0 0 0 0 0 0 0 0 0
 ";
-    assert_eq!(out("hardened jump=0:1 show budget=20 v1=1", &lines()), not_caught);
+    assert_eq!(out("hardened jump=0:1 show budget=20 v1=1", LINES), not_caught);
     let by_the_host = "\
 jump to place 7
 step 0 function 0 place 7 end counter 0 holds 1
@@ -91,7 +81,7 @@ steps 1
 trace
 variables 0 1 0 0 0 0 0 0 0 0 0 0 0 0 0 0
 ";
-    assert_eq!(out("hardened show v1=1 jump=0:7", &lines()), by_the_host);
+    assert_eq!(out("hardened show v1=1 jump=0:7", LINES), by_the_host);
     let beyond = "\
 jump to place 8
 outcome 4 the place is beyond m
@@ -99,13 +89,13 @@ steps 0
 trace
 variables 0 1 0 0 0 0 0 0 0 0 0 0 0 0 0 0
 ";
-    assert_eq!(out("hardened show v1=1 jump=0:8", &lines()), beyond);
+    assert_eq!(out("hardened show v1=1 jump=0:8", LINES), beyond);
 }
 
 /// A leave looks at two counters, a back line at where the callee ended.
 #[test]
 fn leave_and_back() {
-    let shown = out("hardened v1=1 show", &lines());
+    let shown = out("hardened v1=1 show", LINES);
     assert!(
         shown.contains("\nstep 5 function 0 place 5 leave counter 1 holds 7 counter 0 holds 3\n")
     );
@@ -131,7 +121,7 @@ variables 0 0 0 0 0 0 0 0 0 0 0 0 0 0 0 0
 fn without_show() {
     let expected = "outcome 0 budget spent\nsteps 11\ntrace 1 3 3\n\
         variables 0 1 0 0 0 0 0 0 0 0 0 0 0 0 0 0\n";
-    assert_eq!(out("hardened budget=11 v1=1", &lines()), expected);
+    assert_eq!(out("hardened budget=11 v1=1", LINES), expected);
     let recursion: String =
         limits::recursion().chunks(6).map(|row| text::hex(row) + "\n").collect();
     let deep = out("source v0=16 v1=1", &recursion);

@@ -1,17 +1,11 @@
 //! The text of the hardening program and of its inverse.
 
+mod listing;
+
 use std::io::Read;
 
 use independent::{limits, text};
-
-const ROWS: &str = "\
-010000000000
-020000000200
-050100000000
-020300010000
-060000000000
-060000000000
-";
+use listing::{LINES, ROWS};
 
 fn hardened(input: &str) -> String {
     text::harden(input.as_bytes()).unwrap()
@@ -24,9 +18,7 @@ fn read_back(input: &str) -> String {
 #[test]
 fn there_and_back() {
     let lines = hardened(ROWS);
-    assert_eq!(lines.lines().count(), 7);
-    assert!(lines.ends_with('\n'));
-    assert_eq!(lines.lines().next(), Some("2100000002000000000001000000000000000000"));
+    assert_eq!(lines, LINES);
     assert_eq!(read_back(&lines), ROWS);
 }
 
