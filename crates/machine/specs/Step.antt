@@ -24,12 +24,12 @@ moved s h = record { step = s; hot = h }
 abbrev pub openedOf : Hot → (function go : ℕ) → Moved
 openedOf h f go =
     moved (Went go)
-    (record { depth = h .depth + 1; function = f; place = h .place; last = h .last; steps = h .steps; traced = h .traced })
+    (record { depth = h .depth + 1; function = f; place = go; last = h .last; steps = h .steps; traced = h .traced })
 
 abbrev pub closedOf : Hot → (function place v : ℕ) → Moved
 closedOf h f k v =
     moved (Went k)
-    (record { depth = h .depth - 1; function = f; place = h .place; last = v; steps = h .steps; traced = h .traced })
+    (record { depth = h .depth - 1; function = f; place = k; last = v; steps = h .steps; traced = h .traced })
 
 -- ---- a call
 pub record Shifted : Type 0 where

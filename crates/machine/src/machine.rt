@@ -101,7 +101,7 @@ pub fn opened(h: Hot, function: u8, go: u16) -> Moved
         Hot {
             depth: h.depth + 1,
             function,
-            place: h.place,
+            place: go,
             last: h.last,
             steps: h.steps,
             traced: h.traced,
@@ -119,7 +119,7 @@ pub fn closed(h: Hot, function: u8, place: u16, v: u16) -> Moved
         Hot {
             depth: h.depth - 1,
             function,
-            place: h.place,
+            place,
             last: v,
             steps: h.steps,
             traced: h.traced,

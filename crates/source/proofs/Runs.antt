@@ -123,11 +123,11 @@ module _ {bs map ends elses heads : List ℕ} (k : Known bs map ends elses heads
         }
 
     -- the same with the numbers made anew
-    pub run-on : (i : ℕ) → a .step ≡ Went i → (n : Hot) → n ≡ hotAt (a .parts .hot) i (p .hot .steps + 1)
+    pub run-on : (i : ℕ) → a .step ≡ Went i → (n : Hot) → n ≡ countedHot p a
         → Running bs budget start (left - 1) (partsOf n (a .parts .places) (a .parts .functions) (a .parts .vars) (a .parts .slots))
     run-on i z n q =
-        subst (λ y. Running bs budget start (left - 1) (partsOf y (a .parts .places) (a .parts .functions) (a .parts .vars) (a .parts .slots))) (sym q)
-        (run-again i z)
+        subst (λ y. Running bs budget start (left - 1) (partsOf y (a .parts .places) (a .parts .functions) (a .parts .vars) (a .parts .slots)))
+        (sym (q ∙ ap (λ k. hotAt (a .parts .hot) k (p .hot .steps + 1)) (step-is .stands i z))) (run-again i z)
 
     pub run-ends : IsEnd (a .step) → (x : Stopped) → x ≡ stoppedAt (a .step) (a .parts .places) (a .parts .functions) (a .parts .vars) (countedHot p a)
         → Ended bs budget start (stoppedWith x (a .parts .slots))

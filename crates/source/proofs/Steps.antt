@@ -40,6 +40,7 @@ use Rattle.source.proofs.Rows.{stays-inside, pushes-inside, passes-insi
 pub record Steps (bs : List ℕ) (p : Parts) (a : After) (u : Turn (Unit {0})) : Type 0 where
   pub turn : turnOf a ≡ u
   pub next : (i : ℕ) → a .step ≡ Went i → Fits bs (a .parts .hot .depth) i (a .parts .places) (a .parts .functions)
+  pub stands : (i : ℕ) → a .step ≡ Went i → a .parts .hot .place ≡ i
   pub traced-more : a .parts .hot .traced ≤ p .hot .traced + 1
   pub keeps : (held : List ℕ) → Kept (p .hot .traced) held (p .slots) → Kept (a .parts .hot .traced) held (a .parts .slots)
 
@@ -81,13 +82,14 @@ module _ (bs : List ℕ) (a : verdictOf bs ≡ Accepted) (p : Parts) (v : Fits b
           here = subst (Inside bs) (went-same e) n;
           waiting = v .waiting;
         };
+        stands = λ k. went-same;
         traced-more = omega arith;
         keeps = λ held k. k;
       }
 
   -- ---- the run ends
   stops : (o : Step) → IsEnd o → turnOf (moving p (moved o (p .hot))) ≡ ends o (stateOf p) → Steps bs p (moving p (moved o (p .hot))) (ends o (stateOf p))
-  stops o n e = record { turn = e; next = λ k z. absurd (n k z); traced-more = omega arith; keeps = λ held k. k }
+  stops o n e = record { turn = e; next = λ k z. absurd (n k z); stands = λ k z. absurd (n k z); traced-more = omega arith; keeps = λ held k. k }
 
   -- ---- a test
   by-test : (b : Bool) (x y : ℕ) → Inside bs x → Inside bs y → Inside bs (cond b x y)
@@ -126,6 +128,7 @@ module _ (bs : List ℕ) (a : verdictOf bs ≡ Accepted) (p : Parts) (v : Fits b
           here = subst (Inside bs) (went-same z) (stays-inside bs a (v .here) Do e refl);
           waiting = v .waiting;
         };
+        stands = λ k. went-same;
         traced-more = omega arith;
         keeps = do-keeps h;
       }
@@ -152,6 +155,7 @@ module _ (bs : List ℕ) (a : verdictOf bs ≡ Accepted) (p : Parts) (v : Fits b
           here = subst (Inside bs) (went-same z) (v .waiting (p .hot .depth - 1) (omega arith));
           waiting = λ n l. v .waiting n (omega arith);
         };
+        stands = λ k. went-same;
         traced-more = omega arith;
         keeps = λ held k. k;
       }
@@ -204,6 +208,7 @@ module _ (bs : List ℕ) (a : verdictOf bs ≡ Accepted) (p : Parts) (v : Fits b
           here = subst (Inside bs) (went-same z) (callee-inside bs a (v .here) e);
           waiting = saved e;
         };
+        stands = λ k. went-same;
         traced-more = omega arith;
         keeps = λ held k. k;
       }

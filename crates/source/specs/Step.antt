@@ -21,6 +21,7 @@ use Rattle.layout.specs.Spot.{Inside, Ends, Elses, Heads}
 use Rattle.machine.specs.declared.machine.Hot.{Hot}
 use Rattle.machine.specs.declared.machine.Moved.{Moved}
 use Rattle.machine.specs.Step.{moved, openedOf, closedOf, Done, done, tracedOf}
+use Rattle.machine.specs.Run.{hotAt}
 
 -- ---- what a step needs
 -- the links and the map are those of the table
@@ -47,7 +48,7 @@ pub record CanStep (bs : List ℕ) (h : Hot) (slots : List ℕ) : Type 0 where
 
 -- ---- rows that change nothing but where the run goes on
 abbrev pub goesTo : Hot → (i : ℕ) → Moved
-goesTo h i = moved (Went i) h
+goesTo h i = moved (Went i) (hotAt h i (h .steps))
 
 unfoldable pub afterIf : Table → Hot → (vars : List ℕ) → Moved
 afterIf t h vs = goesTo h (cond (holdsOn (operandsAt t (h .place)) vs) (suc (h .place)) (falseRow t (h .place)))

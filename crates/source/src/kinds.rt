@@ -19,6 +19,7 @@ use machine::machine::Hot;
 use machine::machine::Moved;
 use machine::machine::closed;
 use machine::machine::opened;
+use machine::machine::standing;
 use machine::machine::stay;
 use machine::machine::traced;
 use machine::variables;
@@ -59,7 +60,8 @@ fn to_row(i: usize, h: Hot) -> Moved
     requires { ⌜ i ≤ 1024 ⌝ }
     ensures { λ r. ⌜ r ≡ goesTo h i ⌝ }
 {
-    stay(Step::Went(i as u16), h)
+    let k = i as u16;
+    stay(Step::Went(k), standing(h, k, h.steps))
 }
 
 // The run goes on at the next row.

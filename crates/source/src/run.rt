@@ -44,11 +44,10 @@ pub fn run_rows(
         );
         let s = t.step;
         let n = t.hot;
-        let Step::Went(k) = s else {
-            let e = standing(n, n.place, steps);
-            return at_end(s, places, functions, variables, e);
+        h = standing(n, n.place, steps);
+        let Step::Went(_) = s else {
+            return at_end(s, places, functions, variables, h);
         };
-        h = standing(n, k, steps);
         left -= 1;
     }
     at_end(Step::Went(h.place), places, functions, variables, h)

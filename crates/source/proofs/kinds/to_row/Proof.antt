@@ -1,0 +1,29 @@
+use mathlib.Core.Path.{ap, _∙_}
+use Rattle.rules.specs.declared.step.Step.the-variants.{Went}
+use Rattle.machine.specs.Step.{moved}
+use borrow.Author.Needs.{needs}
+use Rattle.source.proofs.kinds.to_row.Statement.{statement}
+use Rattle.source.proofs.kinds.to_row.Tie as tie
+use Rattle.source.proofs.kinds.to_row.Reads as reads
+use Rattle.source.proofs.kinds.to_row.Lts as lts
+use Rattle.machine.proofs.machine.standing.Reads as standing-reads
+use Rattle.machine.proofs.machine.stay.Reads as stay-reads
+
+-- src/kinds.rt:63:13
+cast-k : tie.Need-cast-k
+cast-k c = search needs
+
+-- src/kinds.rt:64:25
+standing-requires : tie.Need-standing-requires
+standing-requires c κs = search needs
+
+-- src/kinds.rt:64:5
+stay-requires : tie.Need-stay-requires
+stay-requires c κs = search needs
+
+-- src/kinds.rt:59:1
+returns : tie.Need-returns
+returns c = c .stay .ensures ∙ ap (moved (Went _)) (c .before .standing .ensures)
+
+pub to-row-spec : {M : Type 1} → statement M
+to-row-spec = tie.close (tie.spec cast-k standing-requires stay-requires returns)
