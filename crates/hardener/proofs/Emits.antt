@@ -1,33 +1,23 @@
 -- The buffer after the lines of a row, of all rows, and the answer. Assumes nothing.
-use mathlib.Core.Path.{_≡_, refl, sym, ap, _∙_, subst}
-use mathlib.Core.Bool.{Bool, true, false}
+use mathlib.Core.Path.{_≡_, refl, sym, ap, _∙_}
 use mathlib.Core.List.{List, [], _∷_, _++_, append-assoc}
-use Prim.Native.Nat.{ℕ, zero, suc, _+_, _*_, _/_, _≤_, _<_}
+use Prim.Native.Nat.{ℕ, suc, _+_, _*_, _/_, _≤_, _<_}
 use native.Mathlib.Numerals.{add-one}
 use native.Mathlib.Nat.{add-zero}
 use native.Mathlib.Omega.{arith}
 use lib.ListN.{length, getD, drop, length-append}
-use lib.Dec.{ltb}
 use borrow.Author.Tests.{lt-ltb, le-ltb}
 use Rattle.rules.specs.declared.kind.Kind.{Kind}
-use Rattle.rules.specs.declared.kind.Kind.the-variants.{Function, Do, If, Else, Loop, End, Break, Continue, Call, Unknown}
-use Rattle.rules.specs.declared.refusal.Refusal.the-variants.{ShortOutput}
-use Rattle.rules.specs.declared.refusal.Verdict.the-variants.{Accepted}
 use Rattle.rules.specs.Row.{Table, tableOf, kindAt}
-use Rattle.rules.specs.Scan.{Open, openAt}
-use Rattle.rules.specs.Refusal.{refuseIf, refusalNumber, numberOf}
-use Rattle.rules.specs.Check.{isOutside, isThen, misplacedIn, verdictOf}
+use Rattle.rules.specs.Scan.{openAt}
 use Rattle.rules.specs.Line.{Line, retLine, lineAt, lineBytes, linesBytes}
-use Rattle.rules.specs.Harden.{lineCount, lineOf, rowLines, linesOf, hardenTo, harden, hardenedBytes}
-use Rattle.rules.specs.Links.{Links}
-use Rattle.rules.specs.Calls.{Writing, over, shortOutput, writing}
-use Rattle.rules.proofs.Logic.{clash, append-nil, not-false}
-use Rattle.rules.proofs.Accepted.{proper, table-length}
+use Rattle.rules.specs.Harden.{lineCount, lineOf, linesOf, hardenTo, hardenedBytes}
+use Rattle.rules.specs.Calls.{over, shortOutput, writing}
+use Rattle.rules.proofs.Logic.{append-nil}
+use Rattle.rules.proofs.Accepted.{table-length}
 use Rattle.rules.proofs.Harden.{line-suc, line-next, row-lines-length, harden-length}
-use Rattle.rules.proofs.Function.{placed-in}
 use Rattle.rules.proofs.Encode.{line-length, lines-bytes-length}
-use Rattle.layout.specs.Place.{Surveyed}
-use Rattle.layout.specs.Spot.{Inside, InLoop, Ends, Elses, Heads}
+use Rattle.layout.proofs.ByKind.{kind-is, in-do, in-if, in-else, in-loop, in-end, in-break, in-continue, in-call}
 use Rattle.hardener.specs.declared.line.Line as Declared
 use Rattle.hardener.specs.Line.{struct, put}
 use Rattle.hardener.specs.Emit.{rowLine, Makes, Room, writtenTo, Emitted}
@@ -126,51 +116,8 @@ two-out {bs} {out} {mid} {out′} {i} {g} {l} {k} m e e′ w q q′ =
     }
 
 -- ---- what the kind of a row says
-pub kind-is : (bs : List ℕ) (i : ℕ) {k j : Kind} → k ≡ kindAt (tableOf bs) i → k ≡ j → kindAt (tableOf bs) i ≡ j
-kind-is bs i p q = sym p ∙ q
-
 pub makes : {bs : List ℕ} {i d : ℕ} (k j : Kind) → i < length bs / 6 → k ≡ kindAt (tableOf bs) i → k ≡ j → lineCount j ≡ d → Makes bs i d
 makes k j l p q h = record { row = l; are = ap lineCount (sym p ∙ q) ∙ h }
-
-then-open : (fs : List Open) → misplacedIn Else fs ≡ false → isOutside fs ≡ false
-unfolding misplacedIn
-then-open [] e = clash refl e
-then-open (f ∷ fs) e = refl
-
-module _ {bs m : List ℕ} {i : ℕ} {k : Kind} (s : Surveyed bs m) (l : i < length bs / 6) (p : k ≡ kindAt (tableOf bs) i) where
-  placed : {j : Kind} → k ≡ j → misplacedIn j (openAt (tableOf bs) i) ≡ false
-  placed q = placed-in (tableOf bs) (proper bs (s .accepted)) i (omega (arith, table-length bs)) (sym p ∙ q) refl
-
-  pub in-do : k ≡ Do → Inside bs i
-  unfolding misplacedIn
-  in-do q = record { row = l; within = placed q }
-
-  pub in-if : k ≡ If → Inside bs i
-  unfolding misplacedIn
-  in-if q = record { row = l; within = placed q }
-
-  pub in-else : k ≡ Else → Inside bs i
-  in-else q = record { row = l; within = then-open (openAt (tableOf bs) i) (placed q) }
-
-  pub in-loop : k ≡ Loop → Inside bs i
-  unfolding misplacedIn
-  in-loop q = record { row = l; within = placed q }
-
-  pub in-end : k ≡ End → Inside bs i
-  unfolding misplacedIn
-  in-end q = record { row = l; within = placed q }
-
-  pub in-break : k ≡ Break → InLoop bs i
-  unfolding misplacedIn
-  in-break q = record { row = l; within = placed q }
-
-  pub in-continue : k ≡ Continue → InLoop bs i
-  unfolding misplacedIn
-  in-continue q = record { row = l; within = placed q }
-
-  pub in-call : k ≡ Call → Inside bs i
-  unfolding misplacedIn
-  in-call q = record { row = l; within = placed q }
 
 pub ruleset kinds = (kind-is, makes, in-do, in-if, in-else, in-loop, in-end, in-break, in-continue, in-call, none-out)
 
@@ -220,13 +167,3 @@ unfolding writing
 whole-answer bs held {out} {n} q h e =
     let l : n ≡ length (hardenedBytes bs) = q ∙ sym (answer-length bs) in
     rw (le-ltb (length held) (length (hardenedBytes bs)) (omega arith), l, e)
-
--- the links that hardening is given
-pub ends-of : (bs : List ℕ) {ends elses heads : List ℕ} → Links (tableOf bs) ends elses heads → 1024 ≤ length ends → Ends bs ends
-ends-of bs l r = record { room = r; each = l .ends-are }
-
-pub elses-of : (bs : List ℕ) {ends elses heads : List ℕ} → Links (tableOf bs) ends elses heads → 1024 ≤ length elses → Elses bs elses
-elses-of bs l r = record { room = r; each = l .elses-are }
-
-pub heads-of : (bs : List ℕ) {ends elses heads : List ℕ} → Links (tableOf bs) ends elses heads → 32 ≤ length heads → Heads bs heads
-heads-of bs l r = record { room = r; each = l .heads-are }

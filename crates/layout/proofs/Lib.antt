@@ -6,3 +6,5 @@ pub mod Numbers
 pub mod Around
 pub mod Parts
 pub mod Spots
+pub mod ByKind
+pub mod Linked

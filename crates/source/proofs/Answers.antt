@@ -6,7 +6,8 @@ use Prim.Native.Nat.{ℕ, suc, _+_, _-_, _≤_, _<_}
 use native.Mathlib.Numerals.{add-one}
 use native.Mathlib.Omega.{arith}
 use lib.ListN.{length, getD, set}
-use borrow.Author.Tests.{lt-ltb, le-ltb, ltb-true}
+use lib.Dec.{eqb}
+use borrow.Author.Tests.{lt-ltb, le-ltb, ne-eqb}
 use Rattle.rules.specs.declared.kind.Kind.{Kind}
 use Rattle.rules.specs.declared.kind.Kind.the-variants.{Do, If, Loop, Break, Continue, Call}
 use Rattle.rules.specs.declared.refusal.Verdict.the-variants.{Accepted}
@@ -38,27 +39,12 @@ use Rattle.machine.specs.declared.machine.Moved.{Moved}
 use Rattle.machine.specs.Fields.{operandsOf}
 use Rattle.machine.specs.Ready.{OperandsIn}
 use Rattle.machine.specs.Step.{moved, openedOf, closedOf, done, tracedOf}
-use Rattle.source.specs.Step.{Standing, goesTo, afterIf, afterLoop, afterElse, afterBreak, afterContinue, afterReturn, afterPart, afterEnd, called, afterCall, afterDo}
-
--- ---- the end row of what row o opens
-module _ {bs ends : List ℕ} {o : ℕ} (a : verdictOf bs ≡ Accepted) (e : Ends bs ends) (p : Opens bs o) where
-  pub end-in : o < length ends
-  end-in = omega (arith, p .row, e .room, few-rows bs a)
-
-  pub end-row : {r : ℕ} → r ≡ getD ends o 0 → r ≡ endOf (tableOf bs) o
-  end-row q = q ∙ e .each o (omega (arith, table-length bs, p .row)) (p .opening)
-
-  pub end-low : {r : ℕ} → r ≡ getD ends o 0 → r < 1024
-  end-low {r} q =
-      let l : o < length (tableOf bs) = omega (arith, table-length bs, p .row) in
-      let s = opening-pushes (kindAt (tableOf bs) o) (p .opening) in
-      omega (arith, end-row q, end-is (tableOf bs) o (s .0) (proper bs a) l (s .1) .inside, table-length bs, few-rows bs a)
-
-pub ruleset end-rows = (end-in, end-row, end-low)
+use Rattle.source.specs.Goes.{goOf, Known}
+use Rattle.source.specs.Step.{Standing, goesTo, afterTest, afterJump, afterReturn, afterEnd, called, afterCall, afterDo}
 
 -- ---- the row that the run stands at
-pub next-is : {h : Hot} {k : ℕ} {r : Moved} → k ≡ h .place → r ≡ goesTo h (k + 1) → r ≡ goesTo h (suc (h .place))
-next-is {h} {k} e q = q ∙ ap (goesTo h) (add-one k ∙ ap suc e)
+pub next-is : {h : Hot} {r : Moved} → r ≡ goesTo h (h .place + 1) → r ≡ goesTo h (suc (h .place))
+next-is {h} q = q ∙ ap (goesTo h) (add-one (h .place))
 
 module _ {bs : List ℕ} {h : Hot} (s : Standing bs h) where
   pub low : h .place < 1024
@@ -70,43 +56,30 @@ module _ {bs : List ℕ} {h : Hot} (s : Standing bs h) where
   pub at-row : {i : ℕ} → i ≡ h .place → Inside bs i
   at-row e = subst (Inside bs) (sym e) (s .here)
 
-  -- it is in a loop, it opens something, or its variables are there, by its kind
-  placed : {k : Kind} → kindAt (tableOf bs) (h .place) ≡ k → misplacedIn k (openAt (tableOf bs) (h .place)) ≡ false
-  placed k = placed-in (tableOf bs) (proper bs (s .accepted)) (h .place) in-table k refl
+  -- where it goes
+  pub goes-to : {goes : List ℕ} {i r : ℕ} → Known bs goes → i ≡ h .place → r ≡ getD goes i 0 → r ≡ goOf (tableOf bs) (h .place)
+  goes-to {goes} k e q = q ∙ ap (λ j. getD goes j 0) e ∙ k .each (h .place) in-table
 
-  pub break-in : {i : ℕ} → i ≡ h .place → kindAt (tableOf bs) (h .place) ≡ Break → InLoop bs i
-  unfolding misplacedIn
-  break-in e k = subst (InLoop bs) (sym e) (record { row = s .here .row; within = placed k })
-
-  pub continue-in : {i : ℕ} → i ≡ h .place → kindAt (tableOf bs) (h .place) ≡ Continue → InLoop bs i
-  unfolding misplacedIn
-  continue-in e k = subst (InLoop bs) (sym e) (record { row = s .here .row; within = placed k })
-
-  pub if-opens : {i : ℕ} → i ≡ h .place → kindAt (tableOf bs) (h .place) ≡ If → Opens bs i
-  if-opens e k = subst (Opens bs) (sym e) (record { row = s .here .row; opening = ap isOpening k })
-
-  pub loop-opens : {i : ℕ} → i ≡ h .place → kindAt (tableOf bs) (h .place) ≡ Loop → Opens bs i
-  loop-opens e k = subst (Opens bs) (sym e) (record { row = s .here .row; opening = ap isOpening k })
-
+  -- its variables are there, by its kind
   fits : {k : Kind} → kindAt (tableOf bs) (h .place) ≡ k → fieldsFit k (operandsAt (tableOf bs) (h .place)) ≡ true
   fits e = sym (ap (λ k. fieldsFit k (operandsAt (tableOf bs) (h .place))) e) ∙ proper bs (s .accepted) .rows (h .place) in-table .fits
 
-  operands-in : (f : Fields) {i : ℕ} → i ≡ h .place → operandsOf f ≡ operandsAt (tableOf bs) i → VariablesIn (operandsAt (tableOf bs) (h .place)) → OperandsIn f
-  operands-in f e q v =
+  pub operands-in : {f : Fields} {i : ℕ} → VariablesIn (operandsAt (tableOf bs) (h .place)) → i ≡ h .place → operandsOf f ≡ operandsAt (tableOf bs) i → OperandsIn f
+  operands-in {f} v e q =
       let w : VariablesIn (operandsOf f) = subst VariablesIn (sym (q ∙ ap (operandsAt (tableOf bs)) e)) v in
       record { p-in = w .p-in; q-in = w .q-in }
 
-  pub do-operands : {f : Fields} {i : ℕ} → AreBytes bs → kindAt (tableOf bs) (h .place) ≡ Do → i ≡ h .place → operandsOf f ≡ operandsAt (tableOf bs) i → OperandsIn f
+  pub do-variables : AreBytes bs → kindAt (tableOf bs) (h .place) ≡ Do → VariablesIn (operandsAt (tableOf bs) (h .place))
   unfolding fieldsFit
-  do-operands {f} b k e q = operands-in f e q (do-fields _ (fits k) (word-bound bs b (h .place) in-table))
+  do-variables b k = do-fields _ (fits k) (word-bound bs b (h .place) in-table)
 
-  pub if-operands : {f : Fields} {i : ℕ} → AreBytes bs → kindAt (tableOf bs) (h .place) ≡ If → i ≡ h .place → operandsOf f ≡ operandsAt (tableOf bs) i → OperandsIn f
+  pub if-variables : AreBytes bs → kindAt (tableOf bs) (h .place) ≡ If → VariablesIn (operandsAt (tableOf bs) (h .place))
   unfolding fieldsFit
-  if-operands {f} b k e q = operands-in f e q (test-fields _ (fits k) (word-bound bs b (h .place) in-table))
+  if-variables b k = test-fields _ (fits k) (word-bound bs b (h .place) in-table)
 
-  pub loop-operands : {f : Fields} {i : ℕ} → AreBytes bs → kindAt (tableOf bs) (h .place) ≡ Loop → i ≡ h .place → operandsOf f ≡ operandsAt (tableOf bs) i → OperandsIn f
+  pub loop-variables : AreBytes bs → kindAt (tableOf bs) (h .place) ≡ Loop → VariablesIn (operandsAt (tableOf bs) (h .place))
   unfolding fieldsFit
-  loop-operands {f} b k e q = operands-in f e q (test-fields _ (fits k) (word-bound bs b (h .place) in-table))
+  loop-variables b k = test-fields _ (fits k) (word-bound bs b (h .place) in-table)
 
 -- ---- a do
 pub do-is : (bs vs tr : List ℕ) (h : Hot) {o : Operands} {i k : ℕ} {r : Moved} {us : List ℕ} → i ≡ h .place → o ≡ operandsAt (tableOf bs) i
@@ -120,60 +93,18 @@ module _ (bs vs : List ℕ) (h : Hot) {o : Operands} {i : ℕ} {b : Bool} (e : i
   tested : holdsOn (operandsAt (tableOf bs) (h .place)) vs ≡ b
   tested = ap (λ y. holdsOn y vs) (sym (q ∙ ap (operandsAt (tableOf bs)) e)) ∙ sym w
 
-  pub if-true : {r : Moved} → b ≡ true → r ≡ goesTo h (suc (h .place)) → r ≡ afterIf (tableOf bs) h vs
-  unfolding afterIf
-  if-true c x = x ∙ sym (ap (λ y. goesTo h (cond y (suc (h .place)) (falseRow (tableOf bs) (h .place)))) (tested ∙ c))
+  pub test-true : {r : Moved} → b ≡ true → r ≡ goesTo h (suc (h .place)) → r ≡ afterTest (tableOf bs) h vs
+  unfolding afterTest
+  test-true c x = x ∙ sym (ap (λ y. goesTo h (cond y (suc (h .place)) (goOf (tableOf bs) (h .place)))) (tested ∙ c))
 
-  if-false : {r : Moved} {j k : ℕ} → b ≡ false → j ≡ k → suc k ≡ falseRow (tableOf bs) (h .place) → r ≡ goesTo h (j + 1) → r ≡ afterIf (tableOf bs) h vs
-  unfolding afterIf
-  if-false {r} {j} {k} c d g x =
-      x ∙ ap (goesTo h) (add-one j ∙ ap suc d ∙ g) ∙ sym (ap (λ y. goesTo h (cond y (suc (h .place)) (falseRow (tableOf bs) (h .place)))) (tested ∙ c))
-
-  pub loop-true : {r : Moved} → b ≡ true → r ≡ goesTo h (suc (h .place)) → r ≡ afterLoop (tableOf bs) h vs
-  unfolding afterLoop
-  loop-true c x = x ∙ sym (ap (λ y. goesTo h (cond y (suc (h .place)) (suc (endOf (tableOf bs) (h .place))))) (tested ∙ c))
-
-  pub loop-false : {r : Moved} {j : ℕ} → b ≡ false → j ≡ endOf (tableOf bs) i → r ≡ goesTo h (j + 1) → r ≡ afterLoop (tableOf bs) h vs
-  unfolding afterLoop
-  loop-false {r} {j} c d x =
-      x ∙ ap (goesTo h) (add-one j ∙ ap suc (d ∙ ap (endOf (tableOf bs)) e)) ∙ sym (ap (λ y. goesTo h (cond y (suc (h .place)) (suc (endOf (tableOf bs) (h .place))))) (tested ∙ c))
-
-  module _ {elses : List ℕ} {x : ℕ} (s : Standing bs h) (k : kindAt (tableOf bs) (h .place) ≡ If) (l : Elses bs elses) (v : x ≡ getD elses i 0) where
-    link-is : x ≡ elseLink (tableOf bs) (h .place)
-    link-is = v ∙ ap (λ y. getD elses y 0) e ∙ l .each (h .place) (omega (arith, s .here .row, table-length bs)) k
-
-    pub if-past : {r : Moved} {j : ℕ} → b ≡ false → x ≡ 0 → j ≡ endOf (tableOf bs) i → r ≡ goesTo h (j + 1) → r ≡ afterIf (tableOf bs) h vs
-    unfolding falseRow
-    if-past c z d =
-        let n = no-else (tableOf bs) (h .place) (sym link-is ∙ z) in
-        if-false c (d ∙ ap (endOf (tableOf bs)) e) (sym (ap (λ y. cond y (suc (elseOf (tableOf bs) (h .place))) (suc (endOf (tableOf bs) (h .place)))) n))
-
-    pub else-low : (x ≡ 0 → ⊥) → x < 1024
-    else-low z =
-        let a = an-else (tableOf bs) (h .place) (λ y. z (link-is ∙ y)) in
-        omega (arith, link-is ∙ a .1, ltb-true (elseOf (tableOf bs) (h .place)) (length (tableOf bs)) (a .0), table-length bs, few-rows bs (s .accepted))
-
-    pub if-else : {r : Moved} → b ≡ false → (x ≡ 0 → ⊥) → r ≡ goesTo h (x + 1) → r ≡ afterIf (tableOf bs) h vs
-    unfolding falseRow
-    if-else c z =
-        let a = an-else (tableOf bs) (h .place) (λ y. z (link-is ∙ y)) in
-        if-false c (link-is ∙ a .1) (sym (ap (λ y. cond y (suc (elseOf (tableOf bs) (h .place))) (suc (endOf (tableOf bs) (h .place)))) (a .0)))
+  pub test-false : {r : Moved} {k : ℕ} → b ≡ false → k ≡ goOf (tableOf bs) (h .place) → r ≡ goesTo h k → r ≡ afterTest (tableOf bs) h vs
+  unfolding afterTest
+  test-false c d x = x ∙ ap (goesTo h) d ∙ sym (ap (λ y. goesTo h (cond y (suc (h .place)) (goOf (tableOf bs) (h .place)))) (tested ∙ c))
 
 -- ---- an else, a break, a continue
-module _ {bs : List ℕ} {h : Hot} {i o : ℕ} (e : i ≡ h .place) where
-  pub else-is : {r : Moved} {j : ℕ} → OpenerIs bs i o → j ≡ endOf (tableOf bs) o → r ≡ goesTo h (j + 1) → r ≡ afterElse (tableOf bs) h
-  unfolding afterElse
-  else-is {r} {j} p d x =
-      x ∙ ap (goesTo h) (add-one j ∙ ap suc (d ∙ ap (endOf (tableOf bs)) (p .is ∙ ap (λ y. openerOf (openAt (tableOf bs) y)) e)))
-
-  pub break-is : {r : Moved} {j : ℕ} → LoopIs bs i o → j ≡ endOf (tableOf bs) o → r ≡ goesTo h (j + 1) → r ≡ afterBreak (tableOf bs) h
-  unfolding afterBreak
-  break-is {r} {j} p d x =
-      x ∙ ap (goesTo h) (add-one j ∙ ap suc (d ∙ ap (endOf (tableOf bs)) (p .is ∙ ap (λ y. openerOf (fromLoop (openAt (tableOf bs) y))) e)))
-
-  pub continue-is : {r : Moved} → LoopIs bs i o → r ≡ goesTo h o → r ≡ afterContinue (tableOf bs) h
-  unfolding afterContinue
-  continue-is p x = x ∙ ap (goesTo h) (p .is ∙ ap (λ y. openerOf (fromLoop (openAt (tableOf bs) y))) e)
+pub jump-is : (bs : List ℕ) (h : Hot) {r : Moved} {k : ℕ} → k ≡ goOf (tableOf bs) (h .place) → r ≡ goesTo h k → r ≡ afterJump (tableOf bs) h
+unfolding afterJump
+jump-is bs h d x = x ∙ ap (goesTo h) d
 
 -- ---- a return
 module _ (h : Hot) (ps fs : List ℕ) where
@@ -185,45 +116,16 @@ module _ (h : Hot) (ps fs : List ℕ) where
   unfolding afterReturn
   return-finishes d e = rw (e, le-ltb 0 (h .depth) d)
 
--- ---- an end, by the part that it closes
-if-part : (bs ps fs : List ℕ) (h : Hot) (p : Part) → isBody p ≡ false → isLoopBody p ≡ false → goesTo h (suc (h .place)) ≡ afterPart (tableOf bs) p h ps fs
-if-part bs ps fs h body a b = clash refl a
-if-part bs ps fs h thenPart a b = refl
-if-part bs ps fs h elsePart a b = refl
-if-part bs ps fs h loopBody a b = clash refl b
+-- ---- an end
+module _ (bs ps fs : List ℕ) (h : Hot) {k : ℕ} (d : k ≡ goOf (tableOf bs) (h .place)) where
+  pub end-returns : {r : Moved} → k ≡ 0 → r ≡ afterReturn h ps fs → r ≡ afterEnd (tableOf bs) h ps fs
+  unfolding afterEnd
+  end-returns z q = q ∙ sym (ap (λ y. cond (eqb y 0) (afterReturn h ps fs) (goesTo h y)) (sym d ∙ z))
 
-loop-part : (bs ps fs : List ℕ) (h : Hot) (p : Part) → isLoopBody p ≡ true → goesTo h (openerOf (openAt (tableOf bs) (h .place))) ≡ afterPart (tableOf bs) p h ps fs
-loop-part bs ps fs h body e = clash e refl
-loop-part bs ps fs h thenPart e = clash e refl
-loop-part bs ps fs h elsePart e = clash e refl
-loop-part bs ps fs h loopBody e = refl
-
-module _ (bs ps fs : List ℕ) (h : Hot) {i : ℕ} {b : Bool} (s : Standing bs h) (e : i ≡ h .place) (w : b ≡ inBody (tableOf bs) i) where
-  pub end-returns : {r : Moved} → b ≡ true → r ≡ afterReturn h ps fs → r ≡ afterEnd (tableOf bs) h ps fs
-  unfolding afterEnd inBody
-  end-returns c q =
-      let k = body-part (tableOf bs) (regions (tableOf bs) (h .place)) (openAt (tableOf bs) (h .place)) (formed (tableOf bs) (proper bs (s .accepted)) (h .place) (omega (arith, in-table s))) (chain (tableOf bs) (h .place))
-      (s .here .within) (sym (w ∙ ap (inBody (tableOf bs)) e) ∙ c) in
-      q ∙ ap (λ p. afterPart (tableOf bs) p h ps fs) (sym k)
-
-  module _ {o : ℕ} {l : Bool} (p : OpenerIs bs i o) (y : l ≡ isLoop (kindAt (tableOf bs) o)) where
-    is-loop-part : l ≡ isLoopBody (partOf (openAt (tableOf bs) (h .place)))
-    is-loop-part = part-loop (at-row s e) p y ∙ ap (λ z. isLoopBody (partOf (openAt (tableOf bs) z))) e
-
-    pub end-loops : {r : Moved} → l ≡ true → r ≡ goesTo h o → r ≡ afterEnd (tableOf bs) h ps fs
-    unfolding afterEnd
-    end-loops c q =
-        q ∙ ap (goesTo h) (p .is ∙ ap (λ z. openerOf (openAt (tableOf bs) z)) e)
-        ∙ loop-part bs ps fs h (partOf (openAt (tableOf bs) (h .place))) (sym is-loop-part ∙ c)
-
-    pub end-passes : {r : Moved} → b ≡ false → l ≡ false → r ≡ goesTo h (suc (h .place)) → r ≡ afterEnd (tableOf bs) h ps fs
-    unfolding afterEnd inBody
-    end-passes d c q =
-        q
-        ∙ if-part bs ps fs h (partOf (openAt (tableOf bs) (h .place)))
-        (part-not-body (tableOf bs) (openAt (tableOf bs) (h .place)) (formed (tableOf bs) (proper bs (s .accepted)) (h .place) (omega (arith, in-table s)))
-        (not-body (openAt (tableOf bs) (h .place)) (s .here .within) (sym (w ∙ ap (inBody (tableOf bs)) e) ∙ d)))
-        (sym is-loop-part ∙ c)
+  pub end-goes-on : {r : Moved} → (k ≡ 0 → ⊥) → r ≡ goesTo h k → r ≡ afterEnd (tableOf bs) h ps fs
+  unfolding afterEnd
+  end-goes-on z q =
+      q ∙ sym (ap (λ y. cond y (afterReturn h ps fs) (goesTo h k)) (ne-eqb k 0 z)) ∙ ap (λ y. cond (eqb y 0) (afterReturn h ps fs) (goesTo h y)) d
 
 -- ---- a call
 module _ (bs : List ℕ) (h : Hot) {i : ℕ} {f : Read.Fields} (e : i ≡ h .place) (q : ReadRow.operandsOf f ≡ operandsAt (tableOf bs) i) where
@@ -241,10 +143,7 @@ module _ (bs : List ℕ) (h : Hot) (ps fs : List ℕ) where
   call-deep d e = rw (e, le-ltb (h .depth + 1) 16 d)
 
   module _ {i : ℕ} {f : Read.Fields} (e : i ≡ h .place) (q : ReadRow.operandsOf f ≡ operandsAt (tableOf bs) i) where
-    pub call-opens : {d o : ℕ} {r : Moved} → CalleeIs bs (operandsAt (tableOf bs) i .n) o → h .depth + 1 < 16 → d ≡ h .depth → r ≡ openedOf h (f .n) (o + 1)
+    pub call-opens : {d k : ℕ} {r : Moved} → k ≡ goOf (tableOf bs) (h .place) → h .depth + 1 < 16 → d ≡ h .depth → r ≡ openedOf h (f .n) k
         → called r (set ps d (h .place + 1)) (set fs d (h .function)) ≡ afterCall (tableOf bs) h ps fs
     unfolding afterCall
-    call-opens {d} {o} c l w x =
-        let g : o + 1 ≡ suc (functionRow (tableOf bs) (operandsAt (tableOf bs) (h .place) .n))
-        = add-one o ∙ ap suc (c .is ∙ ap (λ y. functionRow (tableOf bs) (operandsAt (tableOf bs) y .n)) e) in
-        rw (x, w, g, number-is bs h e q, lt-ltb (h .depth + 1) 16 l)
+    call-opens g l w x = rw (x, w, g, number-is bs h e q, lt-ltb (h .depth + 1) 16 l)

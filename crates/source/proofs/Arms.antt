@@ -7,7 +7,7 @@ use Rattle.rules.specs.declared.kind.Kind.the-variants.{Function, Do, If, Else,
 use Rattle.rules.specs.Row.{tableOf, kindAt}
 use Rattle.machine.specs.declared.machine.Moved.{Moved}
 use Rattle.machine.specs.Step.{done}
-use Rattle.source.specs.Step.{goesTo, afterIf, afterLoop, afterElse, afterBreak, afterContinue, afterEnd, called, afterCall, afterDo, Parts, after, moving, rowOf, stepOf}
+use Rattle.source.specs.Step.{goesTo, afterTest, afterJump, afterEnd, called, afterCall, afterDo, Parts, after, moving, rowOf, stepOf}
 
 pub kind-is : (bs : List ℕ) {i j : ℕ} {k K : Kind} → i ≡ j → k ≡ kindAt (tableOf bs) i → k ≡ K → kindAt (tableOf bs) j ≡ K
 kind-is bs e q c = ap (kindAt (tableOf bs)) (sym e) ∙ sym q ∙ c
@@ -29,15 +29,15 @@ module _ (bs : List ℕ) (p : Parts) {i : ℕ} {k : Kind} (e : i ≡ p .hot .pla
   unfolding rowOf
   do-arm c z = ap (λ y. after (y .to) (p .places) (p .functions) (y .vars) (y .slots)) z ∙ is-row Do c
 
-  pub if-arm : {x : Moved} → k ≡ If → x ≡ afterIf (tableOf bs) (p .hot) (p .vars) → moving p x ≡ stepOf (tableOf bs) p
+  pub if-arm : {x : Moved} → k ≡ If → x ≡ afterTest (tableOf bs) (p .hot) (p .vars) → moving p x ≡ stepOf (tableOf bs) p
   unfolding rowOf
   if-arm c z = moving-arm If c _ _ refl z
 
-  pub else-arm : {x : Moved} → k ≡ Else → x ≡ afterElse (tableOf bs) (p .hot) → moving p x ≡ stepOf (tableOf bs) p
+  pub else-arm : {x : Moved} → k ≡ Else → x ≡ afterJump (tableOf bs) (p .hot) → moving p x ≡ stepOf (tableOf bs) p
   unfolding rowOf
   else-arm c z = moving-arm Else c _ _ refl z
 
-  pub loop-arm : {x : Moved} → k ≡ Loop → x ≡ afterLoop (tableOf bs) (p .hot) (p .vars) → moving p x ≡ stepOf (tableOf bs) p
+  pub loop-arm : {x : Moved} → k ≡ Loop → x ≡ afterTest (tableOf bs) (p .hot) (p .vars) → moving p x ≡ stepOf (tableOf bs) p
   unfolding rowOf
   loop-arm c z = moving-arm Loop c _ _ refl z
 
@@ -45,11 +45,11 @@ module _ (bs : List ℕ) (p : Parts) {i : ℕ} {k : Kind} (e : i ≡ p .hot .pla
   unfolding rowOf
   end-arm c z = moving-arm End c _ _ refl z
 
-  pub break-arm : {x : Moved} → k ≡ Break → x ≡ afterBreak (tableOf bs) (p .hot) → moving p x ≡ stepOf (tableOf bs) p
+  pub break-arm : {x : Moved} → k ≡ Break → x ≡ afterJump (tableOf bs) (p .hot) → moving p x ≡ stepOf (tableOf bs) p
   unfolding rowOf
   break-arm c z = moving-arm Break c _ _ refl z
 
-  pub continue-arm : {x : Moved} → k ≡ Continue → x ≡ afterContinue (tableOf bs) (p .hot) → moving p x ≡ stepOf (tableOf bs) p
+  pub continue-arm : {x : Moved} → k ≡ Continue → x ≡ afterJump (tableOf bs) (p .hot) → moving p x ≡ stepOf (tableOf bs) p
   unfolding rowOf
   continue-arm c z = moving-arm Continue c _ _ refl z
 

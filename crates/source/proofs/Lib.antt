@@ -1,3 +1,4 @@
+pub mod Targets
 pub mod Answers
 pub mod Arms
 pub mod Rows

@@ -51,6 +51,11 @@ module _ (bs : List ℕ) (a : verdictOf bs ≡ Accepted) where
       by (inl x) = clash (ap (λ y. isOutside (openAt t y)) x ∙ ap isOutside (ok .closed)) w
       by (inr x) = record { row = omega (arith, table-length bs); within = w }
 
+  -- row 0 is a function's
+  pub not-first : {j : ℕ} → Inside bs j → j ≡ 0 → ⊥
+  unfolding openAt
+  not-first {j} n e = clash refl (subst (λ k. isOutside (openAt t k) ≡ false) e (n .within))
+
   pub first-inside : Inside bs 1
   first-inside =
       let m = entry t ok 0 (some-function t ok) in

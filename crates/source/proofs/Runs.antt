@@ -11,18 +11,17 @@ use Rattle.rules.specs.declared.step.Step.{Step}
 use Rattle.rules.specs.declared.step.Step.the-variants.{Went, Finished, Alarm, TooManyOpen, Beyond}
 use Rattle.rules.specs.Row.{Table, tableOf}
 use Rattle.rules.specs.Check.{verdictOf}
-use Rattle.rules.specs.Links.{Links}
 use Rattle.rules.specs.Run.{on, ends, outcomeOf, run}
 use Rattle.rules.specs.Run as Runs
 use Rattle.rules.specs.Source.{sourceStep, sourceRun}
 use Rattle.rules.specs.Calls.{over, running}
-use Rattle.layout.specs.Place.{Surveyed}
 use Rattle.machine.specs.declared.machine.Hot.{Hot}
 use Rattle.machine.specs.declared.machine.Machine.{Machine}
 use Rattle.machine.specs.declared.machine.Stopped.{Stopped}
 use Rattle.machine.specs.Run.{stoppedAt, hotAt, onward}
 use Rattle.machine.proofs.Agree.{IsEnd}
-use Rattle.source.specs.Step.{Known, CanStep, Parts, After, stepOf, partsOf}
+use Rattle.source.specs.Goes.{Known}
+use Rattle.source.specs.Step.{CanStep, Parts, After, stepOf, partsOf}
 use Rattle.source.specs.Run.{partsIn, stoppedWith, partsAt, stateOf, turnOf, answerOf, runFrom, Going, Kept, Ended, startOf, ranWith}
 use Rattle.source.proofs.Rows.{first-inside}
 use Rattle.source.proofs.Steps.{Steps, steps}
@@ -79,18 +78,18 @@ pub record Running (bs : List ℕ) (budget : ℕ) (start : Parts) (left : ℕ) (
 pub run-starts : {bs : List ℕ} {budget : ℕ} {start : Parts} → Going bs budget start → Running bs budget start budget start
 run-starts g = record { going = g; same = refl; kept = record { in-slots = omega (arith, g .room); same-length = refl; same-rest = refl }; longer = λ more. refl; further = λ more x. x }
 
-module _ {bs map ends elses heads : List ℕ} (k : Known bs map ends elses heads) {budget left : ℕ} {start p : Parts} (r : Running bs budget start left p) where
+module _ {bs goes : List ℕ} (k : Known bs goes) {budget left : ℕ} {start p : Parts} (r : Running bs budget start left p) where
   pub can-step : 0 < left → CanStep bs (p .hot) (p .slots)
   can-step h =
       record {
-        standing = record { accepted = k .surveyed .accepted; here = r .going .fits .here };
+        standing = record { accepted = k .accepted; here = r .going .fits .here };
         has-slot = record { slot = omega (arith, r .going .room); count = omega (arith, r .going .few, r .going .traced) };
         deep = r .going .fits .deep;
       }
 
   module _ (h : 0 < left) (a : After) (e : a ≡ stepOf (tableOf bs) p) where
     step-is : Steps bs p a (sourceStep (tableOf bs) (stateOf p))
-    step-is = subst (λ x. Steps bs p x (sourceStep (tableOf bs) (stateOf p))) (sym e) (steps bs (k .surveyed .accepted) p (r .going .fits) (omega (arith, r .going .room)))
+    step-is = subst (λ x. Steps bs p x (sourceStep (tableOf bs) (stateOf p))) (sym e) (steps bs (k .accepted) p (r .going .fits) (omega (arith, r .going .room)))
 
     kept-on : Kept (a .parts .hot .traced) (start .slots) (a .parts .slots)
     kept-on = step-is .keeps (start .slots) (r .kept)
@@ -160,16 +159,6 @@ module _ {bs map ends elses heads : List ℕ} (k : Known bs map ends elses heads
       })
 
 -- ---- the whole run
-pub knows : {bs map ends elses heads : List ℕ} → Surveyed bs map → Links (tableOf bs) ends elses heads → 1024 ≤ length ends → 1024 ≤ length elses → 32 ≤ length heads
-    → Known bs map ends elses heads
-knows s l a b c =
-    record {
-      surveyed = s;
-      ends-known = record { room = a; each = l .ends-are };
-      elses-known = record { room = b; each = l .elses-are };
-      heads-known = record { room = c; each = l .heads-are };
-    }
-
 pub starts : {bs slots vs : List ℕ} {budget : ℕ} {m : Machine} → verdictOf bs ≡ Accepted → budget ≤ length slots → budget < 65536 → m ≡ startOf vs
     → Going bs budget (partsIn m slots)
 starts {bs} {slots} {vs} {budget} a h l e =

@@ -8,23 +8,23 @@ use Prim.Native.Nat.{ℕ, zero, suc, _+_, _-_, _≤_, _<_}
 use native.Mathlib.Numerals.{add-one}
 use native.Mathlib.Nat.{eq-or-lt-of-le}
 use native.Mathlib.Omega.{arith}
-use lib.Dec.{ltb}
+use lib.Dec.{eqb, ltb}
 use lib.ListN.{length, getD, take, drop, set, length-set}
 use lib.Seq.{getD-set-same, getD-set-other, take-suc-set, drop-set-lt, drop-drop}
-use borrow.Author.Tests.{ltb-true, lt-ltb, le-ltb}
+use borrow.Author.Tests.{ltb-true, lt-ltb, le-ltb, ne-eqb}
 use Rattle.rules.specs.declared.kind.Kind.{Kind}
 use Rattle.rules.specs.declared.kind.Kind.the-variants.{Function, Do, If, Else, Loop, End, Break, Continue, Call, Unknown}
 use Rattle.rules.specs.declared.refusal.Verdict.the-variants.{Accepted}
 use Rattle.rules.specs.declared.step.Step.{Step}
 use Rattle.rules.specs.declared.step.Step.the-variants.{Went, Finished, TooManyOpen}
 use Rattle.rules.specs.Row.{Table, tableOf, kindAt, operandsAt}
-use Rattle.rules.specs.Scan.{Part, body, thenPart, elsePart, loopBody, openAt, partOf, openerOf, functionRow}
+use Rattle.rules.specs.Scan.{Part, body, thenPart, elsePart, loopBody, openAt, partOf, openerOf, fromLoop, endOf, functionRow}
 use Rattle.rules.specs.Check.{verdictOf}
 use Rattle.rules.specs.Variables.{doneOn, holdsOn}
 use Rattle.rules.specs.State.{frame, did, opening, depth}
 use Rattle.rules.specs.Run.{Turn, on, ends}
 use Rattle.rules.specs.Links.{isOpening}
-use Rattle.rules.specs.Source.{toRow, returnRow, endRow, callRow, rowStep, sourceStep}
+use Rattle.rules.specs.Source.{falseRow, toRow, returnRow, endRow, callRow, rowStep, sourceStep}
 use Rattle.rules.proofs.Value.{Silent, a-function}
 use Rattle.rules.proofs.Accepted.{proper, table-length}
 use Rattle.rules.proofs.Function.{isBody, not-silent, not-unknown}
@@ -32,9 +32,10 @@ use Rattle.layout.specs.Spot.{Inside}
 use Rattle.layout.proofs.Survey.{some-open}
 use Rattle.machine.specs.Step.{moved, openedOf, closedOf}
 use Rattle.machine.proofs.Agree.{IsEnd, finished-ends, too-many-ends}
-use Rattle.source.specs.Step.{goesTo, afterIf, afterLoop, afterElse, afterBreak, afterContinue, afterReturn, afterPart, afterEnd, Called, called, afterCall, afterDo, Parts, After, after, moving, rowOf, stepOf}
+use Rattle.source.specs.Goes.{endGoes, goesBy, goOf}
+use Rattle.source.specs.Step.{goesTo, afterTest, afterJump, afterReturn, afterEnd, Called, called, afterCall, afterDo, Parts, After, after, moving, rowOf, stepOf}
 use Rattle.source.specs.Run.{framesOf, stateOf, turnOf, Fits, Kept}
-use Rattle.source.proofs.Rows.{stays-inside, pushes-inside, passes-inside, past-inside, false-inside, repeats-inside, continue-inside, callee-inside, else-inside, break-inside}
+use Rattle.source.proofs.Rows.{not-first, stays-inside, pushes-inside, passes-inside, past-inside, false-inside, repeats-inside, continue-inside, callee-inside, else-inside, break-inside}
 
 -- ---- a step of both
 pub record Steps (bs : List ℕ) (p : Parts) (a : After) (u : Turn (Unit {0})) : Type 0 where
@@ -91,10 +92,27 @@ module _ (bs : List ℕ) (a : verdictOf bs ≡ Accepted) (p : Parts) (v : Fits b
   stops : (o : Step) → IsEnd o → turnOf (moving p (moved o (p .hot))) ≡ ends o (stateOf p) → Steps bs p (moving p (moved o (p .hot))) (ends o (stateOf p))
   stops o n e = record { turn = e; next = λ k z. absurd (n k z); stands = λ k z. absurd (n k z); traced-more = omega arith; keeps = λ held k. k }
 
-  -- ---- a test
+  -- ---- where the row goes
+  goes-by : (k : Kind) → kindAt t i ≡ k → goOf t i ≡ goesBy t i k
+  unfolding goOf
+  goes-by k e = ap (goesBy t i) e
+
   by-test : (b : Bool) (x y : ℕ) → Inside bs x → Inside bs y → Inside bs (cond b x y)
   by-test true x y m n = m
   by-test false x y m n = n
+
+  tests : (j : ℕ) → goOf t i ≡ j → Inside bs (suc i) → Inside bs j
+      → Steps bs p (moving p (afterTest t (p .hot) (p .vars))) (on (toRow (cond (holdsOn (operandsAt t i) (p .vars)) (suc i) j) (stateOf p)))
+  unfolding afterTest
+  tests j e m n =
+      subst
+      (λ g. Steps bs p (moving p (goesTo (p .hot) (cond (holdsOn (operandsAt t i) (p .vars)) (suc i) g)))
+      (on (toRow (cond (holdsOn (operandsAt t i) (p .vars)) (suc i) j) (stateOf p)))) (sym e)
+      (goes (cond (holdsOn (operandsAt t i) (p .vars)) (suc i) j) (by-test (holdsOn (operandsAt t i) (p .vars)) (suc i) j m n))
+
+  jumps : (j : ℕ) → goOf t i ≡ j → Inside bs j → Steps bs p (moving p (afterJump t (p .hot))) (on (toRow j (stateOf p)))
+  unfolding afterJump
+  jumps j e n = subst (λ g. Steps bs p (moving p (goesTo (p .hot) g)) (on (toRow j (stateOf p)))) (sym e) (goes j n)
 
   -- ---- a do
   do-keeps : p .hot .traced < length (p .slots) → (held : List ℕ) → Kept (p .hot .traced) held (p .slots)
@@ -166,12 +184,23 @@ module _ (bs : List ℕ) (a : verdictOf bs ≡ Accepted) (p : Parts) (v : Fits b
   by-depth (suc d) e = rw (lt-ltb 0 (p .hot .depth) (omega arith)) (closes d e)
 
   -- ---- an end
-  by-part : kindAt t i ≡ End → (q : Part) → partOf (openAt t i) ≡ q
-      → Steps bs p (moving p (afterPart t q (p .hot) (p .places) (p .functions))) (endRow i (openAt t i) q (stateOf p))
+  abbrev ending : (g : ℕ) → After
+  ending g = moving p (cond (eqb g 0) (afterReturn (p .hot) (p .places) (p .functions)) (goesTo (p .hot) g))
+
+  passes : (j : ℕ) → Inside bs j → Steps bs p (ending j) (on (toRow j (stateOf p)))
+  passes j n = rw (ne-eqb j 0 (not-first bs a n)) (goes j n)
+
+  by-part : kindAt t i ≡ End → (q : Part) → partOf (openAt t i) ≡ q → Steps bs p (ending (endGoes t i q)) (endRow i (openAt t i) q (stateOf p))
   by-part e body q = by-depth (p .hot .depth) refl
-  by-part e thenPart q = goes (suc i) (passes-inside bs a (v .here) e (ap isBody q))
-  by-part e elsePart q = goes (suc i) (passes-inside bs a (v .here) e (ap isBody q))
-  by-part e loopBody q = goes (openerOf (openAt t i)) (repeats-inside bs a (v .here) (ap isBody q))
+  by-part e thenPart q = passes (suc i) (passes-inside bs a (v .here) e (ap isBody q))
+  by-part e elsePart q = passes (suc i) (passes-inside bs a (v .here) e (ap isBody q))
+  by-part e loopBody q = passes (openerOf (openAt t i)) (repeats-inside bs a (v .here) (ap isBody q))
+
+  closing : kindAt t i ≡ End → Steps bs p (moving p (afterEnd t (p .hot) (p .places) (p .functions))) (endRow i (openAt t i) (partOf (openAt t i)) (stateOf p))
+  unfolding afterEnd
+  closing e =
+      subst (λ g. Steps bs p (ending g) (endRow i (openAt t i) (partOf (openAt t i)) (stateOf p))) (sym (goes-by End e))
+      (by-part e (partOf (openAt t i)) refl)
 
   -- ---- a call
   abbrev n : ℕ
@@ -180,8 +209,14 @@ module _ (bs : List ℕ) (a : verdictOf bs ≡ Accepted) (p : Parts) (v : Fits b
   abbrev calling : Called → After
   calling x = after (x .to) (x .places) (x .functions) (p .vars) (p .slots)
 
+  abbrev openedAt : (g : ℕ) → Called
+  openedAt g = called (openedOf (p .hot) n g) (set (p .places) (p .hot .depth) (i + 1)) (set (p .functions) (p .hot .depth) (p .hot .function))
+
   abbrev opened : Called
-  opened = called (openedOf (p .hot) n (suc (functionRow t n))) (set (p .places) (p .hot .depth) (i + 1)) (set (p .functions) (p .hot .depth) (p .hot .function))
+  opened = openedAt (suc (functionRow t n))
+
+  abbrev callingAt : (room : Bool) (g : ℕ) → After
+  callingAt b g = calling (cond b (openedAt g) (called (moved (TooManyOpen 16) (p .hot)) (p .places) (p .functions)))
 
   saved : kindAt t i ≡ Call → (d : ℕ) → d < p .hot .depth + 1 → Inside bs (getD (set (p .places) (p .hot .depth) (i + 1)) d 0)
   saved e d l = by (eq-or-lt-of-le (subst (λ x. d < x) (add-one (p .hot .depth)) l))
@@ -214,7 +249,7 @@ module _ (bs : List ℕ) (a : verdictOf bs ≡ Accepted) (p : Parts) (v : Fits b
       }
 
   by-room : kindAt t i ≡ Call → (b : Bool) → ltb (p .hot .depth + 1) 16 ≡ b
-      → Steps bs p (calling (cond b opened (called (moved (TooManyOpen 16) (p .hot)) (p .places) (p .functions))))
+      → Steps bs p (callingAt b (suc (functionRow t n)))
       (cond b (on (opening n (suc (functionRow t n)) tt (toRow (suc i) (stateOf p)))) (ends (TooManyOpen 16) (stateOf p)))
   by-room e true q = opens e (ltb-true (p .hot .depth + 1) 16 q)
   by-room e false q = stops (TooManyOpen 16) (too-many-ends 16) refl
@@ -225,28 +260,25 @@ module _ (bs : List ℕ) (a : verdictOf bs ≡ Accepted) (p : Parts) (v : Fits b
   calls : kindAt t i ≡ Call → Steps bs p (rowOf t Call p) (callRow t i n (stateOf p))
   unfolding rowOf afterCall
   calls e =
-      subst
-      (λ m. Steps bs p (calling (cond (ltb (p .hot .depth + 1) 16) opened (called (moved (TooManyOpen 16) (p .hot)) (p .places) (p .functions))))
+      subst (λ g. Steps bs p (callingAt (ltb (p .hot .depth + 1) 16) g) (callRow t i n (stateOf p))) (sym (goes-by Call e))
+      (subst
+      (λ m. Steps bs p (callingAt (ltb (p .hot .depth + 1) 16) (suc (functionRow t n)))
       (cond (ltb m 16) (on (opening n (suc (functionRow t n)) tt (toRow (suc i) (stateOf p)))) (ends (TooManyOpen 16) (stateOf p)))) depth-is
-      (by-room e (ltb (p .hot .depth + 1) 16) refl)
+      (by-room e (ltb (p .hot .depth + 1) 16) refl))
 
   -- ---- every row
   by-kind : p .hot .traced < length (p .slots) → (k : Kind) → kindAt t i ≡ k → Steps bs p (rowOf t k p) (rowStep t i (openAt t i) k (stateOf p))
-  unfolding rowOf rowStep afterIf afterLoop afterElse afterBreak afterContinue afterEnd
+  unfolding rowOf rowStep
   by-kind h Function e =
       let f = some-open (openAt t i) (v .here .within) in
       absurd (not-silent t (proper bs a) i (omega (arith, v .here .row, table-length bs)) (f .2) (subst Silent (sym e) a-function))
   by-kind h Do e = does h e
-  by-kind h If e =
-      goes (cond (holdsOn (operandsAt t i) (p .vars)) (suc i) _)
-      (by-test (holdsOn (operandsAt t i) (p .vars)) (suc i) _ (pushes-inside bs a (v .here) If thenPart e refl) (false-inside bs a (v .here) e))
-  by-kind h Else e = goes _ (else-inside bs a (v .here) e)
-  by-kind h Loop e =
-      goes (cond (holdsOn (operandsAt t i) (p .vars)) (suc i) _)
-      (by-test (holdsOn (operandsAt t i) (p .vars)) (suc i) _ (pushes-inside bs a (v .here) Loop loopBody e refl) (past-inside bs a (v .here) (ap isOpening e)))
-  by-kind h End e = by-part e (partOf (openAt t i)) refl
-  by-kind h Break e = goes _ (break-inside bs a (v .here) e)
-  by-kind h Continue e = goes _ (continue-inside bs a (v .here) e)
+  by-kind h If e = tests (falseRow t i) (goes-by If e) (pushes-inside bs a (v .here) If thenPart e refl) (false-inside bs a (v .here) e)
+  by-kind h Else e = jumps (suc (endOf t (openerOf (openAt t i)))) (goes-by Else e) (else-inside bs a (v .here) e)
+  by-kind h Loop e = tests (suc (endOf t i)) (goes-by Loop e) (pushes-inside bs a (v .here) Loop loopBody e refl) (past-inside bs a (v .here) (ap isOpening e))
+  by-kind h End e = closing e
+  by-kind h Break e = jumps (suc (endOf t (openerOf (fromLoop (openAt t i))))) (goes-by Break e) (break-inside bs a (v .here) e)
+  by-kind h Continue e = jumps (openerOf (fromLoop (openAt t i))) (goes-by Continue e) (continue-inside bs a (v .here) e)
   by-kind h Call e = calls e
   by-kind h Unknown e = absurd (not-unknown t (proper bs a) i (omega (arith, v .here .row, table-length bs)) e)
 

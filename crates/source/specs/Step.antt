@@ -3,7 +3,7 @@ use Prim.Native.Nat.{ℕ, suc, _+_, _-_, _<_}
 use mathlib.Core.Path.{_≡_}
 use mathlib.Core.Bool.{cond}
 use mathlib.Core.List.{List}
-use lib.Dec.{ltb}
+use lib.Dec.{eqb, ltb}
 use lib.ListN.{length, getD, set}
 use Rattle.rules.specs.declared.kind.Kind.{Kind}
 use Rattle.rules.specs.declared.kind.Kind.the-variants.{Function, Do, If, Else, Loop, End, Break, Continue, Call, Unknown}
@@ -12,25 +12,16 @@ use Rattle.rules.specs.declared.step.Step.{Step}
 use Rattle.rules.specs.declared.step.Step.the-variants.{Went, Finished, TooManyOpen}
 use Rattle.rules.specs.Limits.{maxOpen}
 use Rattle.rules.specs.Row.{Table, kindAt, operandsAt}
-use Rattle.rules.specs.Scan.{Part, body, thenPart, elsePart, loopBody, openAt, partOf, openerOf, fromLoop, endOf, functionRow}
 use Rattle.rules.specs.Check.{verdictOf}
 use Rattle.rules.specs.Variables.{doneOn, holdsOn}
-use Rattle.rules.specs.Source.{falseRow}
-use Rattle.layout.specs.Place.{Surveyed}
-use Rattle.layout.specs.Spot.{Inside, Ends, Elses, Heads}
+use Rattle.layout.specs.Spot.{Inside}
 use Rattle.machine.specs.declared.machine.Hot.{Hot}
 use Rattle.machine.specs.declared.machine.Moved.{Moved}
 use Rattle.machine.specs.Step.{moved, openedOf, closedOf, Done, done, tracedOf}
 use Rattle.machine.specs.Run.{hotAt}
+use Rattle.source.specs.Goes.{goOf}
 
 -- ---- what a step needs
--- the links and the map are those of the table
-pub record Known (bs map ends elses heads : List ℕ) : Type 0 where
-  pub surveyed : Surveyed bs map
-  pub ends-known : Ends bs ends
-  pub elses-known : Elses bs elses
-  pub heads-known : Heads bs heads
-
 -- the table is accepted, and the run stands at one of its rows, in a function
 pub record Standing (bs : List ℕ) (h : Hot) : Type 0 where
   pub accepted : verdictOf bs ≡ Accepted
@@ -50,34 +41,21 @@ pub record CanStep (bs : List ℕ) (h : Hot) (slots : List ℕ) : Type 0 where
 abbrev pub goesTo : Hot → (i : ℕ) → Moved
 goesTo h i = moved (Went i) (hotAt h i (h .steps))
 
-unfoldable pub afterIf : Table → Hot → (vars : List ℕ) → Moved
-afterIf t h vs = goesTo h (cond (holdsOn (operandsAt t (h .place)) vs) (suc (h .place)) (falseRow t (h .place)))
+-- an if or a loop
+unfoldable pub afterTest : Table → Hot → (vars : List ℕ) → Moved
+afterTest t h vs = goesTo h (cond (holdsOn (operandsAt t (h .place)) vs) (suc (h .place)) (goOf t (h .place)))
 
-unfoldable pub afterLoop : Table → Hot → (vars : List ℕ) → Moved
-afterLoop t h vs = goesTo h (cond (holdsOn (operandsAt t (h .place)) vs) (suc (h .place)) (suc (endOf t (h .place))))
+-- an else, a break or a continue
+unfoldable pub afterJump : Table → Hot → Moved
+afterJump t h = goesTo h (goOf t (h .place))
 
-unfoldable pub afterElse : Table → Hot → Moved
-afterElse t h = goesTo h (suc (endOf t (openerOf (openAt t (h .place)))))
-
-unfoldable pub afterBreak : Table → Hot → Moved
-afterBreak t h = goesTo h (suc (endOf t (openerOf (fromLoop (openAt t (h .place))))))
-
-unfoldable pub afterContinue : Table → Hot → Moved
-afterContinue t h = goesTo h (openerOf (fromLoop (openAt t (h .place))))
-
--- ---- the end of a function, whose caller waits or not; of another part
+-- ---- the end of a function, whose caller waits or not; an end
 unfoldable pub afterReturn : Hot → (places functions : List ℕ) → Moved
 afterReturn h ps fs =
     cond (ltb 0 (h .depth)) (closedOf h (getD fs (h .depth - 1) 0) (getD ps (h .depth - 1) 0) 0) (moved Finished h)
 
-abbrev pub afterPart : Table → Part → Hot → (places functions : List ℕ) → Moved
-afterPart t body h ps fs = afterReturn h ps fs
-afterPart t thenPart h ps fs = goesTo h (suc (h .place))
-afterPart t elsePart h ps fs = goesTo h (suc (h .place))
-afterPart t loopBody h ps fs = goesTo h (openerOf (openAt t (h .place)))
-
 unfoldable pub afterEnd : Table → Hot → (places functions : List ℕ) → Moved
-afterEnd t h ps fs = afterPart t (partOf (openAt t (h .place))) h ps fs
+afterEnd t h ps fs = cond (eqb (goOf t (h .place)) 0) (afterReturn h ps fs) (goesTo h (goOf t (h .place)))
 
 -- ---- a call
 pub record Called : Type 0 where
@@ -92,7 +70,7 @@ unfoldable pub afterCall : Table → Hot → (places functions : List ℕ) → C
 afterCall t h ps fs =
     let n = operandsAt t (h .place) .n in
     cond (ltb (h .depth + 1) maxOpen)
-    (called (openedOf h n (suc (functionRow t n))) (set ps (h .depth) (h .place + 1)) (set fs (h .depth) (h .function)))
+    (called (openedOf h n (goOf t (h .place))) (set ps (h .depth) (h .place + 1)) (set fs (h .depth) (h .function)))
     (called (moved (TooManyOpen maxOpen) h) ps fs)
 
 -- ---- a do
@@ -129,12 +107,12 @@ rowOf t Function p = moving p (goesTo (p .hot) (suc (p .hot .place)))
 rowOf t Do p =
     let x = afterDo t (p .hot) (p .vars) (p .slots) in
     after (x .to) (p .places) (p .functions) (x .vars) (x .slots)
-rowOf t If p = moving p (afterIf t (p .hot) (p .vars))
-rowOf t Else p = moving p (afterElse t (p .hot))
-rowOf t Loop p = moving p (afterLoop t (p .hot) (p .vars))
+rowOf t If p = moving p (afterTest t (p .hot) (p .vars))
+rowOf t Else p = moving p (afterJump t (p .hot))
+rowOf t Loop p = moving p (afterTest t (p .hot) (p .vars))
 rowOf t End p = moving p (afterEnd t (p .hot) (p .places) (p .functions))
-rowOf t Break p = moving p (afterBreak t (p .hot))
-rowOf t Continue p = moving p (afterContinue t (p .hot))
+rowOf t Break p = moving p (afterJump t (p .hot))
+rowOf t Continue p = moving p (afterJump t (p .hot))
 rowOf t Call p =
     let x = afterCall t (p .hot) (p .places) (p .functions) in
     after (x .to) (x .places) (x .functions) (p .vars) (p .slots)

@@ -9,12 +9,12 @@ ghost use Rattle.rules.specs.Links.{Links};
 ghost use Rattle.rules.specs.Source.{sourceRun};
 ghost use Rattle.rules.specs.Calls.{running};
 ghost use Rattle.source.specs.Run.{startOf, ranWith};
-use layout::place;
 use machine::machine::Hot;
 use machine::machine::Machine;
 use machine::table::outcome_of;
 use rules::answer::Ran;
 
+pub mod goes;
 pub mod kinds;
 pub mod run;
 pub mod step;
@@ -53,18 +53,9 @@ pub fn run_linked(
     requires { ⌜ budget ≤ length (now trace) ⌝ }
     ensures { λ r. ⌜ ranWith r (now (trace .exit)) ≡ running Accepted (sourceRun (tableOf (now (rows .entry))) budget variables) variables (now (trace .entry)) ⌝ }
 {
-    let mut map = [0u16; 6150];
-    place::survey(rows, &mut map);
-    let x = run::run_rows(
-        rows,
-        &map,
-        ends,
-        elses,
-        heads,
-        start(variables),
-        budget,
-        trace,
-    );
+    let mut goes = [0u16; 1024];
+    goes::find(rows, ends, elses, heads, &mut goes);
+    let x = run::run_rows(rows, &goes, start(variables), budget, trace);
     let s = x.step;
     let m = x.machine;
     let h = m.hot;

@@ -1,6 +1,6 @@
 // A run of at most as many steps as its budget.
 ghost use mathlib.Core.Path.{_≡_};
-ghost use Rattle.source.specs.Step.{Known};
+ghost use Rattle.source.specs.Goes.{Known};
 ghost use Rattle.source.specs.Run.{partsIn, stoppedWith, Going, Ended};
 use crate::step;
 use machine::machine::Machine;
@@ -12,15 +12,12 @@ use rules::step::Step;
 // Takes the machine apart, so that its numbers stay in registers, and puts it together where it stops.
 pub fn run_rows(
     rows: &[u8],
-    map: &[u16],
-    ends: &[u16],
-    elses: &[u16],
-    heads: &[u16],
+    goes: &[u16; 1024],
     start: Machine,
     budget: u16,
     trace: &mut [u16],
 ) -> Stopped
-    requires { ⌜ (Known (now rows) (now map) (now ends) (now elses) (now heads)) × (Going (now rows) budget (partsIn start (now trace))) ⌝ }
+    requires { ⌜ (Known (now rows) (now goes)) × (Going (now rows) budget (partsIn start (now trace))) ⌝ }
     ensures { λ r. ⌜ Ended (now (rows .entry)) budget (partsIn start (now (trace .entry))) (stoppedWith r (now (trace .exit))) ⌝ }
 {
     let mut places = start.places;
@@ -32,10 +29,7 @@ pub fn run_rows(
         let steps = h.steps + 1;
         let t = step::row(
             rows,
-            map,
-            ends,
-            elses,
-            heads,
+            goes,
             h,
             &mut places,
             &mut functions,
@@ -54,17 +48,9 @@ pub fn run_rows(
 }
 
 // One step is a run of one.
-pub fn step(
-    rows: &[u8],
-    map: &[u16],
-    ends: &[u16],
-    elses: &[u16],
-    heads: &[u16],
-    machine: Machine,
-    trace: &mut [u16],
-) -> Stopped
-    requires { ⌜ (Known (now rows) (now map) (now ends) (now elses) (now heads)) × (Going (now rows) 1 (partsIn machine (now trace))) ⌝ }
+pub fn step(rows: &[u8], goes: &[u16; 1024], machine: Machine, trace: &mut [u16]) -> Stopped
+    requires { ⌜ (Known (now rows) (now goes)) × (Going (now rows) 1 (partsIn machine (now trace))) ⌝ }
     ensures { λ r. ⌜ Ended (now (rows .entry)) 1 (partsIn machine (now (trace .entry))) (stoppedWith r (now (trace .exit))) ⌝ }
 {
-    run_rows(rows, map, ends, elses, heads, machine, 1, trace)
+    run_rows(rows, goes, machine, 1, trace)
 }

@@ -1,6 +1,7 @@
 use denote.Ref.{now}
 use native.Mathlib.Omega.{arith}
-use Rattle.hardener.proofs.Emits.{short-answer, whole-answer, ends-of, elses-of, heads-of}
+use Rattle.layout.proofs.Linked.{ends-of, elses-of, heads-of}
+use Rattle.hardener.proofs.Emits.{short-answer, whole-answer}
 use borrow.Author.Needs.{needs}
 use Rattle.hardener.proofs.harden_linked.Statement.{statement}
 use Rattle.hardener.proofs.harden_linked.Tie as tie

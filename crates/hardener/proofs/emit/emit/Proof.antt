@@ -1,6 +1,7 @@
 use mathlib.Core.Path.{refl}
 use Rattle.rules.specs.declared.kind.Kind.the-variants.{Do, Call}
-use Rattle.hardener.proofs.Emits.{kind-is, makes, in-if, in-loop, in-end, in-call, kinds}
+use Rattle.layout.proofs.ByKind.{kind-is, in-if, in-loop, in-end, in-call}
+use Rattle.hardener.proofs.Emits.{makes, kinds}
 use borrow.Author.Needs.{needs}
 use Rattle.hardener.proofs.emit.emit.Statement.{statement}
 use Rattle.hardener.proofs.emit.emit.Tie as tie

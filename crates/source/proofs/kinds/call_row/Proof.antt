@@ -1,8 +1,5 @@
-use Rattle.source.proofs.Answers.{at-row, call-deep, callee-low, call-opens}
 use native.Mathlib.Omega.{arith}
-use denote.Ref.{now}
-use mathlib.Core.Path.{ap, _∙_}
-use Rattle.rules.specs.Row.{tableOf, kindAt}
+use Rattle.source.proofs.Answers.{low, call-deep, callee-low, call-opens}
 use borrow.Author.Needs.{needs}
 use Rattle.source.proofs.kinds.call_row.Statement.{statement}
 use Rattle.source.proofs.kinds.call_row.Tie as tie
@@ -10,73 +7,65 @@ use Rattle.source.proofs.kinds.call_row.Reads as reads
 use Rattle.source.proofs.kinds.call_row.Lts as lts
 use Rattle.layout.proofs.row.fields_of.Reads as fields-of-reads
 use Rattle.layout.proofs.row.index.Reads as index-reads
-use Rattle.layout.proofs.spot.callee_of.Reads as callee-of-reads
 use Rattle.machine.proofs.machine.opened.Reads as opened-reads
 use Rattle.machine.proofs.machine.stay.Reads as stay-reads
+use Rattle.source.proofs.kinds.go_of.Reads as go-of-reads
 
--- src/kinds.rt:185:14
+-- src/kinds.rt:142:14
 add-if1 : tie.Need-add-if1
 add-if1 c = search needs
 
--- src/kinds.rt:186:9
+-- src/kinds.rt:143:9
 stay-requires : tie.Need-stay-requires
 stay-requires c κs = search needs
 
--- src/kinds.rt:186:9
+-- src/kinds.rt:143:9
 returns : tie.Need-returns
 returns c = call-deep _ _ _ _ (c .before .if1 .taken) (c .stay .ensures)
 
--- src/kinds.rt:188:9
+-- src/kinds.rt:145:34
 index-requires : tie.Need-index-requires
 index-requires c κs = search needs
 
--- src/kinds.rt:189:9
-callee-of-requires : tie.Need-callee-of-requires
-callee-of-requires c κs = ((c .before .before .before .before .before .before .pre .0 .1, c .before .before .before .before .before .before .pre .0 .2), (at-row (c .before .before .before .before .before .before .pre .0 .0) (c .index .ensures) .row, ap (kindAt (tableOf (now (c .before .before .before .before .before .before .args .rows)))) (c .index .ensures) ∙ c .before .before .before .before .before .before .pre .1 .0))
-
--- src/kinds.rt:190:9
+-- src/kinds.rt:145:9
 fields-of-requires : tie.Need-fields-of-requires
 fields-of-requires c κs = search needs
 
--- src/kinds.rt:191:9
+-- src/kinds.rt:146:9
 index-requires-2 : tie.Need-index-requires-2
 index-requires-2 c κs = search needs
 
--- src/kinds.rt:192:17
+-- src/kinds.rt:147:17
 add-places : tie.Need-add-places
-add-places c = search needs
+add-places c = omega (arith, low (c .before .before .before .before .before .before .before .pre .0 .0))
 
--- src/kinds.rt:192:5
+-- src/kinds.rt:147:5
 mul-places : tie.Need-mul-places
 mul-places c = search needs
 
--- src/kinds.rt:192:5
+-- src/kinds.rt:147:5
 element-write-places : tie.Need-element-write-places
 element-write-places c = search needs
 
--- src/kinds.rt:193:5
+-- src/kinds.rt:148:5
 element-write-functions : tie.Need-element-write-functions
 element-write-functions c = search needs
 
--- src/kinds.rt:194:15
+-- src/kinds.rt:149:15
 cast-opened : tie.Need-cast-opened
-cast-opened c = omega (arith, callee-low _ _ (c .before .before .before .before .before .index .ensures) (c .before .before .before .fields-of .ensures) (c .before .before .before .before .before .before .before .before .before .before .before .pre .0 .0) (c .before .before .before .before .before .before .before .before .before .before .before .pre .1 .0))
+cast-opened c = omega (arith, callee-low _ _ (c .before .before .before .before .index .ensures) (c .before .before .before .fields-of .ensures) (c .before .before .before .before .before .before .before .before .pre .0 .0) (c .before .before .before .before .before .before .before .before .pre .1 .0))
 
--- src/kinds.rt:194:27
-add-opened : tie.Need-add-opened
-add-opened c = search needs
+-- src/kinds.rt:149:26
+go-of-requires : tie.Need-go-of-requires
+go-of-requires c κs = search needs
 
--- src/kinds.rt:194:26
-cast-opened-2 : tie.Need-cast-opened-2
-cast-opened-2 c = search needs
-
--- src/kinds.rt:194:5
+-- src/kinds.rt:149:5
 opened-requires : tie.Need-opened-requires
 opened-requires c κs = search needs
 
--- src/kinds.rt:173:1
+-- src/kinds.rt:131:1
 returns-2 : tie.Need-returns-2
-returns-2 c = call-opens _ _ _ _ (c .before .before .before .before .before .before .index .ensures) (c .before .before .before .before .fields-of .ensures) (c .before .before .before .before .before .callee-of .ensures) (c .before .before .before .before .before .before .before .if1 .left) (c .before .before .before .index2 .ensures) (c .opened .ensures)
+returns-2 c = call-opens _ _ _ _ (c .before .before .before .before .before .before .index .ensures) (c .before .before .before .before .before .fields-of .ensures) (c .before .go-of .ensures) (c .before .before .before .before .before .before .before .if1 .left) (c .before .before .before .before .index2 .ensures) (c .opened .ensures)
 
 pub call-row-spec : {M : Type 1} → statement M
 call-row-spec =
@@ -86,7 +75,6 @@ call-row-spec =
     stay-requires
     returns
     index-requires
-    callee-of-requires
     fields-of-requires
     index-requires-2
     add-places
@@ -94,7 +82,6 @@ call-row-spec =
     element-write-places
     element-write-functions
     cast-opened
-    add-opened
-    cast-opened-2
+    go-of-requires
     opened-requires
     returns-2)

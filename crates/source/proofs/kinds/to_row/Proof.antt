@@ -9,21 +9,17 @@ use Rattle.source.proofs.kinds.to_row.Lts as lts
 use Rattle.machine.proofs.machine.standing.Reads as standing-reads
 use Rattle.machine.proofs.machine.stay.Reads as stay-reads
 
--- src/kinds.rt:63:13
-cast-k : tie.Need-cast-k
-cast-k c = search needs
-
--- src/kinds.rt:64:25
+-- src/kinds.rt:50:25
 standing-requires : tie.Need-standing-requires
 standing-requires c κs = search needs
 
--- src/kinds.rt:64:5
+-- src/kinds.rt:50:5
 stay-requires : tie.Need-stay-requires
 stay-requires c κs = search needs
 
--- src/kinds.rt:59:1
+-- src/kinds.rt:47:1
 returns : tie.Need-returns
 returns c = c .stay .ensures ∙ ap (moved (Went _)) (c .before .standing .ensures)
 
 pub to-row-spec : {M : Type 1} → statement M
-to-row-spec = tie.close (tie.spec cast-k standing-requires stay-requires returns)
+to-row-spec = tie.close (tie.spec standing-requires stay-requires returns)

@@ -1,0 +1,112 @@
+// Where each row goes that does not go on at the next row. It is looked up once, before a run, so that a step of it takes one load.
+ghost use mathlib.Core.Path.{_≡_};
+ghost use Prim.Native.Nat.{suc, _/_, _<_};
+ghost use lib.ListN.{length};
+ghost use Rattle.rules.specs.declared.kind.Kind.{Kind};
+ghost use Rattle.rules.specs.declared.refusal.Verdict.the-variants.{Accepted};
+ghost use Rattle.rules.specs.Row.{tableOf, kindAt};
+ghost use Rattle.rules.specs.Scan.{openAt, partOf, endOf};
+ghost use Rattle.rules.specs.Check.{verdictOf};
+ghost use Rattle.rules.specs.Links.{Links};
+ghost use Rattle.rules.specs.Source.{falseRow};
+ghost use Rattle.layout.specs.Place.{Surveyed};
+ghost use Rattle.layout.specs.Spot.{Inside, Opens, Ends, Elses, Heads};
+ghost use Rattle.source.specs.Goes.{endGoes, goOf, Known};
+use layout::place;
+use layout::row;
+use layout::spot;
+use rules::kind::Kind;
+
+// Past the end of what row o opens.
+fn past(rows: &[u8], ends: &[u16], o: usize) -> u16
+    requires { ⌜ (verdictOf (now rows) ≡ Accepted) × (Ends (now rows) (now ends)) × (Opens (now rows) o) ⌝ }
+    ensures { λ r. ⌜ r ≡ suc (endOf (tableOf (now (rows .entry))) o) ⌝ }
+{
+    ends[o] + 1
+}
+
+// To the else part of the if in row i, or past its end where there is none.
+fn if_go(rows: &[u8], ends: &[u16], elses: &[u16], i: usize) -> u16
+    requires { ⌜ (verdictOf (now rows) ≡ Accepted) × (Ends (now rows) (now ends)) × (Elses (now rows) (now elses)) ⌝ }
+    requires { ⌜ (i < length (now rows) / 6) × (kindAt (tableOf (now rows)) i ≡ Kind.If) ⌝ }
+    ensures { λ r. ⌜ r ≡ falseRow (tableOf (now (rows .entry))) i ⌝ }
+{
+    let x = elses[i];
+    if x == 0 {
+        return past(rows, ends, i);
+    }
+    x + 1
+}
+
+// To nowhere from the end of a function, to the test from the end of a loop, past the end of an if.
+fn end_go(rows: &[u8], map: &[u16], i: usize) -> u16
+    requires { ⌜ (Surveyed (now rows) (now map)) × (Inside (now rows) i) ⌝ }
+    ensures { λ r. ⌜ r ≡ endGoes (tableOf (now (rows .entry))) i (partOf (openAt (tableOf (now (rows .entry))) i)) ⌝ }
+{
+    if spot::in_body(rows, map, i) {
+        return 0;
+    }
+    let o = spot::opener_of(rows, map, i);
+    if spot::is_loop(rows, o) {
+        return o as u16;
+    }
+    (i + 1) as u16
+}
+
+// Where row i goes.
+fn row_go(rows: &[u8], map: &[u16], ends: &[u16], elses: &[u16], heads: &[u16], i: usize) -> u16
+    requires { ⌜ (Surveyed (now rows) (now map)) × (i < length (now rows) / 6) ⌝ }
+    requires { ⌜ (Ends (now rows) (now ends)) × (Elses (now rows) (now elses)) × (Heads (now rows) (now heads)) ⌝ }
+    ensures { λ r. ⌜ r ≡ goOf (tableOf (now (rows .entry))) i ⌝ }
+{
+    match row::kind(rows, i) {
+        Kind::Function => 0,
+        Kind::Do => 0,
+        Kind::If => if_go(rows, ends, elses, i),
+        Kind::Else => past(rows, ends, spot::opener_of(rows, map, i)),
+        Kind::Loop => past(rows, ends, i),
+        Kind::End => end_go(rows, map, i),
+        Kind::Break => past(rows, ends, spot::loop_of(rows, map, i)),
+        Kind::Continue => spot::loop_of(rows, map, i) as u16,
+        Kind::Call => (spot::callee_of(rows, map, heads, i) + 1) as u16,
+        Kind::Unknown => 0,
+    }
+}
+
+// Where every row goes, from the places of the rows and the links.
+fn fill(
+    rows: &[u8],
+    map: &[u16],
+    ends: &[u16],
+    elses: &[u16],
+    heads: &[u16],
+    goes: &mut [u16; 1024],
+)
+    requires { ⌜ (Surveyed (now rows) (now map)) × (length (now goes) ≡ 1024) ⌝ }
+    requires { ⌜ (Ends (now rows) (now ends)) × (Elses (now rows) (now elses)) × (Heads (now rows) (now heads)) ⌝ }
+    ensures { λ _. ⌜ Known (now (rows .entry)) (now (goes .exit)) ⌝ }
+{
+    let n = rows.len() / row::WIDTH;
+    let mut i = 0;
+    while i < n {
+        goes[i] = row_go(rows, map, ends, elses, heads, i);
+        i += 1;
+    }
+}
+
+// Where every row of an accepted table goes.
+pub fn find(
+    rows: &[u8],
+    ends: &[u16; 1024],
+    elses: &[u16; 1024],
+    heads: &[u16; 32],
+    goes: &mut [u16; 1024],
+)
+    requires { ⌜ (verdictOf (now rows) ≡ Accepted) × (Links (tableOf (now rows)) (now ends) (now elses) (now heads)) ⌝ }
+    requires { ⌜ length (now goes) ≡ 1024 ⌝ }
+    ensures { λ _. ⌜ Known (now (rows .entry)) (now (goes .exit)) ⌝ }
+{
+    let mut map = [0u16; 6150];
+    place::survey(rows, &mut map);
+    fill(rows, &map, ends, elses, heads, goes);
+}
