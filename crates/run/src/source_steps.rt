@@ -6,29 +6,26 @@ ghost use Rattle.rules.specs.declared.refusal.Verdict.the-variants.{Accepted};
 ghost use Rattle.rules.specs.Row.{tableOf};
 ghost use Rattle.rules.specs.Check.{verdictOf};
 ghost use Rattle.rules.specs.Links.{Links};
-ghost use Rattle.source.specs.Step.{Known};
+ghost use Rattle.source.specs.Goes.{Known};
 ghost use Rattle.source.specs.Run.{partsIn, stoppedWith, Going, answerOf, runFrom};
 use crate::print;
 use crate::row;
-use layout::place;
 use machine::machine::Machine;
 use machine::machine::Stopped;
 use rules::refusal::Verdict;
 use rules::step::Step;
+use source::goes;
 use source::run;
 
 fn walk(
     rows: &[u8],
-    map: &[u16],
-    ends: &[u16],
-    elses: &[u16],
-    heads: &[u16],
+    goes: &[u16; 1024],
     start: Machine,
     budget: u16,
     trace: &mut [u16],
     text: &mut [u8; 65536],
 ) -> Stopped
-    requires { ⌜ (Known (now rows) (now map) (now ends) (now elses) (now heads)) × (Going (now rows) budget (partsIn start (now trace))) ⌝ }
+    requires { ⌜ (Known (now rows) (now goes)) × (Going (now rows) budget (partsIn start (now trace))) ⌝ }
     ensures { λ r. ⌜ runFrom (tableOf (now (rows .entry))) budget (partsIn start (now (trace .entry))) ≡ answerOf (stoppedWith r (now (trace .exit))) ⌝ }
 {
     let mut m = start;
@@ -37,7 +34,7 @@ fn walk(
     while 0 < left {
         let h = m.hot;
         at = row::list(rows, h, at, text);
-        let x = run::step(rows, map, ends, elses, heads, m, trace);
+        let x = run::step(rows, goes, m, trace);
         let s = x.step;
         let Step::Went(_) = s else {
             print::flush(at, text);
@@ -69,19 +66,9 @@ fn list_accepted(
     requires { ⌜ Links (tableOf (now rows)) (now ends) (now elses) (now heads) ⌝ }
     requires { ⌜ budget ≤ length (now trace) ⌝ }
 {
-    let mut map = [0u16; 6150];
-    place::survey(rows, &mut map);
-    walk(
-        rows,
-        &map,
-        ends,
-        elses,
-        heads,
-        source::start(variables),
-        budget,
-        trace,
-        text,
-    );
+    let mut goes = [0u16; 1024];
+    goes::find(rows, ends, elses, heads, &mut goes);
+    walk(rows, &goes, source::start(variables), budget, trace, text);
 }
 
 // Nothing is listed where the table is refused.
