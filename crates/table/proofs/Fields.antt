@@ -92,17 +92,21 @@ none-fits o e = rw e
 pub ruleset fitting = (function-fits, do-fits, if-fits, else-fits, loop-fits, end-fits, break-fits, continue-fits, call-fits, none-fits)
 
 -- ---- the first row
-module _ (xs : List ℕ) {k : Kind} {n : ℕ} {f : Bool} (p : k ≡ kindOf (getD xs 0 0)) (w : n ≡ getD xs 4 0 + 256 * getD xs 5 0)
-    (q : f ≡ fieldsFit k (fields (getD xs 1 0) (getD xs 2 0) (getD xs 3 0) n)) where
-  fits-is : fieldsFit (kindOf (getD xs 0 0)) (fields (getD xs 1 0) (getD xs 2 0) (getD xs 3 0) (getD xs 4 0 + 256 * getD xs 5 0)) ≡ f
-  fits-is = rw (← p, ← w) (sym q)
+pub fits-row : (xs : List ℕ) (k : Kind) {n : ℕ} {f : Bool} → n ≡ getD xs 4 0 + 256 * getD xs 5 0
+    → f ≡ fieldsFit k (fields (getD xs 1 0) (getD xs 2 0) (getD xs 3 0) n) → f ≡ fieldsFit k (rowIn xs 0 .operands)
+unfolding rowIn
+fits-row xs k w q = rw (← w) q
+
+module _ (xs : List ℕ) {k : Kind} {f : Bool} (p : k ≡ rowIn xs 0 .kind) (q : f ≡ fieldsFit k (rowIn xs 0 .operands)) where
+  fits-is : fieldsFit (rowIn xs 0 .kind) (rowIn xs 0 .operands) ≡ f
+  fits-is = rw (← p) (sym q)
 
   pub first-fits : f ≡ true → k ≡ firstKind xs
-  unfolding properKind rowIn
+  unfolding properKind
   first-fits e = rw (fits-is ∙ e) p
 
   pub first-wrong : f ≡ false → Unknown ≡ firstKind xs
-  unfolding properKind rowIn
+  unfolding properKind
   first-wrong e = rw (fits-is ∙ e)
 
 pub ruleset firsts = (first-fits, first-wrong)

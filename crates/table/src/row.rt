@@ -124,15 +124,30 @@ fn fields_fit(kind: Kind, op: u8, p: u8, q: u8, n: usize) -> bool
     }
 }
 
+// The kind that the bytes begin with, whatever the fields.
+pub fn kind(rows: &[u8]) -> Kind
+    requires { ⌜ 5 < length (now rows) ⌝ }
+    ensures { λ r. ⌜ r ≡ rowIn (now (rows .entry)) 0 .kind ⌝ }
+{
+    kind_of(rows[0])
+}
+
+// The fields of the row that the bytes begin with are as `kind` uses them.
+pub fn fits(kind: Kind, rows: &[u8]) -> bool
+    requires { ⌜ 5 < length (now rows) ⌝ }
+    ensures { λ r. ⌜ r ≡ fieldsFit kind (rowIn (now (rows .entry)) 0 .operands) ⌝ }
+{
+    fields_fit(kind, rows[1], rows[2], rows[3], word(rows[4], rows[5]))
+}
+
 // The kind of the row that the bytes begin with, or Unknown where a field is wrong.
 pub fn first_kind(rows: &[u8]) -> Kind
     requires { ⌜ 5 < length (now rows) ⌝ }
     ensures { λ r. ⌜ r ≡ firstKind (now (rows .entry)) ⌝ }
 {
-    let kind = kind_of(rows[0]);
-    let n = word(rows[4], rows[5]);
-    if fields_fit(kind, rows[1], rows[2], rows[3], n) {
-        kind
+    let named = kind(rows);
+    if fits(named, rows) {
+        named
     } else {
         Kind::Unknown
     }

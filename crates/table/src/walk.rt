@@ -1,9 +1,11 @@
 // The walkers: they check the rows inside a function and fill the links of its ifs and loops.
 use crate::dos::dos;
-use crate::row::first_kind;
+use crate::row::fits;
+use crate::row::kind;
 use rules::kind::Kind;
 use rules::refusal::Refusal;
 ghost use mathlib.Core.Path.{_≡_};
+ghost use mathlib.Core.Bool.{cond};
 ghost use Prim.Native.Nat.{ℕ, _+_, _*_, _≤_, _<_};
 ghost use lib.ListN.{length, set};
 ghost use Rattle.table.specs.First.{firstKind};
@@ -78,7 +80,7 @@ pub fn sequence(
     Seq::Broken(Refusal::Misplaced)
 }
 
-// The construct that row `base` begins.
+// The construct that row `base` begins. Each arm tests the fields for its own kind, so that there is one jump by the kind.
 fn construct(
     rows: &[u8],
     base: usize,
@@ -93,18 +95,43 @@ fn construct(
     requires { ⌜ 5 < length (now rows) ⌝ }
     ensures { λ r. ⌜ StepOk (now (rows .entry)) base depth opened «in_loop» (now (ends .entry)) (now (elses .entry)) (now (ends .exit)) (now (elses .exit)) r ⌝ }
 {
-    match first_kind(rows) {
-        Kind::Function => Step::Faulty(Refusal::Misplaced),
-        Kind::Do => Step::Past(dos(rows), opened),
-        Kind::If => if_part(rows, base, depth, opened, in_loop, ends, elses),
-        Kind::Else => Step::ElseHere,
-        Kind::Loop => loop_part(rows, base, depth, opened, in_loop, ends, elses),
-        Kind::End => Step::EndHere,
-        Kind::Break => jump(opened, in_loop),
-        Kind::Continue => jump(opened, in_loop),
-        Kind::Call => Step::Past(1, opened),
+    match kind(rows) {
+        Kind::Function => fitting(fits(Kind::Function, rows), Step::Faulty(Refusal::Misplaced)),
+        Kind::Do => {
+            if fits(Kind::Do, rows) {
+                return Step::Past(dos(rows), opened);
+            }
+            Step::Faulty(Refusal::WrongField)
+        }
+        Kind::If => {
+            if fits(Kind::If, rows) {
+                return if_part(rows, base, depth, opened, in_loop, ends, elses);
+            }
+            Step::Faulty(Refusal::WrongField)
+        }
+        Kind::Else => fitting(fits(Kind::Else, rows), Step::ElseHere),
+        Kind::Loop => {
+            if fits(Kind::Loop, rows) {
+                return loop_part(rows, base, depth, opened, in_loop, ends, elses);
+            }
+            Step::Faulty(Refusal::WrongField)
+        }
+        Kind::End => fitting(fits(Kind::End, rows), Step::EndHere),
+        Kind::Break => fitting(fits(Kind::Break, rows), jump(opened, in_loop)),
+        Kind::Continue => fitting(fits(Kind::Continue, rows), jump(opened, in_loop)),
+        Kind::Call => fitting(fits(Kind::Call, rows), Step::Past(1, opened)),
         Kind::Unknown => Step::Faulty(Refusal::WrongField),
     }
+}
+
+// The answer to a row: `step` where its fields fit.
+fn fitting(fits: bool, step: Step) -> Step
+    ensures { λ r. ⌜ r ≡ cond fits step (Step.Faulty Refusal.WrongField) ⌝ }
+{
+    if fits {
+        return step;
+    }
+    Step::Faulty(Refusal::WrongField)
 }
 
 // A break or a continue.

@@ -5,17 +5,9 @@ use Rattle.table.proofs.row.first_kind.Statement.{statement}
 use Rattle.table.proofs.row.first_kind.Tie as tie
 
 pub first-kind-spec : {M : Type 1} → statement M
-first-kind-spec =
-    tie.close
+first-kind-spec = tie.close
     (tie.spec
-    (λ c. search needs)
     (λ c κs. search needs)
-    (λ c. search needs)
-    (λ c. search needs)
-    (λ c κs. search needs)
-    (λ c. search needs)
-    (λ c. search needs)
-    (λ c. search needs)
     (λ c κs. search needs)
     (λ c. search (firsts, needs))
     (λ c. search (firsts, needs)))

@@ -1,9 +1,10 @@
 -- The walkers meet their contracts: `sequence`, `construct` and the three nested forms prove one another, with the bytes left and a
--- rank as the measure. The laws of Constructs, Nested and Sequence answer the returns. Assumes nothing.
+-- rank as the measure. The laws of Constructs, Nested and Sequence answer the returns. A declaration each: together they would need
+-- more steps than one may take. Assumes nothing.
 use borrow.Author.Needs.{needs}
 use native.Mathlib.Omega.{arith}
 use lib.ListN.{length}
-use Rattle.table.proofs.Constructs.{constructs, kind-at}
+use Rattle.table.proofs.Constructs.{kind-at, at-function, at-unknown, at-wrong, at-dos, at-call, at-end, at-else, at-break, at-continue}
 use Rattle.table.proofs.Nested.{ifs, rest-torn, rest-rows, elses, loops-in}
 use Rattle.table.proofs.Sequence.{SeqTo, to-end, to-else, to-past, sequences, rows-of}
 use Prim.Native.Nat.{ℕ, _<_, _+_, _*_, _-_}
@@ -25,7 +26,9 @@ use Rattle.table.proofs.walk.sequence.Reads as sequence
 use Rattle.table.proofs.walk.sequence.Kinds as sequence-kinds
 use Rattle.table.proofs.walk.+construct+else_part+if_part+loop_part+sequence.Lts-sequence as sequence-lts
 use Rattle.table.proofs.dos.dos.Reads as dos-reads
-use Rattle.table.proofs.row.first_kind.Reads as first-kind-reads
+use Rattle.table.proofs.row.fits.Reads as fits-reads
+use Rattle.table.proofs.row.kind.Reads as kind-reads
+use Rattle.table.proofs.walk.fitting.Reads as fitting-reads
 use Rattle.table.proofs.walk.jump.Reads as jump-reads
 use Rattle.table.proofs.walk.link.Reads as link-reads
 use Rattle.table.proofs.walk.+construct+else_part+if_part+loop_part+sequence.{statement}
@@ -87,58 +90,86 @@ sequence-Inv-loop rows base depth opened in-loop ends₀ elses₀ at₀ regions�
 abbrev sequence-μ-loop : sequence-lts.MeasureT-loop
 sequence-μ-loop rows base depth opened in-loop ends₀ elses₀ at₀ regions₀ ends elses at regions = length rows - 6 * at
 
-pub +construct+else-part+if-part+loop-part+sequence-spec : {M : Type 1} → statement M
-+construct+else-part+if-part+loop-part+sequence-spec =
-    close μ-construct μ-else-part μ-if-part μ-loop-part μ-sequence (λ t. construct-lts.spec (
-      first-kind-reads.Asked,
-      first-kind-reads.Learnt,
-      dos-reads.Asked,
-      dos-reads.Learnt,
-      if-part-below t,
-      if-part.Post,
-      loop-part-below t,
-      loop-part.Post,
-      jump-reads.Asked,
-      jump-reads.Learnt,
-    )
+abbrev construct-claims : ℕ → construct-lts.Claims
+construct-claims t = (
+  kind-reads.Asked,
+  kind-reads.Learnt,
+  fits-reads.Asked,
+  fits-reads.Learnt,
+  fitting-reads.Asked,
+  fitting-reads.Learnt,
+  dos-reads.Asked,
+  dos-reads.Learnt,
+  if-part-below t,
+  if-part.Post,
+  loop-part-below t,
+  loop-part.Post,
+  jump-reads.Asked,
+  jump-reads.Learnt,
+)
+
+construct-closed : {M : Type 1} (t : ℕ) → construct-lts.Closed (construct-claims t) (construct-at t) construct.Post M
+construct-closed t =
+    construct-lts.spec
+    (construct-claims t)
     (construct-at t)
     construct.Post
     (λ c κs. search needs)
     (λ c. search needs)
-    (λ c. search needs)
-    (λ c κs. search (kind-at, needs))
-    (λ c. search needs)
-    (λ c κs. search (kind-at, needs))
-    (λ c. search needs)
-    (λ c. search needs)
-    (λ c κs. search (kind-at, needs))
-    (λ c. search needs)
-    (λ c. search needs)
+    (λ c κs. search needs)
     (λ c κs. search needs)
     (λ c. search needs)
     (λ c κs. search needs)
+    (λ c κs. search (kind-at, needs))
+    (λ c. search (at-dos, needs))
+    (λ c. search needs)
+    (λ c κs. search needs)
+    (λ c κs. let i = c .before .before in let m = i .before .before in search (kind-at _ _ (m .before .before .kind .ensures) (m .enum-told3 .given .1) (i .before .fits4 .ensures) (i .if2 .taken), needs))
     (λ c. search needs)
     (λ c. search needs)
-    (λ c. search (constructs, needs))
-    (λ c. search (constructs, needs))
+    (λ c. c .before .before .before .before .if-part .ensures)
+    (λ c. search needs)
+    (λ c κs. search needs)
+    (λ c κs. search needs)
+    (λ c. search needs)
+    (λ c κs. search needs)
+    (λ c κs. let i = c .before .before in let m = i .before .before in search (kind-at _ _ (m .before .before .kind .ensures) (m .enum-told5 .given .1) (i .before .fits6 .ensures) (i .if3 .taken), needs))
     (λ c. search needs)
     (λ c. search needs)
-    (λ c. search (constructs, needs))
-    (λ c. search (constructs, needs))
+    (λ c. c .before .before .before .before .loop-part .ensures)
     (λ c. search needs)
+    (λ c κs. search needs)
+    (λ c κs. search needs)
     (λ c. search needs)
-    (λ c. search (constructs, needs))
-    (λ c. search (constructs, needs))
-    (λ c. search (constructs, needs))
-    (λ c. search (constructs, needs))
-    (λ c. search (constructs, needs))
-    (λ c. search (constructs, needs)))
-    (λ t. else-part-lts.spec (
-      link-reads.Asked,
-      link-reads.Learnt,
-      sequence-below t,
-      sequence.Post,
-    )
+    (λ c κs. search needs)
+    (λ c κs. search needs)
+    (λ c κs. search needs)
+    (λ c. search needs)
+    (λ c κs. search needs)
+    (λ c κs. search needs)
+    (λ c κs. search needs)
+    (λ c. search needs)
+    (λ c κs. search needs)
+    (λ c κs. search needs)
+    (λ c. search needs)
+    (λ c. search (at-function, needs))
+    (λ c. search (at-wrong, needs))
+    (λ c. search (at-wrong, needs))
+    (λ c. search (at-else, needs))
+    (λ c. search (at-wrong, needs))
+    (λ c. search (at-end, needs))
+    (λ c. search (at-break, needs))
+    (λ c. search (at-continue, needs))
+    (λ c. search (at-call, needs))
+    (λ c. search (at-unknown, needs))
+
+abbrev else-part-claims : ℕ → else-part-lts.Claims
+else-part-claims t = (link-reads.Asked, link-reads.Learnt, sequence-below t, sequence.Post)
+
+else-part-closed : {M : Type 1} (t : ℕ) → else-part-lts.Closed (else-part-claims t) (else-part-at t) else-part.Post M
+else-part-closed t =
+    else-part-lts.spec
+    (else-part-claims t)
     (else-part-at t)
     else-part.Post
     (λ c. search (elses, needs))
@@ -165,15 +196,15 @@ pub +construct+else-part+if-part+loop-part+sequence-spec : {M : Type 1} → stat
     (λ c. search (elses, needs))
     (λ c. search needs)
     (λ c. search needs)
-    (λ c. search (elses, needs)))
-    (λ t. if-part-lts.spec (
-      link-reads.Asked,
-      link-reads.Learnt,
-      sequence-below t,
-      sequence.Post,
-      else-part-below t,
-      else-part.Post,
-    )
+    (λ c. search (elses, needs))
+
+abbrev if-part-claims : ℕ → if-part-lts.Claims
+if-part-claims t = (link-reads.Asked, link-reads.Learnt, sequence-below t, sequence.Post, else-part-below t, else-part.Post)
+
+if-part-closed : {M : Type 1} (t : ℕ) → if-part-lts.Closed (if-part-claims t) (if-part-at t) if-part.Post M
+if-part-closed t =
+    if-part-lts.spec
+    (if-part-claims t)
     (if-part-at t)
     if-part.Post
     (λ c. search (ifs, needs))
@@ -216,13 +247,15 @@ pub +construct+else-part+if-part+loop-part+sequence-spec : {M : Type 1} → stat
     (λ c. let p = c .before .before .before .before .before .before .before in let q = p .before .before .before .before .before in let s = q .before .before .before .before .before .before in let k = s .before .before .before .before .before .before in let i = k .before .before in let z = i .before .before .before .before .before in search (rest-torn, z .pre .1 .1 .1 .0, z .pre .1 .1 .1 .1, i .before .if1 .left, i .if2 .left, k .link .ensures, s .sequence .ensures, q .n2 .given, p .else-part .ensures, c .before .r2 .given))
     (λ c. search needs)
     (λ c. search needs)
-    (λ c. let p = c .before .before .before .before .before .before .before in let q = p .before .before .before .before .before in let s = q .before .before .before .before .before .before in let k = s .before .before .before .before .before .before in let i = k .before .before in let z = i .before .before .before .before .before in search (rest-rows, z .pre .1 .1 .1 .0, z .pre .1 .1 .1 .1, i .before .if1 .left, i .if2 .left, k .link .ensures, s .sequence .ensures, q .n2 .given, p .else-part .ensures, c .before .k .given)))
-    (λ t. loop-part-lts.spec (
-      sequence-below t,
-      sequence.Post,
-      link-reads.Asked,
-      link-reads.Learnt,
-    )
+    (λ c. let p = c .before .before .before .before .before .before .before in let q = p .before .before .before .before .before in let s = q .before .before .before .before .before .before in let k = s .before .before .before .before .before .before in let i = k .before .before in let z = i .before .before .before .before .before in search (rest-rows, z .pre .1 .1 .1 .0, z .pre .1 .1 .1 .1, i .before .if1 .left, i .if2 .left, k .link .ensures, s .sequence .ensures, q .n2 .given, p .else-part .ensures, c .before .k .given))
+
+abbrev loop-part-claims : ℕ → loop-part-lts.Claims
+loop-part-claims t = (sequence-below t, sequence.Post, link-reads.Asked, link-reads.Learnt)
+
+loop-part-closed : {M : Type 1} (t : ℕ) → loop-part-lts.Closed (loop-part-claims t) (loop-part-at t) loop-part.Post M
+loop-part-closed t =
+    loop-part-lts.spec
+    (loop-part-claims t)
     (loop-part-at t)
     loop-part.Post
     (λ c. search (loops-in, needs))
@@ -249,9 +282,15 @@ pub +construct+else-part+if-part+loop-part+sequence-spec : {M : Type 1} → stat
     (λ c. search (loops-in, needs))
     (λ c. search needs)
     (λ c. search needs)
-    (λ c. search (loops-in, needs)))
-    λ t. sequence-lts.spec
-    (construct-below t, construct.Post)
+    (λ c. search (loops-in, needs))
+
+abbrev sequence-claims : ℕ → sequence-lts.Claims
+sequence-claims t = (construct-below t, construct.Post)
+
+sequence-closed : {M : Type 1} (t : ℕ) → sequence-lts.Closed (sequence-claims t) (sequence-at t) sequence.Post M
+sequence-closed t =
+    sequence-lts.spec
+    (sequence-claims t)
     (sequence-at t)
     sequence.Post
     sequence-Inv-loop
@@ -284,3 +323,7 @@ pub +construct+else-part+if-part+loop-part+sequence-spec : {M : Type 1} → stat
     (λ c. search needs)
     (λ c. search needs)
     (λ c. search (sequences, needs))
+
+pub +construct+else-part+if-part+loop-part+sequence-spec : {M : Type 1} → statement M
++construct+else-part+if-part+loop-part+sequence-spec =
+    close μ-construct μ-else-part μ-if-part μ-loop-part μ-sequence construct-closed else-part-closed if-part-closed loop-part-closed sequence-closed
