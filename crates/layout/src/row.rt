@@ -1,10 +1,10 @@
 // Reading a row: its kind and its fields.
 ghost use mathlib.Core.Path.{_≡_};
-ghost use Prim.Native.Nat.{_+_, _/_, _≤_, _<_};
-ghost use lib.ListN.{length, getD};
-ghost use Rattle.rules.specs.Bytes.{wordAt};
+ghost use Prim.Native.Nat.{_+_, _/_, _<_};
+ghost use lib.ListN.{length};
 ghost use Rattle.rules.specs.Row.{kindOf, tableOf, kindAt, operandsAt};
 ghost use Rattle.layout.specs.Row.{operandsOf};
+use rules::bytes::word;
 use rules::kind::Kind;
 
 // A row's bytes.
@@ -34,21 +34,6 @@ pub fn kind(rows: &[u8], i: usize) -> Kind
     ensures { λ r. ⌜ r ≡ kindAt (tableOf (now (rows .entry))) i ⌝ }
 {
     kind_of(rows[WIDTH * i])
-}
-
-// A byte as a word.
-fn wide(x: u8) -> u16
-    ensures { λ r. ⌜ (r ≡ x) × (r < 256) ⌝ }
-{
-    x as u16
-}
-
-// The word whose low byte is byte k.
-fn word(rows: &[u8], k: usize) -> u16
-    requires { ⌜ k + 2 ≤ length (now rows) ⌝ }
-    ensures { λ r. ⌜ r ≡ wordAt (now (rows .entry)) k ⌝ }
-{
-    wide(rows[k]) + 256 * wide(rows[k + 1])
 }
 
 // A word as an index.

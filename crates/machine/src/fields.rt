@@ -1,9 +1,9 @@
 // A hardened line as its twenty bytes: its kind and its fields.
 ghost use mathlib.Core.Path.{_≡_};
-ghost use Prim.Native.Nat.{_+_, _*_, _≤_, _<_};
-ghost use lib.ListN.{length, getD};
-ghost use Rattle.rules.specs.Bytes.{wordAt};
+ghost use Prim.Native.Nat.{_+_, _*_, _≤_};
+ghost use lib.ListN.{length};
 ghost use Rattle.machine.specs.Fields.{fieldsAt, lineKindOf, lineKindAt};
+use rules::bytes::word;
 
 pub enum LineKind {
     Do,
@@ -30,20 +30,6 @@ pub struct Fields {
     pub b: u16,
     pub c: u16,
     pub go: u16,
-}
-
-fn wide(x: u8) -> u16
-    ensures { λ r. ⌜ (r ≡ x) × (r < 256) ⌝ }
-{
-    x as u16
-}
-
-// The word at byte i, low byte first.
-pub fn word(lines: &[u8], i: usize) -> u16
-    requires { ⌜ i + 1 < length (now lines) ⌝ }
-    ensures { λ r. ⌜ r ≡ wordAt (now (lines .entry)) i ⌝ }
-{
-    wide(lines[i]) + 256 * wide(lines[i + 1])
 }
 
 fn kind_of(b: u8) -> LineKind

@@ -25,6 +25,20 @@ fn pass(lines: &[u8], line: u16, function: u8, starts: &mut [u16; 33]) -> u8
     next
 }
 
+// A word for the first line of each function.
+pub fn no_starts() -> [u16; 33]
+    ensures { λ r. ⌜ length r ≡ 33 ⌝ }
+{
+    [0; 33]
+}
+
+// A byte for the function of each line.
+pub fn no_owners() -> [u8; 2049]
+    ensures { λ r. ⌜ length r ≡ 2049 ⌝ }
+{
+    [0; 2049]
+}
+
 pub fn survey(lines: &[u8], starts: &mut [u16; 33], owners: &mut [u8; 2049])
     requires { ⌜ (Sound (linesIn (now lines))) × (length (now starts) ≡ 33) × (length (now owners) ≡ 2049) ⌝ }
     ensures { λ _. ⌜ Located (linesIn (now (lines .entry))) (now (starts .exit)) (now (owners .exit)) ⌝ }

@@ -82,18 +82,6 @@ fn run_mapped(
     answer(x)
 }
 
-fn no_starts() -> [u16; 33]
-    ensures { λ r. ⌜ length r ≡ 33 ⌝ }
-{
-    [0; 33]
-}
-
-fn no_owners() -> [u8; 2049]
-    ensures { λ r. ⌜ length r ≡ 2049 ⌝ }
-{
-    [0; 2049]
-}
-
 // Runs a hardened table with a jump before `step` to `place`; step 65,535 is no jump. The first 1,024 counter words are 0 afterwards.
 pub fn run_table(
     lines: &[u8],
@@ -108,8 +96,8 @@ pub fn run_table(
     requires { ⌜ (budget ≤ length (now trace)) × (1024 ≤ length (now counters)) ⌝ }
     ensures { λ r. ⌜ ranWith r (now (trace .exit)) (now (counters .exit)) ≡ acceptedRun (now (lines .entry)) variables budget step place (now (trace .entry)) (countersAfter Accepted (now (counters .entry))) ⌝ }
 {
-    let mut starts = no_starts();
-    let mut owners = no_owners();
+    let mut starts = map::no_starts();
+    let mut owners = map::no_owners();
     map::survey(lines, &mut starts, &mut owners);
     let home = map::home_of(lines, &starts, &owners);
     run_mapped(

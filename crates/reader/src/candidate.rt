@@ -15,6 +15,7 @@ use crate::functions;
 use crate::row::Row;
 use machine::fields;
 use machine::fields::LineKind;
+use rules::bytes::word;
 
 // The bytes of the largest table.
 pub const LARGEST: usize = 6144;
@@ -65,7 +66,7 @@ fn go_of(lines: &[u8], line: u16) -> u16
     requires { ⌜ 20 * line + 20 ≤ length (now lines) ⌝ }
     ensures { λ r. ⌜ r ≡ fieldsAt (now (lines .entry)) line .go ⌝ }
 {
-    fields::word(lines, 20 * (line as usize) + 18)
+    word(lines, 20 * (line as usize) + 18)
 }
 
 // Whether the line, where there is one, is a leave to line k.

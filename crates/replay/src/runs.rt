@@ -54,17 +54,8 @@ pub fn hardened(lines: &[u8], numbers: &[u16], trace: &mut [u16], counters: &mut
     requires { ⌜ (length (now numbers) ≡ 32) × (length (now trace) ≡ 65535) × (length (now counters) ≡ 2048) ⌝ }
 {
     let slots = size(numbers[3]);
-    let words = least(size(numbers[4]), 2048);
+    let words = show::least(size(numbers[4]), 2048);
     hardened_within(lines, numbers, &mut trace[..slots], &mut counters[..words]);
-}
-
-fn least(a: usize, b: usize) -> usize
-    ensures { λ r. ⌜ r ≤ b ⌝ }
-{
-    if a < b {
-        return a;
-    }
-    b
 }
 
 fn hardened_within(lines: &[u8], numbers: &[u16], trace: &mut [u16], counters: &mut [u16])

@@ -58,8 +58,8 @@ fn part(bytes: &[u8], text: &mut [u8])
     io::write_all(1, &text[..n]);
 }
 
-fn least(a: usize, b: usize) -> usize
-    ensures { λ r. ⌜ r ≡ min a b ⌝ }
+pub fn least(a: usize, b: usize) -> usize
+    ensures { λ r. ⌜ (r ≡ min a b) × (r ≤ b) ⌝ }
 {
     if a < b {
         return a;

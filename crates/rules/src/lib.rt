@@ -1,5 +1,6 @@
-// The types that the definitions and the code share.
+// The types that the definitions and the code share, and what reads a word.
 pub mod answer;
+pub mod bytes;
 pub mod kind;
 pub mod refusal;
 pub mod step;

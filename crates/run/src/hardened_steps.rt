@@ -196,18 +196,6 @@ fn strike(
     )
 }
 
-fn no_starts() -> [u16; 33]
-    ensures { λ r. ⌜ length r ≡ 33 ⌝ }
-{
-    [0; 33]
-}
-
-fn no_owners() -> [u8; 2049]
-    ensures { λ r. ⌜ length r ≡ 2049 ⌝ }
-{
-    [0; 2049]
-}
-
 fn no_counters() -> [u16; 1024]
     ensures { λ r. ⌜ length r ≡ 1024 ⌝ }
 {
@@ -227,8 +215,8 @@ fn list_accepted(
     requires { ⌜ isHardened (now lines) ≡ true ⌝ }
     requires { ⌜ budget ≤ length (now trace) ⌝ }
 {
-    let mut starts = no_starts();
-    let mut owners = no_owners();
+    let mut starts = map::no_starts();
+    let mut owners = map::no_owners();
     let mut counters = no_counters();
     map::survey(lines, &mut starts, &mut owners);
     let home = map::home_of(lines, &starts, &owners);

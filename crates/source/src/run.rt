@@ -1,5 +1,4 @@
 // A run of at most as many steps as its budget.
-ghost use mathlib.Core.Path.{_≡_};
 ghost use Rattle.source.specs.Goes.{Known};
 ghost use Rattle.source.specs.Run.{partsIn, stoppedWith, Going, Ended};
 use crate::step;

@@ -4,7 +4,7 @@ use Rattle.layout.proofs.row.fields_of.Statement.{statement}
 use Rattle.layout.proofs.row.fields_of.Tie as tie
 use Rattle.layout.proofs.row.fields_of.Reads as reads
 use Rattle.layout.proofs.row.fields_of.Lts as lts
-use Rattle.layout.proofs.row.word.Reads as word-reads
+use Rattle.rules.proofs.bytes.word.Reads as word-reads
 
 -- src/row.rt:74:13
 mul-k : tie.Need-mul-k

@@ -4,7 +4,7 @@ use Rattle.machine.proofs.fields.fields_at.Statement.{statement}
 use Rattle.machine.proofs.fields.fields_at.Tie as tie
 use Rattle.machine.proofs.fields.fields_at.Reads as reads
 use Rattle.machine.proofs.fields.fields_at.Lts as lts
-use Rattle.machine.proofs.fields.word.Reads as word-reads
+use Rattle.rules.proofs.bytes.word.Reads as word-reads
 
 -- src/fields.rt:78:13
 mul-k : tie.Need-mul-k

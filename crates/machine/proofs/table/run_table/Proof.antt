@@ -15,8 +15,8 @@ use Rattle.machine.proofs.table.run_table.Reads as reads
 use Rattle.machine.proofs.table.run_table.Lts as lts
 use Rattle.machine.proofs.map.home_of.Reads as home-of-reads
 use Rattle.machine.proofs.map.survey.Reads as survey-reads
-use Rattle.machine.proofs.table.no_owners.Reads as no-owners-reads
-use Rattle.machine.proofs.table.no_starts.Reads as no-starts-reads
+use Rattle.machine.proofs.map.no_owners.Reads as no-owners-reads
+use Rattle.machine.proofs.map.no_starts.Reads as no-starts-reads
 use Rattle.machine.proofs.table.run_mapped.Reads as run-mapped-reads
 
 -- src/table.rt:100:22

@@ -5,7 +5,7 @@ use Rattle.reader.proofs.candidate.go_of.Statement.{statement}
 use Rattle.reader.proofs.candidate.go_of.Tie as tie
 use Rattle.reader.proofs.candidate.go_of.Reads as reads
 use Rattle.reader.proofs.candidate.go_of.Lts as lts
-use Rattle.machine.proofs.fields.word.Reads as word-reads
+use Rattle.rules.proofs.bytes.word.Reads as word-reads
 
 -- src/candidate.rt:67:25
 mul-word : tie.Need-mul-word

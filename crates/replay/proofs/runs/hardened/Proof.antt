@@ -10,7 +10,7 @@ use Rattle.replay.proofs.runs.hardened.Reads as reads
 use Rattle.replay.proofs.runs.hardened.Lts as lts
 use Rattle.replay.proofs.asked.size.Reads as size-reads
 use Rattle.replay.proofs.runs.hardened_within.Reads as hardened-within-reads
-use Rattle.replay.proofs.runs.least.Reads as least-reads
+use Rattle.replay.proofs.show.least.Reads as least-reads
 
 -- src/runs.rt:56:22
 shared-slice-read-size : tie.Need-shared-slice-read-size

@@ -16,8 +16,8 @@ use Rattle.machine.proofs.map.home_of.Reads as home-of-reads
 use Rattle.machine.proofs.map.survey.Reads as survey-reads
 use Rattle.machine.proofs.words.fresh.Reads as fresh-reads
 use Rattle.run.proofs.hardened_steps.no_counters.Reads as no-counters-reads
-use Rattle.run.proofs.hardened_steps.no_owners.Reads as no-owners-reads
-use Rattle.run.proofs.hardened_steps.no_starts.Reads as no-starts-reads
+use Rattle.machine.proofs.map.no_owners.Reads as no-owners-reads
+use Rattle.machine.proofs.map.no_starts.Reads as no-starts-reads
 use Rattle.run.proofs.hardened_steps.strike.Reads as strike-reads
 
 no-starts-requires : tie.Need-no-starts-requires
