@@ -55,50 +55,32 @@ fn emit(
 {
     match row::kind(rows, i) {
         Kind::Function => {}
-        Kind::Do => two(
-            rows,
-            map,
-            i,
-            lines::do_line(rows, i),
-            lines::tick_line(rows, map, values, i),
-            out,
-        ),
-        Kind::If => one(
-            rows,
-            map,
-            i,
-            lines::if_line(rows, map, bases, values, ends, elses, i),
-            out,
-        ),
-        Kind::Else => one(
-            rows,
-            map,
-            i,
-            lines::else_line(rows, map, values, ends, i),
-            out,
-        ),
-        Kind::Loop => one(
-            rows,
-            map,
-            i,
-            lines::loop_line(rows, map, bases, values, ends, i),
-            out,
-        ),
+        Kind::Do => {
+            let l = lines::do_line(rows, i);
+            let k = lines::tick_line(rows, map, values, i);
+            two(rows, map, i, l, k, out);
+        }
+        Kind::If => {
+            let l = lines::if_line(rows, map, bases, values, ends, elses, i);
+            one(rows, map, i, l, out);
+        }
+        Kind::Else => {
+            let l = lines::else_line(rows, map, values, ends, i);
+            one(rows, map, i, l, out);
+        }
+        Kind::Loop => {
+            let l = lines::loop_line(rows, map, bases, values, ends, i);
+            one(rows, map, i, l, out);
+        }
         Kind::End => one(rows, map, i, lines::end_line(rows, map, values, i), out),
-        Kind::Break => one(
-            rows,
-            map,
-            i,
-            lines::break_line(rows, map, values, ends, i),
-            out,
-        ),
-        Kind::Continue => one(
-            rows,
-            map,
-            i,
-            lines::continue_line(rows, map, values, i),
-            out,
-        ),
+        Kind::Break => {
+            let l = lines::break_line(rows, map, values, ends, i);
+            one(rows, map, i, l, out);
+        }
+        Kind::Continue => {
+            let l = lines::continue_line(rows, map, values, i);
+            one(rows, map, i, l, out);
+        }
         Kind::Call => {
             let l = lines::call_line(rows, map, bases, values, heads, i);
             let k = lines::back_line(rows, map, values, ends, heads, i);

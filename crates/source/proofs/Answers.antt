@@ -1,5 +1,5 @@
 -- What the code of each kind of row may do and answers, from what it reads of the row. Assumes nothing.
-use mathlib.Core.Path.{_≡_, refl, sym, ap, _∙_, subst}
+use mathlib.Core.Path.{_≡_, sym, ap, _∙_, subst}
 use mathlib.Core.Bool.{Bool, true, false, cond}
 use mathlib.Core.List.{List}
 use Prim.Native.Nat.{ℕ, suc, _+_, _-_, _≤_, _<_}
@@ -9,30 +9,20 @@ use lib.ListN.{length, getD, set}
 use lib.Dec.{eqb}
 use borrow.Author.Tests.{lt-ltb, le-ltb, ne-eqb}
 use Rattle.rules.specs.declared.kind.Kind.{Kind}
-use Rattle.rules.specs.declared.kind.Kind.the-variants.{Do, If, Loop, Break, Continue, Call}
-use Rattle.rules.specs.declared.refusal.Verdict.the-variants.{Accepted}
+use Rattle.rules.specs.declared.kind.Kind.the-variants.{Do, If, Loop, Call}
 use Rattle.rules.specs.declared.step.Step.the-variants.{Finished, TooManyOpen}
 use Rattle.rules.specs.Bytes.{AreBytes}
 use Rattle.rules.specs.Row.{Operands, tableOf, kindAt, operandsAt, fieldsFit}
-use Rattle.rules.specs.Scan.{Part, body, thenPart, elsePart, loopBody, openAt, regions, partOf, openerOf, isLoopBody, fromLoop, endOf, elseOf, functionRow}
-use Rattle.rules.specs.Check.{misplacedIn, verdictOf}
 use Rattle.rules.specs.Bounds.{VariablesIn}
 use Rattle.rules.specs.Variables.{doneOn, holdsOn}
-use Rattle.rules.specs.Links.{isOpening, elseLink}
-use Rattle.rules.specs.Source.{falseRow}
-use Rattle.rules.proofs.Logic.{clash}
-use Rattle.rules.proofs.Scan.{chain}
 use Rattle.rules.proofs.Accepted.{proper, table-length}
-use Rattle.rules.proofs.Close.{end-is}
-use Rattle.rules.proofs.Function.{formed, isBody, placed-in, callee-known}
+use Rattle.rules.proofs.Function.{callee-known}
 use Rattle.rules.proofs.FieldBound.{word-bound, do-fields, test-fields}
 use Rattle.rules.proofs.RegionBound.{functions-bound}
 use Rattle.layout.specs.declared.row.Fields as Read
 use Rattle.layout.specs.Row as ReadRow
-use Rattle.layout.specs.Spot.{Inside, InLoop, Opens, inBody, isLoop, OpenerIs, LoopIs, CalleeIs, Ends, Elses}
+use Rattle.layout.specs.Spot.{Inside}
 use Rattle.layout.proofs.Places.{few-rows}
-use Rattle.layout.proofs.Around.{opening-pushes}
-use Rattle.layout.proofs.Parts.{no-else, an-else, body-part, not-body, part-not-body, part-loop}
 use Rattle.machine.specs.declared.fields.Fields.{Fields}
 use Rattle.machine.specs.declared.machine.Hot.{Hot}
 use Rattle.machine.specs.declared.machine.Moved.{Moved}

@@ -14,7 +14,7 @@ use Rattle.rules.specs.declared.kind.Kind.{Kind}
 use Rattle.rules.specs.declared.kind.Kind.the-variants.{Function, Do, If, Else, Loop, End, Break, Continue, Call, Unknown}
 use Rattle.rules.specs.declared.refusal.Verdict.the-variants.{Accepted}
 use Rattle.rules.specs.Row.{Table, tableOf, kindAt, operandsAt}
-use Rattle.rules.specs.Scan.{Part, body, thenPart, elsePart, loopBody, openAt, regions, partOf, openerOf, isLoopBody, fromLoop, endOf, elseOf, functionRow}
+use Rattle.rules.specs.Scan.{Part, body, thenPart, elsePart, loopBody, openAt, regions, partOf, openerOf, isLoopBody, endOf, elseOf}
 use Rattle.rules.specs.Check.{verdictOf}
 use Rattle.rules.specs.Links.{isOpening, elseLink}
 use Rattle.rules.specs.Source.{falseRow}
