@@ -21,7 +21,6 @@ use Rattle.rules.proofs.FieldBound.{word-bound, do-fields, test-fields}
 use Rattle.rules.proofs.RegionBound.{functions-bound}
 use Rattle.layout.specs.declared.row.Fields as Read
 use Rattle.layout.specs.Row as ReadRow
-use Rattle.layout.specs.Spot.{Inside}
 use Rattle.layout.proofs.Places.{few-rows}
 use Rattle.machine.specs.declared.fields.Fields.{Fields}
 use Rattle.machine.specs.declared.machine.Hot.{Hot}
@@ -42,9 +41,6 @@ module _ {bs : List ℕ} {h : Hot} (s : Standing bs h) where
 
   in-table : h .place < length (tableOf bs)
   in-table = omega (arith, s .here .row, table-length bs)
-
-  pub at-row : {i : ℕ} → i ≡ h .place → Inside bs i
-  at-row e = subst (Inside bs) (sym e) (s .here)
 
   -- where it goes
   pub goes-to : {goes : List ℕ} {i r : ℕ} → Known bs goes → i ≡ h .place → r ≡ getD goes i 0 → r ≡ goOf (tableOf bs) (h .place)

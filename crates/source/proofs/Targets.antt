@@ -91,9 +91,6 @@ module _ {bs map : List ℕ} {i : ℕ} {b : Bool} (s : Surveyed bs map) (n : Ins
   in-table : i < length (tableOf bs)
   in-table = omega (arith, n .row, table-length bs)
 
-  pub end-low-row : i < 1024
-  end-low-row = omega (arith, n .row, few-rows bs (s .accepted))
-
   pub end-nowhere : b ≡ true → 0 ≡ endGoes (tableOf bs) i (partOf (openAt (tableOf bs) i))
   unfolding inBody
   end-nowhere c =
