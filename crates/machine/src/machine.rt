@@ -24,7 +24,8 @@ pub struct Machine {
     pub hot: Hot,
 }
 
-// What a line answers, and the numbers after it.
+// What a line or a row answers, and the numbers after it. Where the run goes on is in the answer; the place in the numbers is that one
+// already after a call or a return, and after every row of a source table, whose loop reads it there.
 pub struct Moved {
     pub step: Step,
     pub hot: Hot,
