@@ -10,27 +10,21 @@ use Rattle.table.proofs.number.of_verdict.Reads as of-verdict-reads
 use Rattle.table.proofs.check.row_words.Reads as row-words-reads
 use Rattle.table.proofs.check.check.Reads as check-reads
 
--- src/lib.rt:25:20
 row-words-requires : tie.Need-row-words-requires
 row-words-requires c κs = search needs
 
--- src/lib.rt:26:21
 row-words-requires-2 : tie.Need-row-words-requires-2
 row-words-requires-2 c κs = search needs
 
--- src/lib.rt:27:21
 function-words-requires : tie.Need-function-words-requires
 function-words-requires c κs = search needs
 
--- src/lib.rt:28:9
 check-requires : tie.Need-check-requires
 check-requires c κs = search needs
 
--- src/lib.rt:29:5
 of-verdict-requires : tie.Need-of-verdict-requires
 of-verdict-requires c κs = search needs
 
--- src/lib.rt:22:1
 returns : tie.Need-returns
 returns c = c .of-verdict .ensures ∙ ap numberOf (c .before .check .ensures .verdict-is)
 

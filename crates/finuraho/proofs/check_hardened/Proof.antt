@@ -10,19 +10,15 @@ use Rattle.finuraho.proofs.check_hardened.Lts as lts
 use Rattle.table.proofs.number.of_refusal.Reads as of-refusal-reads
 use Rattle.reader.proofs.is_hardened.Reads as is-hardened-reads
 
--- src/lib.rt:61:8
 is-hardened-requires : tie.Need-is-hardened-requires
 is-hardened-requires c κs = search needs
 
--- src/lib.rt:62:9
 returns : tie.Need-returns
 returns c = sym (check-hardened (now (c .before .before .before .args .lines)) true (sym (c .before .is-hardened .ensures) ∙ c .if1 .taken))
 
--- src/lib.rt:64:5
 of-refusal-requires : tie.Need-of-refusal-requires
 of-refusal-requires c κs = search needs
 
--- src/lib.rt:58:1
 returns-2 : tie.Need-returns-2
 returns-2 c = c .of-refusal .ensures ∙ sym (check-hardened (now (c .before .before .before .before .args .lines)) false (sym (c .before .before .is-hardened .ensures) ∙ c .before .if1 .left))
 

@@ -12,23 +12,18 @@ use Rattle.finuraho.proofs.give.Lts as lts
 use Rattle.finuraho.proofs.refused.Reads as refused-reads
 use Rattle.hardener.proofs.line.copy.Reads as copy-reads
 
--- src/lib.rt:72:9
 refused-requires : tie.Need-refused-requires
 refused-requires c κs = search needs
 
--- src/lib.rt:72:9
 returns : tie.Need-returns
 returns c = ap (λ w. record { wrote = w; out = now (c .before .before .before .before .args .out) }) (c .refused .ensures) ∙ sym (write-short (now (c .before .before .before .before .args .answer)) (now (c .before .before .before .before .args .out)) (omega arith))
 
--- src/lib.rt:74:5
 copy-requires : tie.Need-copy-requires
 copy-requires c κs = omega arith
 
--- src/lib.rt:68:1
 same-length : tie.Need-same-length
 same-length c = search needs
 
--- src/lib.rt:68:1
 returns-2 : tie.Need-returns-2
 returns-2 c = ap (λ o. record { wrote = record { number = 0; length = length (now (c .before .before .before .before .before .before .before .args .answer)) }; out = o }) (c .before .before .copy .ensures ∙ pasted (now (c .before .before .before .before .before .before .before .args .answer)) (now (c .before .before .before .before .before .before .before .args .out))) ∙ sym (write-fits (now (c .before .before .before .before .before .before .before .args .answer)) (now (c .before .before .before .before .before .before .before .args .out)) (omega arith))
 

@@ -12,39 +12,30 @@ use Rattle.table.proofs.check.row_words.Reads as row-words-reads
 use Rattle.hardener.proofs.harden_linked.Reads as harden-linked-reads
 use Rattle.table.proofs.check.check.Reads as check-reads
 
--- src/lib.rt:45:20
 row-words-requires : tie.Need-row-words-requires
 row-words-requires c κs = search needs
 
--- src/lib.rt:46:21
 row-words-requires-2 : tie.Need-row-words-requires-2
 row-words-requires-2 c κs = search needs
 
--- src/lib.rt:47:21
 function-words-requires : tie.Need-function-words-requires
 function-words-requires c κs = search needs
 
--- src/lib.rt:48:11
 check-requires : tie.Need-check-requires
 check-requires c κs = search needs
 
--- src/lib.rt:49:26
 enum-known-r : tie.Need-enum-known-r
 enum-known-r c = search needs
 
--- src/lib.rt:49:32
 refused-requires : tie.Need-refused-requires
 refused-requires c κs = search needs
 
--- src/lib.rt:50:60
 enum-told : tie.Need-enum-told
 enum-told c = search needs
 
--- src/lib.rt:50:30
 harden-linked-requires : tie.Need-harden-linked-requires
 harden-linked-requires c κs = (sym (c .before .before .before .before .before .before .check .ensures .verdict-is) ∙ c .before .before .before .before .enum-told .given .1, c .before .before .before .before .before .before .check .ensures .links (c .before .before .before .before .enum-told .given .1))
 
--- src/lib.rt:42:1
 returns : tie.Need-returns
 returns c =
     let given = c .before .before .before .before .before .before .before .before .before .before .before .before .before .args in
@@ -52,11 +43,9 @@ returns c =
     ap (λ w. record { wrote = w; out = now (given .out) }) (c .refused .ensures)
     ∙ sym (harden-refused (now (given .rows)) (now (given .out)) _ (sym (checked .verdict-is) ∙ c .before .before .r .given .1))
 
--- src/lib.rt:42:1
 same-length : tie.Need-same-length
 same-length c = search needs
 
--- src/lib.rt:42:1
 returns-2 : tie.Need-returns-2
 returns-2 c = c .before .before .harden-linked .ensures ∙ sym (harden-accepted _ _ (sym (c .before .before .before .before .before .before .before .before .before .check .ensures .verdict-is) ∙ c .before .before .before .before .before .before .before .enum-told .given .1))
 

@@ -15,51 +15,39 @@ use Rattle.finuraho.proofs.refused.Reads as refused-reads
 use Rattle.reader.proofs.read.Reads as read-reads
 use Rattle.reader.proofs.row_bytes.Reads as row-bytes-reads
 
--- src/lib.rt:85:20
 row-bytes-requires : tie.Need-row-bytes-requires
 row-bytes-requires c κs = search needs
 
--- src/lib.rt:86:31
 slice-aggregate-read : tie.Need-slice-aggregate-read
 slice-aggregate-read c = search needs
 
--- src/lib.rt:86:11
 read-requires : tie.Need-read-requires
 read-requires c κs = search needs
 
--- src/lib.rt:87:39
 enum-told : tie.Need-enum-told
 enum-told c = search needs
 
--- src/lib.rt:87:31
 refused-requires : tie.Need-refused-requires
 refused-requires c κs = search needs
 
--- src/lib.rt:88:23
 enum-known-n : tie.Need-enum-known-n
 enum-known-n c = search needs
 
--- src/lib.rt:88:34
 array-share-prefix-rows : tie.Need-array-share-prefix-rows
 array-share-prefix-rows c = omega (arith, (subst (FoundIs (now (c .before .before .before .before .before .before .before .before .before .args .lines)) (c .before .before .before .before .read .last .1 .0)) (c .before .n .given .1) (c .before .before .before .before .read .ensures)) .front .room)
 
--- src/lib.rt:88:34
 slice-aggregate-give : tie.Need-slice-aggregate-give
 slice-aggregate-give c = sym (length-take-le _ _ (omega (arith, (subst (FoundIs (now (c .before .before .before .before .before .before .before .before .before .before .args .lines)) (c .before .before .before .before .before .read .last .1 .0)) (c .before .before .n .given .1) (c .before .before .before .before .before .read .ensures)) .front .room)))
 
--- src/lib.rt:88:29
 give-requires : tie.Need-give-requires
 give-requires c κs = search needs
 
--- src/lib.rt:82:1
 returns : tie.Need-returns
 returns c = ap (λ w. record { wrote = w; out = now (c .before .before .before .before .before .before .before .before .before .args .out) }) (c .refused .ensures) ∙ sym (read-back-refused (now (c .before .before .before .before .before .before .before .before .before .args .lines)) (now (c .before .before .before .before .before .before .before .before .before .args .out)) (subst (FoundIs (now (c .before .before .before .before .before .before .before .before .before .args .lines)) (c .before .before .before .before .read .last .1 .0)) (c .before .enum-told .given .1) (c .before .before .before .before .read .ensures)))
 
--- src/lib.rt:82:1
 same-length : tie.Need-same-length
 same-length c = search needs
 
--- src/lib.rt:82:1
 returns-2 : tie.Need-returns-2
 returns-2 c = c .before .before .give .ensures ∙ ap (λ x. writing (shortOutput x (now (c .before .before .before .before .before .before .before .before .before .before .before .before .before .before .args .out))) x (now (c .before .before .before .before .before .before .before .before .before .before .before .before .before .before .args .out))) ((subst (FoundIs (now (c .before .before .before .before .before .before .before .before .before .before .before .before .before .before .args .lines)) (c .before .before .before .before .before .before .before .before .before .read .last .1 .0)) (c .before .before .before .before .before .before .n .given .1) (c .before .before .before .before .before .before .before .before .before .read .ensures)) .front .front-is) ∙ sym (read-back-accepted (now (c .before .before .before .before .before .before .before .before .before .before .before .before .before .before .args .lines)) (now (c .before .before .before .before .before .before .before .before .before .before .before .before .before .before .args .out)) ((subst (FoundIs (now (c .before .before .before .before .before .before .before .before .before .before .before .before .before .before .args .lines)) (c .before .before .before .before .before .before .before .before .before .read .last .1 .0)) (c .before .before .before .before .before .before .n .given .1) (c .before .before .before .before .before .before .before .before .before .read .ensures)) .hardened))
 

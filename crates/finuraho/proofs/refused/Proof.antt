@@ -6,11 +6,9 @@ use Rattle.finuraho.proofs.refused.Reads as reads
 use Rattle.finuraho.proofs.refused.Lts as lts
 use Rattle.table.proofs.number.of_refusal.Reads as of-refusal-reads
 
--- src/lib.rt:36:17
 of-refusal-requires : tie.Need-of-refusal-requires
 of-refusal-requires c κs = search needs
 
--- src/lib.rt:32:1
 returns : tie.Need-returns
 returns c = ap (λ n. record { number = n; length = 0 }) (c .of-refusal .ensures)
 

@@ -13,31 +13,24 @@ use Rattle.finuraho.proofs.run.hardened_run.Reads as hardened-run-reads
 use Rattle.finuraho.proofs.run.refused.Reads as refused-reads
 use Rattle.reader.proofs.is_hardened.Reads as is-hardened-reads
 
--- src/lib.rt:122:8
 is-hardened-requires : tie.Need-is-hardened-requires
 is-hardened-requires c κs = search needs
 
--- src/lib.rt:123:9
 hardened-run-requires : tie.Need-hardened-run-requires
 hardened-run-requires c κs = sym (c .before .before .before .is-hardened .ensures) ∙ c .before .before .if1 .taken
 
--- src/lib.rt:123:9
 same-length : tie.Need-same-length
 same-length c = search needs
 
--- src/lib.rt:123:9
 same-length-2 : tie.Need-same-length-2
 same-length-2 c = search needs
 
--- src/lib.rt:123:9
 returns : tie.Need-returns
 returns c = promise (now (c .before .before .before .before .before .before .before .before .before .before .before .before .args .lines)) (c .before .before .before .before .before .before .before .before .before .before .before .before .args .variables) (c .before .before .before .before .before .before .before .before .before .before .before .before .args .budget) (c .before .before .before .before .before .before .before .before .before .before .before .before .args .step) (c .before .before .before .before .before .before .before .before .before .before .before .before .args .place) (now (c .before .before .before .before .before .before .before .before .before .before .before .before .args .trace)) (now (c .before .before .before .before .before .before .before .before .before .before .before .before .args .counters)) _ (c .before .before .before .before .hardened-run .ensures)
 
--- src/lib.rt:125:5
 refused-requires : tie.Need-refused-requires
 refused-requires c κs = search needs
 
--- src/lib.rt:111:1
 returns-2 : tie.Need-returns-2
 returns-2 c = promise (now (c .before .before .before .before .before .before .args .lines)) (c .before .before .before .before .before .before .args .variables) (c .before .before .before .before .before .before .args .budget) (c .before .before .before .before .before .before .args .step) (c .before .before .before .before .before .before .args .place) (now (c .before .before .before .before .before .before .args .trace)) (now (c .before .before .before .before .before .before .args .counters)) _ (ap (λ x. hardenedRuns x (now (c .before .before .before .before .before .before .args .trace)) (now (c .before .before .before .before .before .before .args .counters))) (c .refused .ensures) ∙ sym (run-hardened-refused (now (c .before .before .before .before .before .before .args .lines)) (c .before .before .before .before .before .before .args .variables) (c .before .before .before .before .before .before .args .budget) (c .before .before .before .before .before .before .args .step) (c .before .before .before .before .before .before .args .place) (now (c .before .before .before .before .before .before .args .trace)) (now (c .before .before .before .before .before .before .args .counters)) (sym (c .before .before .is-hardened .ensures) ∙ c .before .if1 .left)))
 

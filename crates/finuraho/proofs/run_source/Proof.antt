@@ -14,47 +14,36 @@ use Rattle.finuraho.proofs.run.refused.Reads as refused-reads
 use Rattle.finuraho.proofs.run.source_run.Reads as source-run-reads
 use Rattle.table.proofs.check.check.Reads as check-reads
 
--- src/lib.rt:100:20
 row-words-requires : tie.Need-row-words-requires
 row-words-requires c κs = search needs
 
--- src/lib.rt:101:21
 row-words-requires-2 : tie.Need-row-words-requires-2
 row-words-requires-2 c κs = search needs
 
--- src/lib.rt:102:21
 function-words-requires : tie.Need-function-words-requires
 function-words-requires c κs = search needs
 
--- src/lib.rt:103:11
 check-requires : tie.Need-check-requires
 check-requires c κs = search needs
 
--- src/lib.rt:104:26
 enum-known-r : tie.Need-enum-known-r
 enum-known-r c = search needs
 
--- src/lib.rt:104:32
 refused-requires : tie.Need-refused-requires
 refused-requires c κs = search needs
 
--- src/lib.rt:105:52
 enum-told : tie.Need-enum-told
 enum-told c = search needs
 
--- src/lib.rt:105:30
 source-run-requires : tie.Need-source-run-requires
 source-run-requires c κs = (sym (c .before .before .before .before .before .before .check .ensures .verdict-is) ∙ c .before .before .before .before .enum-told .given .1, c .before .before .before .before .before .before .check .ensures .links (c .before .before .before .before .enum-told .given .1))
 
--- src/lib.rt:97:1
 returns : tie.Need-returns
 returns c = ap (λ x. runs x (now (c .before .before .before .before .before .before .before .before .before .before .before .before .before .args .trace))) (c .refused .ensures) ∙ sym (run-source-refused (now (c .before .before .before .before .before .before .before .before .before .before .before .before .before .args .rows)) (c .before .before .before .before .before .before .before .before .before .before .before .before .before .args .variables) (c .before .before .before .before .before .before .before .before .before .before .before .before .before .args .budget) (now (c .before .before .before .before .before .before .before .before .before .before .before .before .before .args .trace)) _ (sym (c .before .before .before .before .check .ensures .verdict-is) ∙ c .before .before .r .given .1))
 
--- src/lib.rt:97:1
 same-length : tie.Need-same-length
 same-length c = search needs
 
--- src/lib.rt:97:1
 returns-2 : tie.Need-returns-2
 returns-2 c = c .before .before .source-run .ensures
 

@@ -12,63 +12,48 @@ use Rattle.layout.proofs.lay_out.Reads as lay-out-reads
 use Rattle.layout.proofs.row.index.Reads as index-reads
 use Rattle.layout.proofs.spot.line_of.Reads as line-of-reads
 
--- src/lib.rt:30:27
 slice-aggregate-lay-out : tie.Need-slice-aggregate-lay-out
 slice-aggregate-lay-out c = search needs
 
--- src/lib.rt:30:37
 slice-aggregate-lay-out-2 : tie.Need-slice-aggregate-lay-out-2
 slice-aggregate-lay-out-2 c = search needs
 
--- src/lib.rt:30:49
 slice-aggregate-lay-out-3 : tie.Need-slice-aggregate-lay-out-3
 slice-aggregate-lay-out-3 c = search needs
 
--- src/lib.rt:30:5
 lay-out-requires : tie.Need-lay-out-requires
 lay-out-requires c κs = search needs
 
--- src/lib.rt:31:48
 slice-aggregate-line-of : tie.Need-slice-aggregate-line-of
 slice-aggregate-line-of c = search needs
 
--- src/lib.rt:31:28
 line-of-requires : tie.Need-line-of-requires
 line-of-requires c κs = search needs
 
--- src/lib.rt:31:9
 index-requires : tie.Need-index-requires
 index-requires c κs = search needs
 
--- src/lib.rt:32:18
 mul-length : tie.Need-mul-length
 mul-length c = search needs
 
--- src/lib.rt:34:9
 returns : tie.Need-returns
 returns c = short-answer (now (c .before .before .before .before .before .before .before .before .before .before .before .before .before .args .rows)) (now (c .before .before .before .before .before .before .before .before .before .before .before .before .before .args .out)) (omega (arith, c .before .index .ensures, c .before .before .line-of .ensures))
 
--- src/lib.rt:39:26
 slice-aggregate-emit-all : tie.Need-slice-aggregate-emit-all
 slice-aggregate-emit-all c = search needs
 
--- src/lib.rt:39:32
 slice-aggregate-emit-all-2 : tie.Need-slice-aggregate-emit-all-2
 slice-aggregate-emit-all-2 c = search needs
 
--- src/lib.rt:39:40
 slice-aggregate-emit-all-3 : tie.Need-slice-aggregate-emit-all-3
 slice-aggregate-emit-all-3 c = search needs
 
--- src/lib.rt:39:5
 emit-all-requires : tie.Need-emit-all-requires
 emit-all-requires c κs = ((c .before .before .before .before .before .before .before .before .before .before .before .before .before .before .lay-out .ensures, record { enough = omega (arith, c .before .before .before .before .before .before .before .before .index .ensures, c .before .before .before .before .before .before .before .before .before .line-of .ensures) }), (ends-of (now (c .before .before .before .before .before .before .before .before .before .before .before .before .before .before .before .before .before .before .before .before .args .rows)) (c .before .before .before .before .before .before .before .before .before .before .before .before .before .before .before .before .before .before .before .before .pre .1) (omega (arith, c .before .before .before .emit-all-arg .given)), elses-of (now (c .before .before .before .before .before .before .before .before .before .before .before .before .before .before .before .before .before .before .before .before .args .rows)) (c .before .before .before .before .before .before .before .before .before .before .before .before .before .before .before .before .before .before .before .before .pre .1) (omega (arith, c .before .before .emit-all-arg2 .given)), heads-of (now (c .before .before .before .before .before .before .before .before .before .before .before .before .before .before .before .before .before .before .before .before .args .rows)) (c .before .before .before .before .before .before .before .before .before .before .before .before .before .before .before .before .before .before .before .before .pre .1) (omega (arith, c .before .emit-all-arg3 .given))))
 
--- src/lib.rt:22:1
 same-length : tie.Need-same-length
 same-length c = search needs
 
--- src/lib.rt:22:1
 returns-2 : tie.Need-returns-2
 returns-2 c = whole-answer (now (c .before .before .before .before .before .before .before .before .before .before .before .before .before .before .before .before .before .before .before .before .before .before .before .args .rows)) (now (c .before .before .before .before .before .before .before .before .before .before .before .before .before .before .before .before .before .before .before .before .before .before .before .args .out)) (omega (arith, c .before .before .before .before .before .before .before .before .before .before .before .index .ensures, c .before .before .before .before .before .before .before .before .before .before .before .before .line-of .ensures)) (omega arith) (c .before .before .emit-all .ensures)
 

@@ -10,39 +10,30 @@ use Rattle.layout.proofs.number.region_bases.Reads as region-bases-read
 use Rattle.layout.proofs.number.row_values.Reads as row-values-reads
 use Rattle.layout.proofs.number.survey_and_spend.Reads as survey-and-spend-reads
 
--- src/lib.rt:21:41
 slice-aggregate-survey-and-spend : tie.Need-slice-aggregate-survey-and-spend
 slice-aggregate-survey-and-spend c = search needs
 
--- src/lib.rt:21:5
 survey-and-spend-requires : tie.Need-survey-and-spend-requires
 survey-and-spend-requires c κs = search (nothing-spent, needs)
 
--- src/lib.rt:22:37
 slice-aggregate-region-bases : tie.Need-slice-aggregate-region-bases
 slice-aggregate-region-bases c = search needs
 
--- src/lib.rt:22:5
 region-bases-requires : tie.Need-region-bases-requires
 region-bases-requires c κs = search needs
 
--- src/lib.rt:23:5
 row-values-requires : tie.Need-row-values-requires
 row-values-requires c κs = ((c .before .before .before .before .before .before .before .before .before .before .before .before .before .before .survey-and-spend .ensures .0, c .before .before .before .before .before .region-bases .ensures, omega arith), c .before .before .before .before .before .before .before .before .before .before .before .before .before .before .survey-and-spend .ensures .1 .1)
 
--- src/lib.rt:15:1
 same-length : tie.Need-same-length
 same-length c = search needs
 
--- src/lib.rt:15:1
 same-length-2 : tie.Need-same-length-2
 same-length-2 c = search needs
 
--- src/lib.rt:15:1
 same-length-3 : tie.Need-same-length-3
 same-length-3 c = search needs
 
--- src/lib.rt:15:1
 returns : tie.Need-returns
 returns c = search needs
 

@@ -10,31 +10,24 @@ use Rattle.reader.proofs.is_hardened.Lts as lts
 use Rattle.reader.proofs.read.Reads as read-reads
 use Rattle.reader.proofs.row_bytes.Reads as row-bytes-reads
 
--- src/lib.rt:64:20
 row-bytes-requires : tie.Need-row-bytes-requires
 row-bytes-requires c κs = search needs
 
--- src/lib.rt:65:23
 slice-aggregate-read : tie.Need-slice-aggregate-read
 slice-aggregate-read c = search needs
 
--- src/lib.rt:65:11
 read-requires : tie.Need-read-requires
 read-requires c κs = search needs
 
--- src/lib.rt:66:31
 enum-told : tie.Need-enum-told
 enum-told c = search needs
 
--- src/lib.rt:67:29
 enum-told-2 : tie.Need-enum-told-2
 enum-told-2 c = search needs
 
--- src/lib.rt:61:1
 returns : tie.Need-returns
 returns c = sym (subst (FoundIs (now (c .before .before .before .before .before .before .before .args .lines)) _) (c .enum-told .given .1) (c .before .before .before .read .ensures))
 
--- src/lib.rt:61:1
 returns-2 : tie.Need-returns-2
 returns-2 c = sym ((subst (FoundIs (now (c .before .before .before .before .before .before .before .args .lines)) _) (c .enum-told2 .given .1) (c .before .before .before .read .ensures)) .hardened)
 

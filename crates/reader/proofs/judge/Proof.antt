@@ -9,15 +9,12 @@ use Rattle.reader.proofs.judge.Reads as reads
 use Rattle.reader.proofs.judge.Lts as lts
 use Rattle.reader.proofs.compare.hardens_to.Reads as hardens-to-reads
 
--- src/lib.rt:54:8
 hardens-to-requires : tie.Need-hardens-to-requires
 hardens-to-requires c κs = search needs
 
--- src/lib.rt:55:9
 returns : tie.Need-returns
 returns c = (refl, judged (now (c .before .before .before .before .args .lines)) (now (c .before .before .before .before .args .rows)) (sym (c .if1 .taken) ∙ c .before .hardens-to .ensures))
 
--- src/lib.rt:50:1
 returns-2 : tie.Need-returns-2
 returns-2 c = judged (now (c .before .before .before .before .args .lines)) (now (c .before .before .before .before .args .rows)) (sym (c .if1 .left) ∙ c .before .hardens-to .ensures)
 

@@ -14,59 +14,45 @@ use Rattle.reader.proofs.functions.number_lines.Reads as number-lines-r
 use Rattle.reader.proofs.judge.Reads as judge-reads
 use Rattle.reader.proofs.line_words.Reads as line-words-reads
 
--- src/lib.rt:39:9
 returns : tie.Need-returns
 returns c = too-long (now (c .before .before .before .args .lines)) (record { each = λ i. omega (arith, c .before .before .shared-slice-known .given i) }) (omega arith)
 
--- src/lib.rt:41:22
 line-words-requires : tie.Need-line-words-requires
 line-words-requires c κs = search needs
 
--- src/lib.rt:42:36
 slice-aggregate-number-lines : tie.Need-slice-aggregate-number-lines
 slice-aggregate-number-lines c = search needs
 
--- src/lib.rt:42:5
 number-lines-requires : tie.Need-number-lines-requires
 number-lines-requires c κs = (record { bytes = record { each = λ i. omega (arith, c .before .before .before .before .shared-slice-known .given i) }; short = omega arith }, search needs)
 
--- src/lib.rt:43:11
 read-rows-requires : tie.Need-read-rows-requires
 read-rows-requires c κs = (record { bytes = record { each = λ i. omega (arith, c .before .before .before .before .before .before .before .before .shared-slice-known .given i) }; short = omega arith }, c .before .before .before .number-lines .ensures, c .before .before .before .before .before .before .before .before .before .pre)
 
--- src/lib.rt:44:31
 enum-told : tie.Need-enum-told
 enum-told c = search needs
 
--- src/lib.rt:45:26
 enum-known-n : tie.Need-enum-known-n
 enum-known-n c = search needs
 
--- src/lib.rt:45:45
 slice-reshare-prefix-judge : tie.Need-slice-reshare-prefix-judge
 slice-reshare-prefix-judge c = omega (arith, (subst (CandidateIs (now (c .before .before .before .before .before .before .before .before .before .before .before .before .before .before .before .args .lines)) (c .before .before .before .before .before .read-rows .last .1 .1 .0)) (c .before .n .given .1) (c .before .before .before .before .before .read-rows .ensures)) .room)
 
--- src/lib.rt:45:45
 slice-aggregate-judge : tie.Need-slice-aggregate-judge
 slice-aggregate-judge c = sym (length-take-le _ _ (omega (arith, (subst (CandidateIs (now (c .before .before .before .before .before .before .before .before .before .before .before .before .before .before .before .before .args .lines)) (c .before .before .before .before .before .before .read-rows .last .1 .1 .0)) (c .before .before .n .given .1) (c .before .before .before .before .before .before .read-rows .ensures)) .room)))
 
--- src/lib.rt:45:32
 judge-requires : tie.Need-judge-requires
 judge-requires c κs = omega arith
 
--- src/lib.rt:34:1
 same-length : tie.Need-same-length
 same-length c = search needs
 
--- src/lib.rt:34:1
 returns-2 : tie.Need-returns-2
 returns-2 c = too-many (now (c .before .before .before .before .before .before .before .before .before .before .before .before .before .before .args .lines)) (subst (CandidateIs (now (c .before .before .before .before .before .before .before .before .before .before .before .before .before .before .args .lines)) (c .before .before .before .before .read-rows .last .1 .1 .0)) (c .enum-told .given .1) (c .before .before .before .before .read-rows .ensures))
 
--- src/lib.rt:34:1
 same-length-2 : tie.Need-same-length-2
 same-length-2 c = search needs
 
--- src/lib.rt:34:1
 returns-3 : tie.Need-returns-3
 returns-3 c = found (now (c .before .before .before .before .before .before .before .before .before .before .before .before .before .before .before .before .before .args .lines)) (c .before .before .before .before .before .before .before .read-rows .last .1 .1 .0) (c .judge .result) (subst (CandidateIs (now (c .before .before .before .before .before .before .before .before .before .before .before .before .before .before .before .before .before .args .lines)) (c .before .before .before .before .before .before .before .read-rows .last .1 .1 .0)) (c .before .before .before .n .given .1) (c .before .before .before .before .before .before .before .read-rows .ensures)) (c .judge .ensures)
 

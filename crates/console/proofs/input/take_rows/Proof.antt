@@ -8,27 +8,21 @@ use Rattle.console.proofs.input.take_rows.Reads as reads
 use Rattle.console.proofs.input.take_rows.Lts as lts
 use Rattle.console.proofs.input.take.Reads as take-reads
 
--- src/input.rt:11:28
 slice-relend-prefix-take : tie.Need-slice-relend-prefix-take
 slice-relend-prefix-take c = search needs
 
--- src/input.rt:11:28
 slice-aggregate-take : tie.Need-slice-aggregate-take
 slice-aggregate-take c = sym (length-take-le 6150 (c .before .before .before .before .args .bytes .now) (omega arith))
 
--- src/input.rt:11:5
 take-requires : tie.Need-take-requires
 take-requires c κs = search needs
 
--- src/input.rt:8:1
 same-length : tie.Need-same-length
 same-length c = search needs
 
--- src/input.rt:8:1
 same-length-2 : tie.Need-same-length-2
 same-length-2 c = search needs
 
--- src/input.rt:8:1
 returns : tie.Need-returns
 returns c = search needs
 

@@ -10,11 +10,9 @@ use Rattle.console.proofs.output.within.Reads as reads
 use Rattle.console.proofs.output.within.Lts as lts
 use Rattle.console.proofs.output.least.Reads as least-reads
 
--- src/output.rt:42:5
 least-requires : tie.Need-least-requires
 least-requires c κs = search needs
 
--- src/output.rt:39:1
 returns : tie.Need-returns
 returns c = (omega arith, sym (length-take-le _ _ (omega arith)))
 

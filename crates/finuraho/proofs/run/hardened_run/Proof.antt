@@ -11,35 +11,27 @@ use Rattle.finuraho.proofs.run.hardened_run.Lts as lts
 use Rattle.finuraho.proofs.run.refused.Reads as refused-reads
 use Rattle.machine.proofs.table.run_table.Reads as run-table-reads
 
--- src/run.rt:63:9
 refused-requires : tie.Need-refused-requires
 refused-requires c κs = search needs
 
--- src/run.rt:63:9
 returns : tie.Need-returns
 returns c = ap (λ x. hardenedRuns x (now (c .before .before .before .before .before .args .trace)) (now (c .before .before .before .before .before .args .counters))) (c .refused .ensures) ∙ sym (run-hardened-no-slots (now (c .before .before .before .before .before .args .lines)) (c .before .before .before .before .before .args .variables) (c .before .before .before .before .before .args .budget) (c .before .before .before .before .before .args .step) (c .before .before .before .before .before .args .place) (now (c .before .before .before .before .before .args .trace)) (now (c .before .before .before .before .before .args .counters)) (c .before .before .before .before .before .pre) (omega arith))
 
--- src/run.rt:66:9
 refused-requires-2 : tie.Need-refused-requires-2
 refused-requires-2 c κs = search needs
 
--- src/run.rt:66:9
 returns-2 : tie.Need-returns-2
 returns-2 c = ap (λ x. hardenedRuns x (now (c .before .before .before .before .before .before .args .trace)) (now (c .before .before .before .before .before .before .args .counters))) (c .refused2 .ensures) ∙ sym (run-hardened-no-words (now (c .before .before .before .before .before .before .args .lines)) (c .before .before .before .before .before .before .args .variables) (c .before .before .before .before .before .before .args .budget) (c .before .before .before .before .before .before .args .step) (c .before .before .before .before .before .before .args .place) (now (c .before .before .before .before .before .before .args .trace)) (now (c .before .before .before .before .before .before .args .counters)) (c .before .before .before .before .before .before .pre) (omega arith) (omega arith))
 
--- src/run.rt:68:5
 run-table-requires : tie.Need-run-table-requires
 run-table-requires c κs = (c .before .before .before .before .before .before .before .pre, (omega arith, omega arith))
 
--- src/run.rt:50:1
 same-length : tie.Need-same-length
 same-length c = search needs
 
--- src/run.rt:50:1
 same-length-2 : tie.Need-same-length-2
 same-length-2 c = search needs
 
--- src/run.rt:50:1
 returns-3 : tie.Need-returns-3
 returns-3 c = c .before .before .before .before .run-table .ensures ∙ sym (run-hardened-accepted (now (c .before .before .before .before .before .before .before .before .before .before .before .before .args .lines)) (c .before .before .before .before .before .before .before .before .before .before .before .before .args .variables) (c .before .before .before .before .before .before .before .before .before .before .before .before .args .budget) (c .before .before .before .before .before .before .before .before .before .before .before .before .args .step) (c .before .before .before .before .before .before .before .before .before .before .before .before .args .place) (now (c .before .before .before .before .before .before .before .before .before .before .before .before .args .trace)) (now (c .before .before .before .before .before .before .before .before .before .before .before .before .args .counters)) (c .before .before .before .before .before .before .before .before .before .before .before .before .pre) (omega arith) (omega arith))
 

@@ -6,11 +6,9 @@ use Rattle.finuraho.proofs.run.refused.Reads as reads
 use Rattle.finuraho.proofs.run.refused.Lts as lts
 use Rattle.table.proofs.number.of_refusal.Reads as of-refusal-reads
 
--- src/run.rt:21:17
 of-refusal-requires : tie.Need-of-refusal-requires
 of-refusal-requires c κs = search needs
 
--- src/run.rt:17:1
 returns : tie.Need-returns
 returns c = ap (λ n. record { number = n; outcome = 0; steps = 0; traced = 0; variables = c .before .args .variables }) (c .of-refusal .ensures)
 

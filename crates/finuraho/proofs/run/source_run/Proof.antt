@@ -11,23 +11,18 @@ use Rattle.finuraho.proofs.run.source_run.Lts as lts
 use Rattle.finuraho.proofs.run.refused.Reads as refused-reads
 use Rattle.source.proofs.run_linked.Reads as run-linked-reads
 
--- src/run.rt:44:9
 refused-requires : tie.Need-refused-requires
 refused-requires c κs = search needs
 
--- src/run.rt:44:9
 returns : tie.Need-returns
 returns c = ap (λ x. runs x (now (c .before .before .before .before .args .trace))) (c .refused .ensures) ∙ sym (run-source-short (now (c .before .before .before .before .args .rows)) (c .before .before .before .before .args .variables) (c .before .before .before .before .args .budget) (now (c .before .before .before .before .args .trace)) (c .before .before .before .before .pre .0) (omega arith))
 
--- src/run.rt:46:5
 run-linked-requires : tie.Need-run-linked-requires
 run-linked-requires c κs = (c .before .before .before .before .pre .0, (c .before .before .before .before .pre .1, omega arith))
 
--- src/run.rt:30:1
 same-length : tie.Need-same-length
 same-length c = search needs
 
--- src/run.rt:30:1
 returns-2 : tie.Need-returns-2
 returns-2 c = c .before .before .run-linked .ensures ∙ sym (run-source-accepted (now (c .before .before .before .before .before .before .before .args .rows)) (c .before .before .before .before .before .before .before .args .variables) (c .before .before .before .before .before .before .before .args .budget) (now (c .before .before .before .before .before .before .before .args .trace)) (c .before .before .before .before .before .before .before .pre .0) (omega arith))
 

@@ -17,59 +17,45 @@ Inv-loop lines listing₀ count done₀ listing done = (done ≤ count) × (20 *
 abbrev μ-loop : tie.MeasureT-loop
 μ-loop lines listing₀ count done₀ listing done = count - done
 
--- src/output.rt:69:5
 loop-holds : tie.Need-loop-holds Inv-loop μ-loop
 loop-holds c = search needs
 
--- src/output.rt:70:33
 sub-least : tie.Need-sub-least Inv-loop μ-loop
 sub-least c = search needs
 
--- src/output.rt:70:27
 least-requires : tie.Need-least-requires Inv-loop μ-loop
 least-requires c κs = search needs
 
--- src/output.rt:70:20
 add-next : tie.Need-add-next Inv-loop μ-loop
 add-next c = search needs
 
--- src/output.rt:71:20
 mul-from : tie.Need-mul-from Inv-loop μ-loop
 mul-from c = search needs
 
--- src/output.rt:72:18
 mul-to : tie.Need-mul-to Inv-loop μ-loop
 mul-to c = search needs
 
--- src/output.rt:73:20
 sub-some-lines : tie.Need-sub-some-lines Inv-loop μ-loop
 sub-some-lines c = search needs
 
--- src/output.rt:73:20
 part-some-lines-start : tie.Need-part-some-lines-start Inv-loop μ-loop
 part-some-lines-start c = search needs
 
--- src/output.rt:73:20
 part-some-lines-end : tie.Need-part-some-lines-end Inv-loop μ-loop
 part-some-lines-end c = search needs
 
--- src/output.rt:73:9
 some-lines-requires : tie.Need-some-lines-requires Inv-loop μ-loop
 some-lines-requires c κs = search needs
 
--- src/output.rt:69:5
 loop-less : tie.Need-loop-less Inv-loop μ-loop
 loop-less c = search needs
 
--- src/output.rt:69:5
 loop-again : tie.Need-loop-again Inv-loop μ-loop
 loop-again c = search needs
 
--- src/output.rt:64:1
 same-length : tie.Need-same-length Inv-loop μ-loop
 same-length c = search needs
 
--- src/output.rt:64:1
 returns : tie.Need-returns Inv-loop μ-loop
 returns c = search needs
 

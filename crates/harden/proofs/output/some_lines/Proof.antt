@@ -14,31 +14,24 @@ use Rattle.console.proofs.output.within.Reads as within-reads
 use Rattle.io.proofs.write_all.Reads as write-all-reads
 use Rattle.text.proofs.write.listing.Reads as listing-reads
 
--- src/output.rt:81:9
 listing-requires : tie.Need-listing-requires
 listing-requires c κs = record { count = length (now (c .before .before .before .args .lines)) / 20; some-width = omega arith; narrow = omega arith; few = omega arith; whole = omega arith; room = omega arith }
 
--- src/output.rt:82:9
 within-requires : tie.Need-within-requires
 within-requires c κs = search needs
 
--- src/output.rt:83:22
 slice-reshare-prefix-write-all : tie.Need-slice-reshare-prefix-write-all
 slice-reshare-prefix-write-all c = search needs
 
--- src/output.rt:83:22
 slice-aggregate-write-all : tie.Need-slice-aggregate-write-all
 slice-aggregate-write-all c = search needs
 
--- src/output.rt:83:5
 write-all-requires : tie.Need-write-all-requires
 write-all-requires c κs = search needs
 
--- src/output.rt:78:1
 same-length : tie.Need-same-length
 same-length c = search needs
 
--- src/output.rt:78:1
 returns : tie.Need-returns
 returns c = search needs
 

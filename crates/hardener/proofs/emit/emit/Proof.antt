@@ -21,189 +21,144 @@ use Rattle.hardener.proofs.lines.loop_line.Reads as loop-line-reads
 use Rattle.hardener.proofs.lines.tick_line.Reads as tick-line-reads
 use Rattle.layout.proofs.row.kind.Reads as kind-reads
 
--- src/emit.rt:46:11
 kind-requires : tie.Need-kind-requires
 kind-requires c κs = search needs
 
 enum-told : tie.Need-enum-told
 enum-told c = search needs
 
--- src/emit.rt:48:39
 enum-told-2 : tie.Need-enum-told-2
 enum-told-2 c = search needs
 
--- src/emit.rt:48:39
 do-line-requires : tie.Need-do-line-requires
 do-line-requires c κs = search (kinds, needs)
 
--- src/emit.rt:48:64
 tick-line-requires : tie.Need-tick-line-requires
 tick-line-requires c κs = search (kinds, needs)
 
--- src/emit.rt:48:21
 two-requires : tie.Need-two-requires
 two-requires c κs = ((c .before .before .before .before .before .before .before .before .before .before .before .before .before .before .pre .0 .0 .surveyed, makes (c .before .before .before .before .before .kind .result) Do (c .before .before .before .before .before .before .before .before .before .before .before .before .before .before .pre .0 .1) (c .before .before .before .before .before .kind .ensures) (search needs) refl, c .before .before .before .before .before .before .before .before .before .before .before .before .before .before .pre .0 .2), (c .before .before .do-line .ensures, c .before .tick-line .ensures))
 
--- src/emit.rt:49:39
 enum-told-3 : tie.Need-enum-told-3
 enum-told-3 c = search needs
 
--- src/emit.rt:49:39
 if-line-requires : tie.Need-if-line-requires
 if-line-requires c κs = ((c .before .before .before .before .before .before .before .before .before .before .before .pre .0 .0 .surveyed, c .before .before .before .before .before .before .before .before .before .before .before .pre .0 .0 .based, c .before .before .before .before .before .before .before .before .before .before .before .pre .0 .0 .valued), ((c .before .before .before .before .before .before .before .before .before .before .before .pre .1 .0, c .before .before .before .before .before .before .before .before .before .before .before .pre .1 .1), (in-if (c .before .before .before .before .before .before .before .before .before .before .before .pre .0 .0 .surveyed) (c .before .before .before .before .before .before .before .before .before .before .before .pre .0 .1) (c .before .before .kind .ensures) (search needs), search (kind-is, needs))))
 
--- src/emit.rt:49:21
 one-requires : tie.Need-one-requires
 one-requires c κs = search (kinds, needs)
 
--- src/emit.rt:50:41
 enum-told-4 : tie.Need-enum-told-4
 enum-told-4 c = search needs
 
--- src/emit.rt:50:41
 else-line-requires : tie.Need-else-line-requires
 else-line-requires c κs = search (kinds, needs)
 
--- src/emit.rt:50:23
 one-requires-2 : tie.Need-one-requires-2
 one-requires-2 c κs = search (kinds, needs)
 
--- src/emit.rt:51:41
 enum-told-5 : tie.Need-enum-told-5
 enum-told-5 c = search needs
 
--- src/emit.rt:51:41
 loop-line-requires : tie.Need-loop-line-requires
 loop-line-requires c κs = search (kind-is, in-loop, needs)
 
--- src/emit.rt:51:23
 one-requires-3 : tie.Need-one-requires-3
 one-requires-3 c κs = search (kinds, needs)
 
--- src/emit.rt:52:40
 enum-told-6 : tie.Need-enum-told-6
 enum-told-6 c = search needs
 
--- src/emit.rt:52:40
 end-line-requires : tie.Need-end-line-requires
 end-line-requires c κs = search (kind-is, in-end, needs)
 
--- src/emit.rt:52:22
 one-requires-4 : tie.Need-one-requires-4
 one-requires-4 c κs = search (kinds, needs)
 
--- src/emit.rt:53:42
 enum-told-7 : tie.Need-enum-told-7
 enum-told-7 c = search needs
 
--- src/emit.rt:53:42
 break-line-requires : tie.Need-break-line-requires
 break-line-requires c κs = search (kinds, needs)
 
--- src/emit.rt:53:24
 one-requires-5 : tie.Need-one-requires-5
 one-requires-5 c κs = search (kinds, needs)
 
--- src/emit.rt:54:45
 enum-told-8 : tie.Need-enum-told-8
 enum-told-8 c = search needs
 
--- src/emit.rt:54:45
 continue-line-requires : tie.Need-continue-line-requires
 continue-line-requires c κs = search (kinds, needs)
 
--- src/emit.rt:54:27
 one-requires-6 : tie.Need-one-requires-6
 one-requires-6 c κs = search (kinds, needs)
 
--- src/emit.rt:56:17
 enum-told-9 : tie.Need-enum-told-9
 enum-told-9 c = search needs
 
--- src/emit.rt:56:17
 call-line-requires : tie.Need-call-line-requires
 call-line-requires c κs = search (kind-is, in-call, needs)
 
--- src/emit.rt:57:17
 back-line-requires : tie.Need-back-line-requires
 back-line-requires c κs = search (kinds, needs)
 
--- src/emit.rt:58:13
 two-requires-2 : tie.Need-two-requires-2
 two-requires-2 c κs = ((c .before .before .before .before .before .before .before .before .before .before .before .before .before .before .pre .0 .0 .surveyed, makes (c .before .before .before .before .before .kind .result) Call (c .before .before .before .before .before .before .before .before .before .before .before .before .before .before .pre .0 .1) (c .before .before .before .before .before .kind .ensures) (search needs) refl, c .before .before .before .before .before .before .before .before .before .before .before .before .before .before .pre .0 .2), (c .before .before .call-line .ensures, c .before .back-line .ensures))
 
 enum-told-10 : tie.Need-enum-told-10
 enum-told-10 c = search needs
 
--- src/emit.rt:41:1
 returns : tie.Need-returns
 returns c = search (kinds, needs)
 
--- src/emit.rt:41:1
 same-length : tie.Need-same-length
 same-length c = search needs
 
--- src/emit.rt:41:1
 returns-2 : tie.Need-returns-2
 returns-2 c = search needs
 
--- src/emit.rt:41:1
 same-length-2 : tie.Need-same-length-2
 same-length-2 c = search needs
 
--- src/emit.rt:41:1
 returns-3 : tie.Need-returns-3
 returns-3 c = search needs
 
--- src/emit.rt:41:1
 same-length-3 : tie.Need-same-length-3
 same-length-3 c = search needs
 
--- src/emit.rt:41:1
 returns-4 : tie.Need-returns-4
 returns-4 c = search needs
 
--- src/emit.rt:41:1
 same-length-4 : tie.Need-same-length-4
 same-length-4 c = search needs
 
--- src/emit.rt:41:1
 returns-5 : tie.Need-returns-5
 returns-5 c = search needs
 
--- src/emit.rt:41:1
 same-length-5 : tie.Need-same-length-5
 same-length-5 c = search needs
 
--- src/emit.rt:41:1
 returns-6 : tie.Need-returns-6
 returns-6 c = search needs
 
--- src/emit.rt:41:1
 same-length-6 : tie.Need-same-length-6
 same-length-6 c = search needs
 
--- src/emit.rt:41:1
 returns-7 : tie.Need-returns-7
 returns-7 c = search needs
 
--- src/emit.rt:41:1
 same-length-7 : tie.Need-same-length-7
 same-length-7 c = search needs
 
--- src/emit.rt:41:1
 returns-8 : tie.Need-returns-8
 returns-8 c = search needs
 
--- src/emit.rt:41:1
 same-length-8 : tie.Need-same-length-8
 same-length-8 c = search needs
 
--- src/emit.rt:41:1
 returns-9 : tie.Need-returns-9
 returns-9 c = search needs
 
--- src/emit.rt:41:1
 returns-10 : tie.Need-returns-10
 returns-10 c = search (kinds, needs)
 

@@ -14,31 +14,24 @@ Inv-loop rows map bases values ends elses heads out₀ n i₀ out i = Emitting r
 abbrev μ-loop : tie.MeasureT-loop
 μ-loop rows map bases values ends elses heads out₀ n i₀ out i = n - i
 
--- src/emit.rt:72:5
 loop-holds : tie.Need-loop-holds Inv-loop μ-loop
 loop-holds c = search (emittings, needs)
 
--- src/emit.rt:73:9
 emit-requires : tie.Need-emit-requires Inv-loop μ-loop
 emit-requires c κs = ((c .before .before .before .before .before .before .before .before .before .before .before .pre .0 .0, omega arith, emit-room (c .before .before .loop .inv) (c .before .before .before .before .before .before .before .before .before .before .before .pre .0 .1)), c .before .before .before .before .before .before .before .before .before .before .before .pre .1)
 
--- src/emit.rt:74:9
 add-i : tie.Need-add-i Inv-loop μ-loop
 add-i c = omega arith
 
--- src/emit.rt:72:5
 loop-less : tie.Need-loop-less Inv-loop μ-loop
 loop-less c = omega arith
 
--- src/emit.rt:72:5
 loop-again : tie.Need-loop-again Inv-loop μ-loop
 loop-again c = search (emittings, needs)
 
--- src/emit.rt:65:1
 same-length : tie.Need-same-length Inv-loop μ-loop
 same-length c = search (emittings, needs)
 
--- src/emit.rt:65:1
 returns : tie.Need-returns Inv-loop μ-loop
 returns c = search (emittings, needs)
 

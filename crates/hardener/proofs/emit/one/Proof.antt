@@ -10,27 +10,21 @@ use Rattle.hardener.proofs.line.Line.write.Reads as write-reads
 use Rattle.layout.proofs.row.index.Reads as index-reads
 use Rattle.layout.proofs.spot.line_of.Reads as line-of-reads
 
--- src/emit.rt:25:39
 line-of-requires : tie.Need-line-of-requires
 line-of-requires c κs = search needs
 
--- src/emit.rt:25:28
 index-requires : tie.Need-index-requires
 index-requires c κs = search needs
 
--- src/emit.rt:25:14
 mul-at : tie.Need-mul-at
 mul-at c = search needs
 
--- src/emit.rt:26:5
 write-requires : tie.Need-write-requires
 write-requires c κs = omega (arith, one-room (c .before .before .before .before .before .before .pre .0 .2) (c .before .before .before .before .before .before .pre .0 .1) (c .before .before .line-of .ensures), c .before .index .ensures)
 
--- src/emit.rt:20:1
 same-length : tie.Need-same-length
 same-length c = search needs
 
--- src/emit.rt:20:1
 returns : tie.Need-returns
 returns c = one-out (c .before .before .before .before .before .before .before .before .before .pre .0 .1) (c .before .before .before .before .before .before .before .before .before .pre .1) (c .before .before .before .before .index .ensures ∙ c .before .before .before .before .before .line-of .ensures) (c .before .before .write .ensures)
 

@@ -10,35 +10,27 @@ use Rattle.hardener.proofs.line.Line.write.Reads as write-reads
 use Rattle.layout.proofs.row.index.Reads as index-reads
 use Rattle.layout.proofs.spot.line_of.Reads as line-of-reads
 
--- src/emit.rt:35:39
 line-of-requires : tie.Need-line-of-requires
 line-of-requires c κs = search needs
 
--- src/emit.rt:35:28
 index-requires : tie.Need-index-requires
 index-requires c κs = search needs
 
--- src/emit.rt:35:14
 mul-at : tie.Need-mul-at
 mul-at c = search needs
 
--- src/emit.rt:36:5
 write-requires : tie.Need-write-requires
 write-requires c κs = omega (arith, two-room (c .before .before .before .before .before .before .pre .0 .2) (c .before .before .before .before .before .before .pre .0 .1) (c .before .before .line-of .ensures), c .before .index .ensures)
 
--- src/emit.rt:37:18
 add-write : tie.Need-add-write
 add-write c = search needs
 
--- src/emit.rt:37:5
 write-requires-2 : tie.Need-write-requires-2
 write-requires-2 c κs = omega (arith, two-room (c .before .before .before .before .before .before .before .before .before .before .pre .0 .2) (c .before .before .before .before .before .before .before .before .before .before .pre .0 .1) (c .before .before .before .before .before .before .line-of .ensures), c .before .before .before .before .before .index .ensures, c .before .before .before .write .kept)
 
--- src/emit.rt:30:1
 same-length : tie.Need-same-length
 same-length c = search needs
 
--- src/emit.rt:30:1
 returns : tie.Need-returns
 returns c = two-out (c .before .before .before .before .before .before .before .before .before .before .before .before .before .pre .0 .1) (c .before .before .before .before .before .before .before .before .before .before .before .before .before .pre .1 .0) (c .before .before .before .before .before .before .before .before .before .before .before .before .before .pre .1 .1) (c .before .before .before .before .before .before .before .before .index .ensures ∙ c .before .before .before .before .before .before .before .before .before .line-of .ensures) (c .before .before .before .before .before .before .write .ensures) (c .before .before .write2 .ensures)
 

@@ -9,27 +9,21 @@ use Rattle.layout.proofs.spot.callee_of.Reads as callee-of-reads
 use Rattle.layout.proofs.spot.end_value.Reads as end-value-reads
 use Rattle.layout.proofs.spot.spot_of.Reads as spot-of-reads
 
--- src/lines.rt:162:9
 spot-of-requires : tie.Need-spot-of-requires
 spot-of-requires c κs = search needs
 
--- src/lines.rt:163:9
 callee-of-requires : tie.Need-callee-of-requires
 callee-of-requires c κs = search needs
 
--- src/lines.rt:164:24
 add-back : tie.Need-add-back
 add-back c = search needs
 
--- src/lines.rt:164:36
 end-value-requires : tie.Need-end-value-requires
 end-value-requires c κs = search needs
 
--- src/lines.rt:164:5
 back-requires : tie.Need-back-requires
 back-requires c κs = search needs
 
--- src/lines.rt:157:1
 returns : tie.Need-returns
 returns c = back-line (c .before .before .before .before .before .before .before .before .before .before .pre .1 .2) (c .before .before .before .callee-of .ensures) (c .before .before .before .before .spot-of .ensures) (c .before .end-value .ensures) (c .back .ensures)
 

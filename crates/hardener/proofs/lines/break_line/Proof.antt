@@ -10,35 +10,27 @@ use Rattle.layout.proofs.spot.line_past.Reads as line-past-reads
 use Rattle.layout.proofs.spot.loop_of.Reads as loop-of-reads
 use Rattle.layout.proofs.spot.spot_of.Reads as spot-of-reads
 
--- src/lines.rt:123:9
 spot-of-requires : tie.Need-spot-of-requires
 spot-of-requires c κs = (c .before .before .before .before .pre .0 .0, c .before .before .before .before .pre .0 .1, loop-inside (c .before .before .before .before .pre .1 .1))
 
--- src/lines.rt:124:9
 loop-of-requires : tie.Need-loop-of-requires
 loop-of-requires c κs = search needs
 
--- src/lines.rt:125:9
 spot-of-requires-2 : tie.Need-spot-of-requires-2
 spot-of-requires-2 c κs = search needs
 
--- src/lines.rt:126:9
 child-of-requires : tie.Need-child-of-requires
 child-of-requires c κs = search needs
 
--- src/lines.rt:127:9
 line-past-requires : tie.Need-line-past-requires
 line-past-requires c κs = search needs
 
--- src/lines.rt:128:40
 add-out : tie.Need-add-out
 add-out c = search needs
 
--- src/lines.rt:128:5
 out-requires : tie.Need-out-requires
 out-requires c κs = search needs
 
--- src/lines.rt:118:1
 returns : tie.Need-returns
 returns c = break-line (c .before .before .before .before .before .loop-of .ensures) (c .before .before .before .before .before .before .spot-of .ensures) (c .before .before .before .before .spot-of2 .ensures) (c .before .before .before .child-of .ensures) (c .before .before .before .before .before .before .before .before .before .before .before .pre .1 .2) (c .before .before .line-past .ensures) (c .out .ensures)
 

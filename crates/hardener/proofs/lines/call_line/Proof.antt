@@ -10,27 +10,21 @@ use Rattle.layout.proofs.spot.callee_of.Reads as callee-of-reads
 use Rattle.layout.proofs.spot.line_after.Reads as line-after-reads
 use Rattle.layout.proofs.spot.spot_of.Reads as spot-of-reads
 
--- src/lines.rt:150:9
 spot-of-requires : tie.Need-spot-of-requires
 spot-of-requires c κs = search needs
 
--- src/lines.rt:151:9
 callee-of-requires : tie.Need-callee-of-requires
 callee-of-requires c κs = search needs
 
--- src/lines.rt:152:9
 base-of-requires : tie.Need-base-of-requires
 base-of-requires c κs = search needs
 
--- src/lines.rt:153:35
 line-after-requires : tie.Need-line-after-requires
 line-after-requires c κs = search needs
 
--- src/lines.rt:153:5
 call-requires : tie.Need-call-requires
 call-requires c κs = search needs
 
--- src/lines.rt:145:1
 returns : tie.Need-returns
 returns c = call-line (c .before .before .before .before .before .before .before .before .before .before .pre .1 .2) (c .before .before .before .callee-of .ensures) (c .before .before .before .before .spot-of .ensures) (c .before .before .base-of .ensures) (c .before .line-after .ensures) (c .call .ensures)
 

@@ -10,31 +10,24 @@ use Rattle.layout.proofs.spot.line_of.Reads as line-of-reads
 use Rattle.layout.proofs.spot.loop_of.Reads as loop-of-reads
 use Rattle.layout.proofs.spot.spot_of.Reads as spot-of-reads
 
--- src/lines.rt:137:9
 spot-of-requires : tie.Need-spot-of-requires
 spot-of-requires c κs = (c .before .before .before .pre .0 .0, c .before .before .before .pre .0 .1, loop-inside (c .before .before .before .pre .1 .0))
 
--- src/lines.rt:138:9
 loop-of-requires : tie.Need-loop-of-requires
 loop-of-requires c κs = search needs
 
--- src/lines.rt:139:9
 spot-of-requires-2 : tie.Need-spot-of-requires-2
 spot-of-requires-2 c κs = search needs
 
--- src/lines.rt:140:9
 child-of-requires : tie.Need-child-of-requires
 child-of-requires c κs = search needs
 
--- src/lines.rt:141:46
 line-of-requires : tie.Need-line-of-requires
 line-of-requires c κs = search needs
 
--- src/lines.rt:141:5
 out-requires : tie.Need-out-requires
 out-requires c κs = search needs
 
--- src/lines.rt:132:1
 returns : tie.Need-returns
 returns c = continue-line (c .before .before .before .before .loop-of .ensures) (c .before .before .before .before .before .spot-of .ensures) (c .before .before .before .spot-of2 .ensures) (c .before .before .child-of .ensures) (c .before .before .before .before .before .before .before .before .before .pre .1 .1) (c .before .line-of .ensures) (c .out .ensures)
 

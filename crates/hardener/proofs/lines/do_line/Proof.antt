@@ -7,19 +7,15 @@ use Rattle.hardener.proofs.lines.do_line.Lts as lts
 use Rattle.hardener.proofs.line.Line.act.Reads as act-reads
 use Rattle.layout.proofs.row.fields_of.Reads as fields-of-reads
 
--- src/lines.rt:21:15
 fields-of-requires : tie.Need-fields-of-requires
 fields-of-requires c κs = search needs
 
--- src/lines.rt:21:40
 cast-act : tie.Need-cast-act
 cast-act c = search needs
 
--- src/lines.rt:21:5
 act-requires : tie.Need-act-requires
 act-requires c κs = search needs
 
--- src/lines.rt:17:1
 returns : tie.Need-returns
 returns c = search (dos, needs)
 

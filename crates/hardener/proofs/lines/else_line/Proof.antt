@@ -9,35 +9,27 @@ use Rattle.layout.proofs.spot.line_past.Reads as line-past-reads
 use Rattle.layout.proofs.spot.opener_of.Reads as opener-of-reads
 use Rattle.layout.proofs.spot.spot_of.Reads as spot-of-reads
 
--- src/lines.rt:92:9
 spot-of-requires : tie.Need-spot-of-requires
 spot-of-requires c κs = search needs
 
--- src/lines.rt:93:9
 opener-of-requires : tie.Need-opener-of-requires
 opener-of-requires c κs = search needs
 
--- src/lines.rt:94:9
 spot-of-requires-2 : tie.Need-spot-of-requires-2
 spot-of-requires-2 c κs = (c .before .before .before .before .before .before .pre .0 .0, c .before .before .before .before .before .before .pre .0 .1, else-inside (c .before .before .before .before .before .before .pre .0 .0) (c .before .before .before .before .before .before .pre .1 .1) (c .before .before .before .before .before .before .pre .1 .2) (c .opener-of .ensures))
 
--- src/lines.rt:95:9
 line-past-requires : tie.Need-line-past-requires
 line-past-requires c κs = search needs
 
--- src/lines.rt:96:39
 add-leave : tie.Need-add-leave
 add-leave c = search needs
 
--- src/lines.rt:96:49
 add-leave-2 : tie.Need-add-leave-2
 add-leave-2 c = search needs
 
--- src/lines.rt:96:5
 leave-requires : tie.Need-leave-requires
 leave-requires c κs = search needs
 
--- src/lines.rt:87:1
 returns : tie.Need-returns
 returns c = else-line (c .before .before .before .before .before .before .before .before .before .before .before .pre .0 .0) (c .before .before .before .before .before .before .before .before .before .before .before .pre .1 .1) (c .before .before .before .before .before .before .before .before .before .before .before .pre .1 .2) (c .before .before .before .before .before .opener-of .ensures) (c .before .before .before .before .before .before .spot-of .ensures) (c .before .before .before .before .spot-of2 .ensures) (c .before .before .before .line-past .ensures) (c .leave .ensures)
 

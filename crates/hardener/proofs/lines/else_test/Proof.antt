@@ -11,39 +11,30 @@ use Rattle.layout.proofs.spot.child_of.Reads as child-of-reads
 use Rattle.layout.proofs.spot.line_after.Reads as line-after-reads
 use Rattle.layout.proofs.spot.spot_of.Reads as spot-of-reads
 
--- src/lines.rt:54:9
 fields-of-requires : tie.Need-fields-of-requires
 fields-of-requires c κs = search needs
 
--- src/lines.rt:55:9
 spot-of-requires : tie.Need-spot-of-requires
 spot-of-requires c κs = search needs
 
--- src/lines.rt:56:9
 child-of-requires : tie.Need-child-of-requires
 child-of-requires c κs = search needs
 
--- src/lines.rt:57:9
 child-of-requires-2 : tie.Need-child-of-requires-2
 child-of-requires-2 c κs = search needs
 
--- src/lines.rt:58:9
 base-of-requires : tie.Need-base-of-requires
 base-of-requires c κs = search needs
 
--- src/lines.rt:59:9
 base-of-requires-2 : tie.Need-base-of-requires-2
 base-of-requires-2 c κs = search needs
 
--- src/lines.rt:60:47
 line-after-requires : tie.Need-line-after-requires
 line-after-requires c κs = (c .before .before .before .before .before .before .before .before .before .before .pre .0 .0, c .before .before .before .before .before .before .before .before .before .before .pre .1 .2 .grows .row)
 
--- src/lines.rt:60:5
 test-requires : tie.Need-test-requires
 test-requires c κs = search needs
 
--- src/lines.rt:49:1
 returns : tie.Need-returns
 returns c = else-test-is (c .before .before .before .before .before .before .before .fields-of .ensures) (c .before .before .before .before .before .before .spot-of .ensures) (c .before .before .before .before .before .before .before .before .before .before .before .before .pre .1 .2) (c .before .before .before .before .before .child-of .ensures) (c .before .before .before .before .child-of2 .ensures) (c .before .before .before .base-of .ensures) (c .before .before .base-of2 .ensures) (c .before .line-after .ensures) (c .test .ensures)
 

@@ -13,67 +13,51 @@ use Rattle.layout.proofs.spot.line_of.Reads as line-of-reads
 use Rattle.layout.proofs.spot.opener_of.Reads as opener-of-reads
 use Rattle.layout.proofs.spot.spot_of.Reads as spot-of-reads
 
--- src/lines.rt:105:9
 spot-of-requires : tie.Need-spot-of-requires
 spot-of-requires c κs = search needs
 
--- src/lines.rt:106:8
 in-body-requires : tie.Need-in-body-requires
 in-body-requires c κs = search needs
 
--- src/lines.rt:107:9
 ret-requires : tie.Need-ret-requires
 ret-requires c κs = search needs
 
--- src/lines.rt:107:9
 returns : tie.Need-returns
 returns c = ret-is (c .before .before .before .before .before .before .before .pre .0 .0) (c .before .before .before .before .before .before .before .pre .1 .0) (c .before .before .before .before .before .before .before .pre .1 .1) (c .before .before .in-body .ensures) (c .before .if1 .taken) (c .before .before .before .spot-of .ensures) (c .ret .ensures)
 
--- src/lines.rt:109:9
 opener-of-requires : tie.Need-opener-of-requires
 opener-of-requires c κs = search needs
 
--- src/lines.rt:110:9
 spot-of-requires-2 : tie.Need-spot-of-requires-2
 spot-of-requires-2 c κs = (c .before .before .before .before .before .before .before .pre .0 .0, c .before .before .before .before .before .before .before .pre .0 .1, end-inside (c .before .before .before .before .before .before .before .pre .1 .0) (c .before .before .in-body .ensures) (c .before .if1 .left) (c .opener-of .ensures))
 
--- src/lines.rt:111:8
 is-loop-requires : tie.Need-is-loop-requires
 is-loop-requires c κs = search needs
 
--- src/lines.rt:112:56
 add-leave : tie.Need-add-leave
 add-leave c = search needs
 
--- src/lines.rt:112:66
 line-of-requires : tie.Need-line-of-requires
 line-of-requires c κs = search needs
 
--- src/lines.rt:112:9
 leave-requires : tie.Need-leave-requires
 leave-requires c κs = search needs
 
--- src/lines.rt:112:9
 returns-2 : tie.Need-returns-2
 returns-2 c = loop-end (c .before .before .before .before .before .before .before .before .before .before .before .before .before .pre .1 .0) (c .before .before .before .before .before .before .before .before .in-body .ensures) (c .before .before .before .before .before .before .before .if1 .left) (c .before .before .before .before .before .before .opener-of .ensures) (c .before .before .before .before .before .before .before .before .before .before .before .before .before .pre .1 .1) (c .before .before .before .before .is-loop .ensures) (c .before .before .before .if2 .taken) (c .before .before .before .before .before .before .before .before .before .spot-of .ensures) (c .before .before .before .before .before .spot-of2 .ensures) (c .before .line-of .ensures) (c .leave .ensures)
 
--- src/lines.rt:114:39
 add-leave-2 : tie.Need-add-leave-2
 add-leave-2 c = search needs
 
--- src/lines.rt:114:49
 add-leave-3 : tie.Need-add-leave-3
 add-leave-3 c = search needs
 
--- src/lines.rt:114:59
 line-after-requires : tie.Need-line-after-requires
 line-after-requires c κs = search needs
 
--- src/lines.rt:114:5
 leave-requires-2 : tie.Need-leave-requires-2
 leave-requires-2 c κs = search needs
 
--- src/lines.rt:100:1
 returns-3 : tie.Need-returns-3
 returns-3 c = if-end (c .before .before .before .before .before .before .before .before .before .before .before .before .before .before .pre .1 .0) (c .before .before .before .before .before .before .before .before .before .in-body .ensures) (c .before .before .before .before .before .before .before .before .if1 .left) (c .before .before .before .before .before .before .before .opener-of .ensures) (c .before .before .before .before .before .before .before .before .before .before .before .before .before .before .pre .0 .0) (c .before .before .before .before .before .before .before .before .before .before .before .before .before .before .pre .1 .1) (c .before .before .before .before .before .is-loop .ensures) (c .before .before .before .before .if2 .left) (c .before .before .before .before .before .before .before .before .before .before .spot-of .ensures) (c .before .before .before .before .before .before .spot-of2 .ensures) (c .before .line-after .ensures) (c .leave2 .ensures)
 

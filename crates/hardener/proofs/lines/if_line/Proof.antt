@@ -8,31 +8,24 @@ use Rattle.hardener.proofs.lines.else_test.Reads as else-test-reads
 use Rattle.hardener.proofs.lines.plain_test.Reads as plain-test-reads
 use Rattle.layout.proofs.row.index.Reads as index-reads
 
--- src/lines.rt:70:24
 mul-index : tie.Need-mul-index
 mul-index c = search needs
 
--- src/lines.rt:70:24
 shared-slice-read-index : tie.Need-shared-slice-read-index
 shared-slice-read-index c = search needs
 
--- src/lines.rt:70:9
 index-requires : tie.Need-index-requires
 index-requires c κs = search needs
 
--- src/lines.rt:72:9
 plain-test-requires : tie.Need-plain-test-requires
 plain-test-requires c κs = search (ifs, needs)
 
--- src/lines.rt:72:9
 returns : tie.Need-returns
 returns c = search (ifs, needs)
 
--- src/lines.rt:74:5
 else-test-requires : tie.Need-else-test-requires
 else-test-requires c κs = search (ifs, needs)
 
--- src/lines.rt:64:1
 returns-2 : tie.Need-returns-2
 returns-2 c = search (ifs, needs)
 

@@ -6,11 +6,9 @@ use Rattle.hardener.proofs.lines.loop_line.Reads as reads
 use Rattle.hardener.proofs.lines.loop_line.Lts as lts
 use Rattle.hardener.proofs.lines.plain_test.Reads as plain-test-reads
 
--- src/lines.rt:83:5
 plain-test-requires : tie.Need-plain-test-requires
 plain-test-requires c κs = search (loops, needs)
 
--- src/lines.rt:78:1
 returns : tie.Need-returns
 returns c = search (loops, needs)
 

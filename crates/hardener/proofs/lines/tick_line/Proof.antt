@@ -7,15 +7,12 @@ use Rattle.hardener.proofs.lines.tick_line.Lts as lts
 use Rattle.hardener.proofs.line.Line.tick.Reads as tick-reads
 use Rattle.layout.proofs.spot.spot_of.Reads as spot-of-reads
 
--- src/lines.rt:30:9
 spot-of-requires : tie.Need-spot-of-requires
 spot-of-requires c κs = search needs
 
--- src/lines.rt:31:5
 tick-requires : tie.Need-tick-requires
 tick-requires c κs = search needs
 
--- src/lines.rt:25:1
 returns : tie.Need-returns
 returns c = search (dos, needs)
 

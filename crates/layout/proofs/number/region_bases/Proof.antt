@@ -9,27 +9,21 @@ use Rattle.layout.proofs.number.sum.Reads as sum-reads
 use Rattle.layout.proofs.place.stand.Reads as stand-reads
 use Rattle.layout.proofs.row.index.Reads as index-reads
 
--- src/number.rt:84:9
 stand-requires : tie.Need-stand-requires
 stand-requires c κs = search needs
 
--- src/number.rt:85:17
 index-requires : tie.Need-index-requires
 index-requires c κs = search needs
 
--- src/number.rt:85:17
 add-count : tie.Need-add-count
 add-count c = search needs
 
--- src/number.rt:86:5
 sum-requires : tie.Need-sum-requires
 sum-requires c κs = search (sums-fit, needs)
 
--- src/number.rt:79:1
 same-length : tie.Need-same-length
 same-length c = search needs
 
--- src/number.rt:79:1
 returns : tie.Need-returns
 returns c = bases-all (c .before .before .before .before .before .stand .ensures) (c .before .before .before .before .before .before .before .before .before .before .pre .1) (c .before .before .before .before .index .ensures) (c .before .before .sum .ensures) (omega arith)
 

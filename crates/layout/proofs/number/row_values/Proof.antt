@@ -14,47 +14,36 @@ Inv-loop rows map bases values₀ n i₀ values i = Valuing rows values₀ value
 abbrev μ-loop : tie.MeasureT-loop
 μ-loop rows map bases values₀ n i₀ values i = n - i
 
--- src/number.rt:108:5
 loop-holds : tie.Need-loop-holds Inv-loop μ-loop
 loop-holds c = search (valuings, needs)
 
--- src/number.rt:109:48
 mul-value : tie.Need-mul-value Inv-loop μ-loop
 mul-value c = search needs
 
--- src/number.rt:109:48
 slice-read-value : tie.Need-slice-read-value Inv-loop μ-loop
 slice-read-value c = search needs
 
--- src/number.rt:109:21
 value-requires : tie.Need-value-requires Inv-loop μ-loop
 value-requires c κs = search (valuings, needs)
 
--- src/number.rt:109:9
 mul-values : tie.Need-mul-values Inv-loop μ-loop
 mul-values c = search (valuings, needs)
 
--- src/number.rt:109:9
 slice-write-values : tie.Need-slice-write-values Inv-loop μ-loop
 slice-write-values c = search (valuings, needs)
 
--- src/number.rt:110:9
 add-i : tie.Need-add-i Inv-loop μ-loop
 add-i c = omega arith
 
--- src/number.rt:108:5
 loop-less : tie.Need-loop-less Inv-loop μ-loop
 loop-less c = omega arith
 
--- src/number.rt:108:5
 loop-again : tie.Need-loop-again Inv-loop μ-loop
 loop-again c = search (valuings, needs)
 
--- src/number.rt:101:1
 same-length : tie.Need-same-length Inv-loop μ-loop
 same-length c = search (valuings, needs)
 
--- src/number.rt:101:1
 returns : tie.Need-returns Inv-loop μ-loop
 returns c = search (valuings, needs)
 

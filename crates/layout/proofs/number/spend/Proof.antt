@@ -8,51 +8,39 @@ use Rattle.layout.proofs.number.spend.Lts as lts
 use Rattle.layout.proofs.number.take.Reads as take-reads
 use Rattle.layout.proofs.row.index.Reads as index-reads
 
--- src/number.rt:45:9
 index-requires : tie.Need-index-requires
 index-requires c κs = search needs
 
--- src/number.rt:46:18
 mul-before : tie.Need-mul-before
 mul-before c = search needs
 
--- src/number.rt:46:18
 slice-read-before : tie.Need-slice-read-before
 slice-read-before c = search needs
 
--- src/number.rt:47:5
 mul-took : tie.Need-mul-took
 mul-took c = search needs
 
--- src/number.rt:47:5
 slice-write-took : tie.Need-slice-write-took
 slice-write-took c = search needs
 
--- src/number.rt:48:25
 take-requires : tie.Need-take-requires
 take-requires c κs = search needs
 
--- src/number.rt:48:16
 add-spent : tie.Need-add-spent
 add-spent c = search (spends, needs)
 
--- src/number.rt:48:5
 mul-spent : tie.Need-mul-spent
 mul-spent c = search needs
 
--- src/number.rt:48:5
 slice-write-spent : tie.Need-slice-write-spent
 slice-write-spent c = search needs
 
--- src/number.rt:40:1
 same-length : tie.Need-same-length
 same-length c = search needs
 
--- src/number.rt:40:1
 same-length-2 : tie.Need-same-length-2
 same-length-2 c = search needs
 
--- src/number.rt:40:1
 returns : tie.Need-returns
 returns c = search (spends, needs)
 

@@ -13,51 +13,39 @@ Inv-loop spent bases₀ count total₀ g₀ bases total g = Summing spent count 
 abbrev μ-loop : tie.MeasureT-loop
 μ-loop spent bases₀ count total₀ g₀ bases total g = count - g
 
--- src/number.rt:69:5
 loop-holds : tie.Need-loop-holds Inv-loop μ-loop
 loop-holds c = search (summings, needs)
 
--- src/number.rt:70:9
 mul-bases : tie.Need-mul-bases Inv-loop μ-loop
 mul-bases c = search (summings, needs)
 
--- src/number.rt:70:9
 slice-write-bases : tie.Need-slice-write-bases Inv-loop μ-loop
 slice-write-bases c = search (summings, needs)
 
--- src/number.rt:71:25
 mul-total : tie.Need-mul-total Inv-loop μ-loop
 mul-total c = search (summings, needs)
 
--- src/number.rt:71:25
 shared-slice-read-total : tie.Need-shared-slice-read-total Inv-loop μ-loop
 shared-slice-read-total c = search (summings, needs)
 
--- src/number.rt:71:17
 add-total : tie.Need-add-total Inv-loop μ-loop
 add-total c = omega (arith, sum-fits (c .before .before .loop .inv) (omega arith) (c .before .before .before .pre .1))
 
--- src/number.rt:71:17
 add-total-2 : tie.Need-add-total-2 Inv-loop μ-loop
 add-total-2 c = omega (arith, sum-fits (c .before .before .loop .inv) (omega arith) (c .before .before .before .pre .1))
 
--- src/number.rt:72:9
 add-g : tie.Need-add-g Inv-loop μ-loop
 add-g c = omega arith
 
--- src/number.rt:69:5
 loop-less : tie.Need-loop-less Inv-loop μ-loop
 loop-less c = omega arith
 
--- src/number.rt:69:5
 loop-again : tie.Need-loop-again Inv-loop μ-loop
 loop-again c = search (summings, needs)
 
--- src/number.rt:62:1
 same-length : tie.Need-same-length Inv-loop μ-loop
 same-length c = search (summings, needs)
 
--- src/number.rt:62:1
 returns : tie.Need-returns Inv-loop μ-loop
 returns c = search (summings, needs)
 

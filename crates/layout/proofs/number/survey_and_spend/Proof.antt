@@ -20,55 +20,42 @@ Inv-loop rows map₀ spent₀ took₀ n here₀ i₀ map spent took here i =
 abbrev μ-loop : tie.MeasureT-loop
 μ-loop rows map₀ spent₀ took₀ n here₀ i₀ map spent took here i = n - i
 
--- src/number.rt:60:9
 outermost-requires : tie.Need-outermost-requires Inv-loop μ-loop
 outermost-requires c κs = search needs
 
--- src/number.rt:62:5
 loop-holds : tie.Need-loop-holds Inv-loop μ-loop
 loop-holds c = (search (surveys, needs), search (spendings, needs))
 
--- src/number.rt:63:9
 keep-requires : tie.Need-keep-requires Inv-loop μ-loop
 keep-requires c κs = search (surveys, needs)
 
--- src/number.rt:64:9
 spend-requires : tie.Need-spend-requires Inv-loop μ-loop
 spend-requires c κs = ((search (surveys, needs), omega arith, omega arith), search (spendings, needs))
 
--- src/number.rt:65:9
 after-requires : tie.Need-after-requires Inv-loop μ-loop
 after-requires c κs = ((search (surveys, needs), omega arith), (search (surveys, needs), omega arith))
 
--- src/number.rt:66:9
 add-i : tie.Need-add-i Inv-loop μ-loop
 add-i c = omega arith
 
--- src/number.rt:62:5
 loop-less : tie.Need-loop-less Inv-loop μ-loop
 loop-less c = omega arith
 
--- src/number.rt:62:5
 loop-again : tie.Need-loop-again Inv-loop μ-loop
 loop-again c = (search (surveys, needs), search (spendings, needs))
 
--- src/number.rt:68:5
 keep-requires-2 : tie.Need-keep-requires-2 Inv-loop μ-loop
 keep-requires-2 c κs = search (surveys, needs)
 
--- src/number.rt:53:1
 same-length : tie.Need-same-length Inv-loop μ-loop
 same-length c = omega arith
 
--- src/number.rt:53:1
 same-length-2 : tie.Need-same-length-2 Inv-loop μ-loop
 same-length-2 c = omega arith
 
--- src/number.rt:53:1
 same-length-3 : tie.Need-same-length-3 Inv-loop μ-loop
 same-length-3 c = omega arith
 
--- src/number.rt:53:1
 returns : tie.Need-returns Inv-loop μ-loop
 returns c = (search (surveys, needs), (search (spendings, needs), search (spendings, needs)))
 

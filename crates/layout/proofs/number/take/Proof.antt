@@ -6,91 +6,69 @@ use Rattle.layout.proofs.number.take.Reads as reads
 use Rattle.layout.proofs.number.take.Lts as lts
 use Rattle.layout.proofs.row.kind.Reads as kind-reads
 
--- src/number.rt:18:11
 kind-requires : tie.Need-kind-requires
 kind-requires c κs = search needs
 
--- src/number.rt:19:27
 enum-told : tie.Need-enum-told
 enum-told c = search needs
 
--- src/number.rt:20:21
 enum-told-2 : tie.Need-enum-told-2
 enum-told-2 c = search needs
 
--- src/number.rt:21:21
 enum-told-3 : tie.Need-enum-told-3
 enum-told-3 c = search needs
 
--- src/number.rt:22:23
 enum-told-4 : tie.Need-enum-told-4
 enum-told-4 c = search needs
 
--- src/number.rt:23:23
 enum-told-5 : tie.Need-enum-told-5
 enum-told-5 c = search needs
 
--- src/number.rt:25:16
 enum-told-6 : tie.Need-enum-told-6
 enum-told-6 c = search needs
 
--- src/number.rt:26:17
 returns : tie.Need-returns
 returns c = search (takings, needs)
 
--- src/number.rt:30:24
 enum-told-7 : tie.Need-enum-told-7
 enum-told-7 c = search needs
 
--- src/number.rt:31:27
 enum-told-8 : tie.Need-enum-told-8
 enum-told-8 c = search needs
 
--- src/number.rt:32:23
 enum-told-9 : tie.Need-enum-told-9
 enum-told-9 c = search needs
 
--- src/number.rt:33:26
 enum-told-10 : tie.Need-enum-told-10
 enum-told-10 c = search needs
 
--- src/number.rt:14:1
 returns-2 : tie.Need-returns-2
 returns-2 c = search (takings, needs)
 
--- src/number.rt:14:1
 returns-3 : tie.Need-returns-3
 returns-3 c = search (takings, needs)
 
--- src/number.rt:14:1
 returns-4 : tie.Need-returns-4
 returns-4 c = search (takings, needs)
 
--- src/number.rt:14:1
 returns-5 : tie.Need-returns-5
 returns-5 c = search (takings, needs)
 
--- src/number.rt:14:1
 returns-6 : tie.Need-returns-6
 returns-6 c = search (takings, needs)
 
--- src/number.rt:14:1
 returns-7 : tie.Need-returns-7
 returns-7 c = search (takings, needs)
 
--- src/number.rt:14:1
 returns-8 : tie.Need-returns-8
 returns-8 c = search (takings, needs)
 
--- src/number.rt:14:1
 returns-9 : tie.Need-returns-9
 returns-9 c = search (takings, needs)
 
--- src/number.rt:14:1
 returns-10 : tie.Need-returns-10
 returns-10 c = search (takings, needs)
 
--- src/number.rt:14:1
 returns-11 : tie.Need-returns-11
 returns-11 c = search (takings, needs)
 

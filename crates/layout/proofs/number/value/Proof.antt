@@ -8,27 +8,21 @@ use Rattle.layout.proofs.number.value.Lts as lts
 use Rattle.layout.proofs.place.stand.Reads as stand-reads
 use Rattle.layout.proofs.row.index.Reads as index-reads
 
--- src/number.rt:95:9
 stand-requires : tie.Need-stand-requires
 stand-requires c κs = search needs
 
--- src/number.rt:96:9
 index-requires : tie.Need-index-requires
 index-requires c κs = search needs
 
--- src/number.rt:97:5
 mul-result : tie.Need-mul-result
 mul-result c = search needs
 
--- src/number.rt:97:5
 shared-slice-read-result : tie.Need-shared-slice-read-result
 shared-slice-read-result c = search needs
 
--- src/number.rt:97:5
 add-result : tie.Need-add-result
 add-result c = search (valued, needs)
 
--- src/number.rt:90:1
 returns : tie.Need-returns
 returns c = search (valued, needs)
 

@@ -14,139 +14,105 @@ use Rattle.layout.proofs.place.look.Reads as look-reads
 use Rattle.layout.proofs.row.index.Reads as index-reads
 use Rattle.layout.proofs.row.kind.Reads as kind-reads
 
--- src/place.rt:149:15
 cast-row : tie.Need-cast-row
 cast-row c = search needs
 
--- src/place.rt:150:11
 kind-requires : tie.Need-kind-requires
 kind-requires c κs = search needs
 
--- src/place.rt:151:27
 enum-told : tie.Need-enum-told
 enum-told c = search needs
 
--- src/place.rt:151:27
 entered-requires : tie.Need-entered-requires
 entered-requires c κs = search needs
 
--- src/place.rt:152:21
 enum-told-2 : tie.Need-enum-told-2
 enum-told-2 c = search needs
 
--- src/place.rt:152:21
 passed-requires : tie.Need-passed-requires
 passed-requires c κs = search needs
 
--- src/place.rt:153:21
 enum-told-3 : tie.Need-enum-told-3
 enum-told-3 c = search needs
 
--- src/place.rt:153:21
 forked-requires : tie.Need-forked-requires
 forked-requires c κs = search needs
 
--- src/place.rt:154:23
 enum-told-4 : tie.Need-enum-told-4
 enum-told-4 c = search needs
 
--- src/place.rt:154:23
 turned-requires : tie.Need-turned-requires
 turned-requires c κs = search needs
 
--- src/place.rt:155:23
 enum-told-5 : tie.Need-enum-told-5
 enum-told-5 c = search needs
 
--- src/place.rt:155:23
 looped-requires : tie.Need-looped-requires
 looped-requires c κs = search needs
 
--- src/place.rt:156:44
 enum-told-6 : tie.Need-enum-told-6
 enum-told-6 c = search needs
 
--- src/place.rt:156:44
 index-requires : tie.Need-index-requires
 index-requires c κs = search needs
 
--- src/place.rt:156:34
 look-requires : tie.Need-look-requires
 look-requires c κs = search needs
 
--- src/place.rt:156:22
 closed-requires : tie.Need-closed-requires
 closed-requires c κs = search needs
 
--- src/place.rt:157:24
 enum-told-7 : tie.Need-enum-told-7
 enum-told-7 c = search needs
 
--- src/place.rt:157:24
 passed-requires-2 : tie.Need-passed-requires-2
 passed-requires-2 c κs = search needs
 
--- src/place.rt:158:27
 enum-told-8 : tie.Need-enum-told-8
 enum-told-8 c = search needs
 
--- src/place.rt:158:27
 passed-requires-3 : tie.Need-passed-requires-3
 passed-requires-3 c κs = search needs
 
--- src/place.rt:159:23
 enum-told-9 : tie.Need-enum-told-9
 enum-told-9 c = search needs
 
--- src/place.rt:159:23
 passed-requires-4 : tie.Need-passed-requires-4
 passed-requires-4 c κs = search needs
 
--- src/place.rt:160:26
 enum-told-10 : tie.Need-enum-told-10
 enum-told-10 c = search needs
 
--- src/place.rt:160:26
 passed-requires-5 : tie.Need-passed-requires-5
 passed-requires-5 c κs = search needs
 
--- src/place.rt:145:1
 returns : tie.Need-returns
 returns c = search (nexts, needs)
 
--- src/place.rt:145:1
 returns-2 : tie.Need-returns-2
 returns-2 c = search (nexts, needs)
 
--- src/place.rt:145:1
 returns-3 : tie.Need-returns-3
 returns-3 c = search (nexts, needs)
 
--- src/place.rt:145:1
 returns-4 : tie.Need-returns-4
 returns-4 c = search (nexts, needs)
 
--- src/place.rt:145:1
 returns-5 : tie.Need-returns-5
 returns-5 c = search (nexts, needs)
 
--- src/place.rt:145:1
 returns-6 : tie.Need-returns-6
 returns-6 c = search (nexts, needs)
 
--- src/place.rt:145:1
 returns-7 : tie.Need-returns-7
 returns-7 c = search (nexts, needs)
 
--- src/place.rt:145:1
 returns-8 : tie.Need-returns-8
 returns-8 c = search (nexts, needs)
 
--- src/place.rt:145:1
 returns-9 : tie.Need-returns-9
 returns-9 c = search (nexts, needs)
 
--- src/place.rt:145:1
 returns-10 : tie.Need-returns-10
 returns-10 c = search (nexts, needs)
 

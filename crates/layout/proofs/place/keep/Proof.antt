@@ -10,83 +10,63 @@ use Rattle.layout.proofs.place.keep.Tie as tie
 use Rattle.layout.proofs.place.keep.Reads as reads
 use Rattle.layout.proofs.place.keep.Lts as lts
 
--- src/place.rt:133:13
 mul-k : tie.Need-mul-k
 mul-k c = search needs
 
--- src/place.rt:134:5
 mul-map : tie.Need-mul-map
 mul-map c = search needs
 
--- src/place.rt:134:5
 slice-write-map : tie.Need-slice-write-map
 slice-write-map c = search needs
 
--- src/place.rt:135:9
 add-map : tie.Need-add-map
 add-map c = search needs
 
--- src/place.rt:135:5
 mul-map-2 : tie.Need-mul-map-2
 mul-map-2 c = search needs
 
--- src/place.rt:135:5
 slice-write-map-2 : tie.Need-slice-write-map-2
 slice-write-map-2 c = simp length-set (omega arith)
 
--- src/place.rt:136:9
 add-map-2 : tie.Need-add-map-2
 add-map-2 c = search needs
 
--- src/place.rt:136:5
 mul-map-3 : tie.Need-mul-map-3
 mul-map-3 c = search needs
 
--- src/place.rt:136:5
 slice-write-map-3 : tie.Need-slice-write-map-3
 slice-write-map-3 c = simp length-set (omega arith)
 
--- src/place.rt:137:9
 add-map-3 : tie.Need-add-map-3
 add-map-3 c = search needs
 
--- src/place.rt:137:5
 mul-map-4 : tie.Need-mul-map-4
 mul-map-4 c = search needs
 
--- src/place.rt:137:5
 slice-write-map-4 : tie.Need-slice-write-map-4
 slice-write-map-4 c = simp length-set (omega arith)
 
--- src/place.rt:138:9
 add-map-4 : tie.Need-add-map-4
 add-map-4 c = search needs
 
--- src/place.rt:138:5
 mul-map-5 : tie.Need-mul-map-5
 mul-map-5 c = search needs
 
--- src/place.rt:138:5
 slice-write-map-5 : tie.Need-slice-write-map-5
 slice-write-map-5 c = simp length-set (omega arith)
 
--- src/place.rt:139:9
 add-map-5 : tie.Need-add-map-5
 add-map-5 c = search needs
 
--- src/place.rt:139:5
 mul-map-6 : tie.Need-mul-map-6
 mul-map-6 c = search needs
 
--- src/place.rt:139:5
 slice-write-map-6 : tie.Need-slice-write-map-6
 slice-write-map-6 c = simp length-set (omega arith)
 
--- src/place.rt:129:1
 same-length : tie.Need-same-length
 same-length c = search needs
 
--- src/place.rt:129:1
 returns : tie.Need-returns
 unfolding putPlace
 returns c = stores (6 * c .args .i) (now (c .args .map)) (c .args .p)

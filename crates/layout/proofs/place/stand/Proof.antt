@@ -6,11 +6,9 @@ use Rattle.layout.proofs.place.stand.Reads as reads
 use Rattle.layout.proofs.place.stand.Lts as lts
 use Rattle.layout.proofs.place.look.Reads as look-reads
 
--- src/place.rt:51:5
 look-requires : tie.Need-look-requires
 look-requires c κs = search needs
 
--- src/place.rt:47:1
 returns : tie.Need-returns
 returns c = search (stand-at, needs)
 

@@ -17,43 +17,33 @@ Inv-loop rows map₀ n here₀ i₀ map here i = Surveying rows map₀ map i her
 abbrev μ-loop : tie.MeasureT-loop
 μ-loop rows map₀ n here₀ i₀ map here i = n - i
 
--- src/place.rt:200:9
 outermost-requires : tie.Need-outermost-requires Inv-loop μ-loop
 outermost-requires c κs = search needs
 
--- src/place.rt:202:5
 loop-holds : tie.Need-loop-holds Inv-loop μ-loop
 loop-holds c = search (surveys, needs)
 
--- src/place.rt:203:9
 keep-requires : tie.Need-keep-requires Inv-loop μ-loop
 keep-requires c κs = search (surveys, needs)
 
--- src/place.rt:204:9
 after-requires : tie.Need-after-requires Inv-loop μ-loop
 after-requires c κs = ((search (surveys, needs), omega arith), (search (surveys, needs), omega arith))
 
--- src/place.rt:205:9
 add-i : tie.Need-add-i Inv-loop μ-loop
 add-i c = omega arith
 
--- src/place.rt:202:5
 loop-less : tie.Need-loop-less Inv-loop μ-loop
 loop-less c = omega arith
 
--- src/place.rt:202:5
 loop-again : tie.Need-loop-again Inv-loop μ-loop
 loop-again c = search (surveys, needs)
 
--- src/place.rt:207:5
 keep-requires-2 : tie.Need-keep-requires-2 Inv-loop μ-loop
 keep-requires-2 c κs = search (surveys, needs)
 
--- src/place.rt:195:1
 same-length : tie.Need-same-length Inv-loop μ-loop
 same-length c = omega arith
 
--- src/place.rt:195:1
 returns : tie.Need-returns Inv-loop μ-loop
 returns c = search (surveys, needs)
 

@@ -6,19 +6,15 @@ use Rattle.layout.proofs.row.kind.Reads as reads
 use Rattle.layout.proofs.row.kind.Lts as lts
 use Rattle.layout.proofs.row.kind_of.Reads as kind-of-reads
 
--- src/row.rt:36:18
 mul-kind-of : tie.Need-mul-kind-of
 mul-kind-of c = search needs
 
--- src/row.rt:36:13
 shared-slice-read-kind-of : tie.Need-shared-slice-read-kind-of
 shared-slice-read-kind-of c = search needs
 
--- src/row.rt:36:5
 kind-of-requires : tie.Need-kind-of-requires
 kind-of-requires c κs = search needs
 
--- src/row.rt:32:1
 returns : tie.Need-returns
 returns c = search (kind-read, needs)
 

@@ -6,52 +6,42 @@ use Rattle.layout.proofs.row.kind_of.Tie as tie
 use Rattle.layout.proofs.row.kind_of.Reads as reads
 use Rattle.layout.proofs.row.kind_of.Lts as lts
 
--- src/row.rt:14:1
 returns : tie.Need-returns
 unfolding kindOf
 returns c = search (known-kind, needs)
 
--- src/row.rt:14:1
 returns-2 : tie.Need-returns-2
 unfolding kindOf
 returns-2 c = search (known-kind, needs)
 
--- src/row.rt:14:1
 returns-3 : tie.Need-returns-3
 unfolding kindOf
 returns-3 c = search (known-kind, needs)
 
--- src/row.rt:14:1
 returns-4 : tie.Need-returns-4
 unfolding kindOf
 returns-4 c = search (known-kind, needs)
 
--- src/row.rt:14:1
 returns-5 : tie.Need-returns-5
 unfolding kindOf
 returns-5 c = search (known-kind, needs)
 
--- src/row.rt:14:1
 returns-6 : tie.Need-returns-6
 unfolding kindOf
 returns-6 c = search (known-kind, needs)
 
--- src/row.rt:14:1
 returns-7 : tie.Need-returns-7
 unfolding kindOf
 returns-7 c = search (known-kind, needs)
 
--- src/row.rt:14:1
 returns-8 : tie.Need-returns-8
 unfolding kindOf
 returns-8 c = search (known-kind, needs)
 
--- src/row.rt:14:1
 returns-9 : tie.Need-returns-9
 unfolding kindOf
 returns-9 c = search (known-kind, needs)
 
--- src/row.rt:14:1
 returns-10 : tie.Need-returns-10
 returns-10 c = search (other-kind, needs)
 

@@ -7,23 +7,18 @@ use Rattle.layout.proofs.spot.base_of.Lts as lts
 use Rattle.layout.proofs.place.stand.Reads as stand-reads
 use Rattle.layout.proofs.row.index.Reads as index-reads
 
--- src/spot.rt:54:9
 stand-requires : tie.Need-stand-requires
 stand-requires c κs = search needs
 
--- src/spot.rt:55:11
 index-requires : tie.Need-index-requires
 index-requires c κs = search needs
 
--- src/spot.rt:55:5
 mul-result : tie.Need-mul-result
 mul-result c = search needs
 
--- src/spot.rt:55:5
 shared-slice-read-result : tie.Need-shared-slice-read-result
 shared-slice-read-result c = search needs
 
--- src/spot.rt:50:1
 returns : tie.Need-returns
 returns c = search (access, needs)
 

@@ -7,27 +7,21 @@ use Rattle.layout.proofs.spot.callee_of.Lts as lts
 use Rattle.layout.proofs.row.fields_of.Reads as fields-of-reads
 use Rattle.layout.proofs.row.index.Reads as index-reads
 
--- src/spot.rt:147:9
 fields-of-requires : tie.Need-fields-of-requires
 fields-of-requires c κs = search needs
 
--- src/spot.rt:148:22
 index-requires : tie.Need-index-requires
 index-requires c κs = search needs
 
--- src/spot.rt:148:16
 mul-index : tie.Need-mul-index
 mul-index c = search needs
 
--- src/spot.rt:148:16
 shared-slice-read-index : tie.Need-shared-slice-read-index
 shared-slice-read-index c = search (callees, needs)
 
--- src/spot.rt:148:5
 index-requires-2 : tie.Need-index-requires-2
 index-requires-2 c κs = search needs
 
--- src/spot.rt:142:1
 returns : tie.Need-returns
 returns c = search (callees, needs)
 

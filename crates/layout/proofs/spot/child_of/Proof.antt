@@ -7,15 +7,12 @@ use Rattle.layout.proofs.spot.child_of.Lts as lts
 use Rattle.layout.proofs.place.stand.Reads as stand-reads
 use Rattle.layout.proofs.spot.local.Reads as local-reads
 
--- src/spot.rt:57:9
 stand-requires : tie.Need-stand-requires
 stand-requires c κs = search needs
 
--- src/spot.rt:58:5
 local-requires : tie.Need-local-requires
 local-requires c κs = search (access, needs)
 
--- src/spot.rt:53:1
 returns : tie.Need-returns
 returns c = search (access, needs)
 

@@ -7,27 +7,21 @@ use Rattle.layout.proofs.spot.end_value.Lts as lts
 use Rattle.layout.proofs.row.index.Reads as index-reads
 use Rattle.layout.proofs.spot.spot_of.Reads as spot-of-reads
 
--- src/spot.rt:157:54
 mul-index : tie.Need-mul-index
 mul-index c = search needs
 
--- src/spot.rt:157:54
 shared-slice-read-index : tie.Need-shared-slice-read-index
 shared-slice-read-index c = search needs
 
--- src/spot.rt:157:43
 index-requires : tie.Need-index-requires
 index-requires c κs = search needs
 
--- src/spot.rt:157:9
 spot-of-requires : tie.Need-spot-of-requires
 spot-of-requires c κs = search (body-ends, needs)
 
--- src/spot.rt:158:5
 add-result : tie.Need-add-result
 add-result c = search needs
 
--- src/spot.rt:152:1
 returns : tie.Need-returns
 returns c = search (body-ends, needs)
 

@@ -6,11 +6,9 @@ use Rattle.layout.proofs.spot.in_body.Reads as reads
 use Rattle.layout.proofs.spot.in_body.Lts as lts
 use Rattle.layout.proofs.place.stand.Reads as stand-reads
 
--- src/spot.rt:100:9
 stand-requires : tie.Need-stand-requires
 stand-requires c κs = search needs
 
--- src/spot.rt:96:1
 returns : tie.Need-returns
 returns c = search (access, needs)
 

@@ -6,87 +6,66 @@ use Rattle.layout.proofs.spot.is_loop.Reads as reads
 use Rattle.layout.proofs.spot.is_loop.Lts as lts
 use Rattle.layout.proofs.row.kind.Reads as kind-reads
 
--- src/spot.rt:109:11
 kind-requires : tie.Need-kind-requires
 kind-requires c κs = search needs
 
--- src/spot.rt:110:27
 enum-told : tie.Need-enum-told
 enum-told c = search needs
 
--- src/spot.rt:111:21
 enum-told-2 : tie.Need-enum-told-2
 enum-told-2 c = search needs
 
--- src/spot.rt:112:21
 enum-told-3 : tie.Need-enum-told-3
 enum-told-3 c = search needs
 
--- src/spot.rt:113:23
 enum-told-4 : tie.Need-enum-told-4
 enum-told-4 c = search needs
 
--- src/spot.rt:114:23
 enum-told-5 : tie.Need-enum-told-5
 enum-told-5 c = search needs
 
--- src/spot.rt:115:22
 enum-told-6 : tie.Need-enum-told-6
 enum-told-6 c = search needs
 
--- src/spot.rt:116:24
 enum-told-7 : tie.Need-enum-told-7
 enum-told-7 c = search needs
 
--- src/spot.rt:117:27
 enum-told-8 : tie.Need-enum-told-8
 enum-told-8 c = search needs
 
--- src/spot.rt:118:23
 enum-told-9 : tie.Need-enum-told-9
 enum-told-9 c = search needs
 
--- src/spot.rt:119:26
 enum-told-10 : tie.Need-enum-told-10
 enum-told-10 c = search needs
 
--- src/spot.rt:105:1
 returns : tie.Need-returns
 returns c = search (loop-kind, needs)
 
--- src/spot.rt:105:1
 returns-2 : tie.Need-returns-2
 returns-2 c = search (loop-kind, needs)
 
--- src/spot.rt:105:1
 returns-3 : tie.Need-returns-3
 returns-3 c = search (loop-kind, needs)
 
--- src/spot.rt:105:1
 returns-4 : tie.Need-returns-4
 returns-4 c = search (loop-kind, needs)
 
--- src/spot.rt:105:1
 returns-5 : tie.Need-returns-5
 returns-5 c = search (loop-kind, needs)
 
--- src/spot.rt:105:1
 returns-6 : tie.Need-returns-6
 returns-6 c = search (loop-kind, needs)
 
--- src/spot.rt:105:1
 returns-7 : tie.Need-returns-7
 returns-7 c = search (loop-kind, needs)
 
--- src/spot.rt:105:1
 returns-8 : tie.Need-returns-8
 returns-8 c = search (loop-kind, needs)
 
--- src/spot.rt:105:1
 returns-9 : tie.Need-returns-9
 returns-9 c = search (loop-kind, needs)
 
--- src/spot.rt:105:1
 returns-10 : tie.Need-returns-10
 returns-10 c = search (loop-kind, needs)
 

@@ -6,15 +6,12 @@ use Rattle.layout.proofs.spot.line_after.Reads as reads
 use Rattle.layout.proofs.spot.line_after.Lts as lts
 use Rattle.layout.proofs.spot.line_of.Reads as line-of-reads
 
--- src/spot.rt:84:24
 add-line-of : tie.Need-add-line-of
 add-line-of c = search needs
 
--- src/spot.rt:84:5
 line-of-requires : tie.Need-line-of-requires
 line-of-requires c κs = search needs
 
--- src/spot.rt:80:1
 returns : tie.Need-returns
 returns c = search (access, needs)
 

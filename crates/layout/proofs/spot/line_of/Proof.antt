@@ -6,11 +6,9 @@ use Rattle.layout.proofs.spot.line_of.Reads as reads
 use Rattle.layout.proofs.spot.line_of.Lts as lts
 use Rattle.layout.proofs.place.stand.Reads as stand-reads
 
--- src/spot.rt:75:9
 stand-requires : tie.Need-stand-requires
 stand-requires c κs = search needs
 
--- src/spot.rt:71:1
 returns : tie.Need-returns
 returns c = search (access, needs)
 

@@ -7,23 +7,18 @@ use Rattle.layout.proofs.spot.line_past.Lts as lts
 use Rattle.layout.proofs.row.index.Reads as index-reads
 use Rattle.layout.proofs.spot.line_after.Reads as line-after-reads
 
--- src/spot.rt:92:38
 mul-index : tie.Need-mul-index
 mul-index c = search needs
 
--- src/spot.rt:92:38
 shared-slice-read-index : tie.Need-shared-slice-read-index
 shared-slice-read-index c = search needs
 
--- src/spot.rt:92:27
 index-requires : tie.Need-index-requires
 index-requires c κs = search needs
 
--- src/spot.rt:92:5
 line-after-requires : tie.Need-line-after-requires
 line-after-requires c κs = search (access, needs)
 
--- src/spot.rt:88:1
 returns : tie.Need-returns
 returns c = search (access, needs)
 

@@ -7,23 +7,18 @@ use Rattle.layout.proofs.spot.spot_of.Lts as lts
 use Rattle.layout.proofs.place.stand.Reads as stand-reads
 use Rattle.layout.proofs.spot.local.Reads as local-reads
 
--- src/spot.rt:42:9
 stand-requires : tie.Need-stand-requires
 stand-requires c κs = search needs
 
--- src/spot.rt:44:12
 local-requires : tie.Need-local-requires
 local-requires c κs = search (access, needs)
 
--- src/spot.rt:45:12
 mul-t7 : tie.Need-mul-t7
 mul-t7 c = search needs
 
--- src/spot.rt:45:12
 shared-slice-read-t9 : tie.Need-shared-slice-read-t9
 shared-slice-read-t9 c = search needs
 
--- src/spot.rt:38:1
 returns : tie.Need-returns
 returns c = search (access, needs)
 

@@ -20,91 +20,69 @@ use Rattle.machine.proofs.words.index.Reads as words-index-reads
 shallow : {d : ℕ} → d + 1 < 16 → d < 15
 shallow h = omega arith
 
--- src/call.rt:31:9
 index-requires : tie.Need-index-requires
 index-requires c κs = search needs
 
--- src/call.rt:32:17
 mul-wrong : tie.Need-mul-wrong
 mul-wrong c = search needs
 
--- src/call.rt:32:17
 slice-read-wrong : tie.Need-slice-read-wrong
 slice-read-wrong c = search needs
 
--- src/call.rt:33:22
 add-full : tie.Need-add-full
 add-full c = search needs
 
--- src/call.rt:35:9
 stay-requires : tie.Need-stay-requires
 stay-requires c κs = search needs
 
--- src/call.rt:35:9
 returns : tie.Need-returns
 returns c = call-alarm _ _ _ _ _ _ _ (c .before .before .before .before .before .index .ensures .0) _ (c .stay .ensures) (eqb-false _ _ (not-true _ (c .before .if1 .taken)))
 
--- src/call.rt:38:9
 stay-requires-2 : tie.Need-stay-requires-2
 stay-requires-2 c κs = search needs
 
--- src/call.rt:38:9
 returns-2 : tie.Need-returns-2
 returns-2 c = call-deep _ _ _ _ _ _ _ (c .before .before .before .before .before .before .index .ensures .0) _ (c .stay2 .ensures) (eqb-true _ _ (not-false _ (c .before .before .if1 .left))) (leb-true _ _ (c .before .if2 .taken))
 
--- src/call.rt:40:5
 mul-counters : tie.Need-mul-counters
 mul-counters c = search needs
 
--- src/call.rt:40:5
 slice-write-counters : tie.Need-slice-write-counters
 slice-write-counters c = search needs
 
--- src/call.rt:41:28
 add-fresh : tie.Need-add-fresh
 add-fresh c = search needs
 
--- src/call.rt:41:5
 fresh-requires : tie.Need-fresh-requires
 fresh-requires c κs = (leb-false _ _ (c .before .before .if2 .left), simp length-set (c .before .before .before .before .before .before .before .before .before .pre .2 .room))
 
--- src/call.rt:42:13
 cast-d : tie.Need-cast-d
 cast-d c = search needs
 
--- src/call.rt:43:17
 add-places : tie.Need-add-places
 add-places c = search needs
 
--- src/call.rt:43:5
 mul-places : tie.Need-mul-places
 mul-places c = search needs
 
--- src/call.rt:43:5
 element-write-places : tie.Need-element-write-places
 element-write-places c = search needs
 
--- src/call.rt:44:5
 element-write-functions : tie.Need-element-write-functions
 element-write-functions c = search needs
 
--- src/call.rt:45:9
 index-requires-2 : tie.Need-index-requires-2
 index-requires-2 c κs = search needs
 
--- src/call.rt:46:24
 element-copy-out-opened : tie.Need-element-copy-out-opened
 element-copy-out-opened c = search needs
 
--- src/call.rt:46:5
 opened-requires : tie.Need-opened-requires
 opened-requires c κs = shallow (leb-false _ _ (c .before .before .before .before .before .before .before .before .before .if2 .left))
 
--- src/call.rt:20:1
 same-length : tie.Need-same-length
 same-length c = c .before .before .before .before .before .before .before .fresh .kept .0 ∙ simp length-set
 
--- src/call.rt:20:1
 returns-3 : tie.Need-returns-3
 returns-3 c = call-opens _ _ _ _ _ _ _ (c .before .before .before .before .before .before .before .before .before .before .before .before .before .before .before .index .ensures .0) _ _ _ (eqb-true _ _ (not-false _ (c .before .before .before .before .before .before .before .before .before .before .before .if1 .left))) (leb-false _ _ (c .before .before .before .before .before .before .before .before .before .before .if2 .left)) (c .before .before .index2 .ensures) (c .opened .ensures) (c .before .before .before .before .before .before .before .fresh .ensures)
 

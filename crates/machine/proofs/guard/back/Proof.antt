@@ -7,45 +7,35 @@ use Rattle.machine.proofs.guard.back.Reads as reads
 use Rattle.machine.proofs.guard.back.Lts as lts
 use Rattle.machine.proofs.words.index.Reads as index-reads
 
--- src/guard.rt:76:9
 index-requires : tie.Need-index-requires
 index-requires c κs = search needs
 
--- src/guard.rt:77:8
 mul-if1 : tie.Need-mul-if1
 mul-if1 c = search needs
 
--- src/guard.rt:77:8
 slice-read-if1 : tie.Need-slice-read-if1
 slice-read-if1 c = search needs
 
--- src/guard.rt:78:9
 returns : tie.Need-returns
 unfolding backOf
 returns c = simp (← c .before .before .before .index .ensures .0, ne-eqb _ _ (c .if1 .taken))
 
--- src/guard.rt:81:9
 returns-2 : tie.Need-returns-2
 unfolding backOf
 returns-2 c = simp (← c .before .before .before .before .before .index .ensures .0, eq-eqb _ _ (c .before .before .if1 .left), ne-eqb _ _ (c .if2 .taken))
 
--- src/guard.rt:83:5
 mul-counters : tie.Need-mul-counters
 mul-counters c = search needs
 
--- src/guard.rt:83:5
 slice-write-counters : tie.Need-slice-write-counters
 slice-write-counters c = search needs
 
--- src/guard.rt:84:16
 add-t9 : tie.Need-add-t9
 add-t9 c = search needs
 
--- src/guard.rt:72:1
 same-length : tie.Need-same-length
 same-length c = search needs
 
--- src/guard.rt:72:1
 returns-3 : tie.Need-returns-3
 unfolding backOf
 returns-3 c = simp (← c .before .before .before .before .before .index .ensures .0, eq-eqb _ _ (c .before .before .if1 .left), eq-eqb _ _ (c .if2 .left))

@@ -9,65 +9,50 @@ use Rattle.machine.proofs.guard.leave.Reads as reads
 use Rattle.machine.proofs.guard.leave.Lts as lts
 use Rattle.machine.proofs.words.index.Reads as index-reads
 
--- src/guard.rt:43:9
 index-requires : tie.Need-index-requires
 index-requires c κs = search needs
 
--- src/guard.rt:44:8
 mul-if1 : tie.Need-mul-if1
 mul-if1 c = search needs
 
--- src/guard.rt:44:8
 slice-read-if1 : tie.Need-slice-read-if1
 slice-read-if1 c = search needs
 
--- src/guard.rt:45:9
 returns : tie.Need-returns
 unfolding leaveOf
 returns c = simp (← c .before .before .before .index .ensures .0, ne-eqb _ _ (c .if1 .taken))
 
--- src/guard.rt:47:5
 mul-counters : tie.Need-mul-counters
 mul-counters c = search needs
 
--- src/guard.rt:47:5
 slice-write-counters : tie.Need-slice-write-counters
 slice-write-counters c = search needs
 
--- src/guard.rt:48:9
 index-requires-2 : tie.Need-index-requires-2
 index-requires-2 c κs = search needs
 
--- src/guard.rt:49:8
 mul-if2 : tie.Need-mul-if2
 mul-if2 c = search needs
 
--- src/guard.rt:49:8
 slice-read-if2 : tie.Need-slice-read-if2
 slice-read-if2 c = simp length-set (omega arith)
 
--- src/guard.rt:50:9
 same-length : tie.Need-same-length
 same-length c = search needs
 
--- src/guard.rt:50:9
 returns-2 : tie.Need-returns-2
 unfolding leaveOf
 returns-2 c = simp (← c .before .before .before .before .before .before .before .index .ensures .0, eq-eqb _ _ (c .before .before .before .before .if1 .left), ← c .before .before .before .index2 .ensures .0, ne-eqb _ _ (c .if2 .taken))
 
--- src/guard.rt:52:5
 mul-counters-2 : tie.Need-mul-counters-2
 mul-counters-2 c = search needs
 
--- src/guard.rt:52:5
 slice-write-counters-2 : tie.Need-slice-write-counters-2
 slice-write-counters-2 c = simp length-set (omega arith)
 
--- src/guard.rt:39:1
 same-length-2 : tie.Need-same-length-2
 same-length-2 c = search needs
 
--- src/guard.rt:39:1
 returns-3 : tie.Need-returns-3
 unfolding leaveOf
 returns-3 c = simp (← c .before .before .before .before .before .before .before .index .ensures .0, eq-eqb _ _ (c .before .before .before .before .if1 .left), ← c .before .before .before .index2 .ensures .0, eq-eqb _ _ (c .if2 .left))

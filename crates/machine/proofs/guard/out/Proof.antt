@@ -9,52 +9,40 @@ use Rattle.machine.proofs.words.index.Reads as index-reads
 use Rattle.machine.proofs.words.put.Reads as put-reads
 use Rattle.machine.proofs.words.zero_part.Reads as zero-part-reads
 
--- src/guard.rt:60:9
 index-requires : tie.Need-index-requires
 index-requires c κs = search needs
 
--- src/guard.rt:61:8
 mul-if1 : tie.Need-mul-if1
 mul-if1 c = search needs
 
--- src/guard.rt:61:8
 slice-read-if1 : tie.Need-slice-read-if1
 slice-read-if1 c = search needs
 
--- src/guard.rt:62:9
 returns : tie.Need-returns
 unfolding outOf
 returns c = simp (← c .before .before .before .index .ensures .0, ne-eqb _ _ (c .if1 .taken))
 
--- src/guard.rt:64:9
 index-requires-2 : tie.Need-index-requires-2
 index-requires-2 c κs = search needs
 
--- src/guard.rt:65:14
 add-n : tie.Need-add-n
 add-n c = search needs
 
--- src/guard.rt:65:14
 sub-n : tie.Need-sub-n
 sub-n c = search needs
 
--- src/guard.rt:65:13
 cast-n : tie.Need-cast-n
 cast-n c = search needs
 
--- src/guard.rt:66:5
 zero-part-requires : tie.Need-zero-part-requires
 zero-part-requires c κs = search needs
 
--- src/guard.rt:67:5
 put-requires : tie.Need-put-requires
 put-requires c κs = search needs
 
--- src/guard.rt:56:1
 same-length : tie.Need-same-length
 same-length c = search needs
 
--- src/guard.rt:56:1
 returns-2 : tie.Need-returns-2
 unfolding outOf
 returns-2 c = simp (← c .before .before .before .before .before .before .before .before .before .before .before .before .before .before .index .ensures .0, eq-eqb _ _ (c .before .before .before .before .before .before .before .before .before .before .before .if1 .left), ← c .before .before .before .before .before .before .before .before .before .before .index2 .ensures .0, c .before .before .put .ensures, c .before .before .before .before .before .before .zero-part .ensures)

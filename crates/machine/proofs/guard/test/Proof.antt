@@ -11,56 +11,43 @@ use Rattle.machine.proofs.guard.test.Lts as lts
 use Rattle.machine.proofs.words.index.Reads as index-reads
 use Rattle.machine.proofs.words.put.Reads as put-reads
 
--- src/guard.rt:26:9
 index-requires : tie.Need-index-requires
 index-requires c κs = search needs
 
--- src/guard.rt:27:8
 mul-if1 : tie.Need-mul-if1
 mul-if1 c = search needs
 
--- src/guard.rt:27:8
 slice-read-if1 : tie.Need-slice-read-if1
 slice-read-if1 c = search needs
 
--- src/guard.rt:28:9
 returns : tie.Need-returns
 unfolding testOf
 returns c = simp (← c .before .before .before .index .ensures .0, ne-eqb _ _ (c .if1 .taken))
 
--- src/guard.rt:30:5
 mul-counters : tie.Need-mul-counters
 mul-counters c = search needs
 
--- src/guard.rt:30:5
 slice-write-counters : tie.Need-slice-write-counters
 slice-write-counters c = search needs
 
--- src/guard.rt:32:9
 put-requires : tie.Need-put-requires
 put-requires c κs = search needs
 
--- src/guard.rt:33:27
 add-t15 : tie.Need-add-t15
 add-t15 c = search needs
 
--- src/guard.rt:33:9
 same-length : tie.Need-same-length
 same-length c = c .before .before .put .kept .0 ∙ simp length-set
 
--- src/guard.rt:33:9
 returns-2 : tie.Need-returns-2
 returns-2 c = test-held _ _ _ _ _ _ _ (c .before .before .before .before .before .before .before .before .index .ensures .0) (c .before .before .before .before .before .if1 .left) (c .before .before .before .before .if2 .taken) (c .before .before .put .ensures)
 
--- src/guard.rt:35:5
 put-requires-2 : tie.Need-put-requires-2
 put-requires-2 c κs = search needs
 
--- src/guard.rt:22:1
 same-length-2 : tie.Need-same-length-2
 same-length-2 c = c .before .before .put2 .kept .0 ∙ simp length-set
 
--- src/guard.rt:22:1
 returns-3 : tie.Need-returns-3
 returns-3 c = test-failed _ _ _ _ _ _ _ (c .before .before .before .before .before .before .before .before .index .ensures .0) (c .before .before .before .before .before .if1 .left) (c .before .before .before .before .if2 .left) (c .before .before .put2 .ensures)
 

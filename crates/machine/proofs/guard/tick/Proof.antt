@@ -7,40 +7,31 @@ use Rattle.machine.proofs.guard.tick.Reads as reads
 use Rattle.machine.proofs.guard.tick.Lts as lts
 use Rattle.machine.proofs.words.index.Reads as index-reads
 
--- src/guard.rt:14:9
 index-requires : tie.Need-index-requires
 index-requires c κs = search needs
 
--- src/guard.rt:15:8
 mul-if1 : tie.Need-mul-if1
 mul-if1 c = search needs
 
--- src/guard.rt:15:8
 slice-read-if1 : tie.Need-slice-read-if1
 slice-read-if1 c = search needs
 
--- src/guard.rt:16:9
 returns : tie.Need-returns
 unfolding tickOf
 returns c = simp (← c .before .before .before .index .ensures .0, ne-eqb _ _ (c .if1 .taken))
 
--- src/guard.rt:18:5
 mul-counters : tie.Need-mul-counters
 mul-counters c = search needs
 
--- src/guard.rt:18:5
 slice-write-counters : tie.Need-slice-write-counters
 slice-write-counters c = search needs
 
--- src/guard.rt:19:16
 add-t8 : tie.Need-add-t8
 add-t8 c = search needs
 
--- src/guard.rt:10:1
 same-length : tie.Need-same-length
 same-length c = search needs
 
--- src/guard.rt:10:1
 returns-2 : tie.Need-returns-2
 unfolding tickOf
 returns-2 c = simp (← c .before .before .before .index .ensures .0, eq-eqb _ _ (c .if1 .left))

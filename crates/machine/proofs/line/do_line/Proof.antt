@@ -8,39 +8,30 @@ use Rattle.machine.proofs.machine.stay.Reads as stay-reads
 use Rattle.machine.proofs.machine.traced.Reads as traced-reads
 use Rattle.machine.proofs.variables.assign.Reads as assign-reads
 
--- src/line.rt:25:5
 assign-requires : tie.Need-assign-requires
 assign-requires c κs = search needs
 
--- src/line.rt:26:13
 cast-k : tie.Need-cast-k
 cast-k c = search needs
 
--- src/line.rt:27:5
 mul-trace : tie.Need-mul-trace
 mul-trace c = search needs
 
--- src/line.rt:27:5
 slice-write-trace : tie.Need-slice-write-trace
 slice-write-trace c = search needs
 
--- src/line.rt:28:16
 add-next : tie.Need-add-next
 add-next c = search needs
 
--- src/line.rt:29:28
 traced-requires : tie.Need-traced-requires
 traced-requires c κs = search needs
 
--- src/line.rt:29:5
 stay-requires : tie.Need-stay-requires
 stay-requires c κs = search needs
 
--- src/line.rt:21:1
 same-length : tie.Need-same-length
 same-length c = search needs
 
--- src/line.rt:21:1
 returns : tie.Need-returns
 unfolding doOf
 returns c = rw (c .stay .ensures, c .before .traced .ensures, c .before .before .before .before .assign .ensures)

@@ -18,211 +18,159 @@ use Rattle.machine.proofs.line.do_line.Reads as do-line-reads
 use Rattle.machine.proofs.line.test_line.Reads as test-line-reads
 use Rattle.machine.proofs.machine.stay.Reads as stay-reads
 
--- src/line.rt:58:16
 cast-next : tie.Need-cast-next
 cast-next c = search needs
 
--- src/line.rt:58:16
 add-next : tie.Need-add-next
 add-next c = search needs
 
--- src/line.rt:61:13
 mul-if1 : tie.Need-mul-if1
 mul-if1 c = search needs
 
--- src/line.rt:61:13
 element-copy-out-if1 : tie.Need-element-copy-out-if1
 element-copy-out-if1 c = search needs
 
--- src/line.rt:62:9
 returned-requires : tie.Need-returned-requires
 returned-requires c κs = search needs
 
--- src/line.rt:62:9
 same-length : tie.Need-same-length
 same-length c = search needs
 
--- src/line.rt:62:9
 returns : tie.Need-returns
 returns c = at-last _ _ _ _ (c .before .before .before .before .if1 .taken) (c .returned .ensures)
 
--- src/line.rt:64:9
 kind-at-requires : tie.Need-kind-at-requires
 kind-at-requires c κs = c .before .before .before .before .before .before .pre .here (c .if1 .left) .line-in
 
--- src/line.rt:66:33
 enum-told : tie.Need-enum-told
 enum-told c = search needs
 
--- src/line.rt:66:33
 fields-at-requires : tie.Need-fields-at-requires
 fields-at-requires c κs = c .before .before .before .before .before .before .before .before .before .pre .here (c .before .before .before .if1 .left) .line-in
 
--- src/line.rt:66:25
 do-line-requires : tie.Need-do-line-requires
 do-line-requires c κs = ((fields-in _ _ _ _ _ (c .before .before .before .before .before .before .before .before .before .before .before .before .pre) (c .before .before .before .before .before .before .if1 .left) Do _ _ (c .before .before .before .before .before .kind-at .ensures) (c .before .before .before .enum-told .given .1) (c .before .before .fields-at .ensures)), c .before .before .before .before .before .before .before .before .before .before .before .before .pre .here (c .before .before .before .before .before .before .if1 .left) .next-in, c .before .before .before .before .before .before .before .before .before .before .before .before .pre .count, c .before .before .before .before .before .before .before .before .before .before .before .before .pre .slot)
 
--- src/line.rt:67:44
 enum-told-2 : tie.Need-enum-told-2
 enum-told-2 c = search needs
 
--- src/line.rt:67:44
 fields-at-requires-2 : tie.Need-fields-at-requires-2
 fields-at-requires-2 c κs = c .before .before .before .before .before .before .before .before .before .pre .here (c .before .before .before .if1 .left) .line-in
 
--- src/line.rt:67:32
 tick-requires : tie.Need-tick-requires
 tick-requires c κs = ((fields-in _ _ _ _ _ (c .before .before .before .before .before .before .before .before .before .before .before .pre) (c .before .before .before .before .before .if1 .left) Tick _ _ (c .before .before .before .before .kind-at .ensures) (c .before .before .enum-told2 .given .1) (c .before .fields-at2 .ensures)), c .before .before .before .before .before .before .before .before .before .before .before .pre .here (c .before .before .before .before .before .if1 .left) .next-in, c .before .before .before .before .before .before .before .before .before .before .before .pre .has-room)
 
--- src/line.rt:67:27
 stay-requires : tie.Need-stay-requires
 stay-requires c κs = search needs
 
--- src/line.rt:68:37
 enum-told-3 : tie.Need-enum-told-3
 enum-told-3 c = search needs
 
--- src/line.rt:68:37
 fields-at-requires-3 : tie.Need-fields-at-requires-3
 fields-at-requires-3 c κs = c .before .before .before .before .before .before .before .before .before .pre .here (c .before .before .before .if1 .left) .line-in
 
--- src/line.rt:68:27
 test-line-requires : tie.Need-test-line-requires
 test-line-requires c κs = ((fields-in _ _ _ _ _ (c .before .before .before .before .before .before .before .before .before .before .before .before .pre) (c .before .before .before .before .before .before .if1 .left) Test _ _ (c .before .before .before .before .before .kind-at .ensures) (c .before .before .before .enum-told3 .given .1) (c .before .before .fields-at3 .ensures)) .0, (fields-in _ _ _ _ _ (c .before .before .before .before .before .before .before .before .before .before .before .before .pre) (c .before .before .before .before .before .before .if1 .left) Test _ _ (c .before .before .before .before .before .kind-at .ensures) (c .before .before .before .enum-told3 .given .1) (c .before .before .fields-at3 .ensures)) .1, c .before .before .before .before .before .before .before .before .before .before .before .before .pre .here (c .before .before .before .before .before .before .if1 .left) .next-in, c .before .before .before .before .before .before .before .before .before .before .before .before .pre .has-room)
 
--- src/line.rt:69:46
 enum-told-4 : tie.Need-enum-told-4
 enum-told-4 c = search needs
 
--- src/line.rt:69:46
 fields-at-requires-4 : tie.Need-fields-at-requires-4
 fields-at-requires-4 c κs = c .before .before .before .before .before .before .before .before .before .pre .here (c .before .before .before .if1 .left) .line-in
 
--- src/line.rt:69:33
 leave-requires : tie.Need-leave-requires
 leave-requires c κs = ((fields-in _ _ _ _ _ (c .before .before .before .before .before .before .before .before .before .before .before .pre) (c .before .before .before .before .before .if1 .left) Leave _ _ (c .before .before .before .before .kind-at .ensures) (c .before .before .enum-told4 .given .1) (c .before .fields-at4 .ensures)), c .before .before .before .before .before .before .before .before .before .before .before .pre .has-room)
 
--- src/line.rt:69:28
 stay-requires-2 : tie.Need-stay-requires-2
 stay-requires-2 c κs = search needs
 
--- src/line.rt:70:42
 enum-told-5 : tie.Need-enum-told-5
 enum-told-5 c = search needs
 
--- src/line.rt:70:42
 fields-at-requires-5 : tie.Need-fields-at-requires-5
 fields-at-requires-5 c κs = c .before .before .before .before .before .before .before .before .before .pre .here (c .before .before .before .if1 .left) .line-in
 
--- src/line.rt:70:31
 out-requires : tie.Need-out-requires
 out-requires c κs = ((fields-in _ _ _ _ _ (c .before .before .before .before .before .before .before .before .before .before .before .pre) (c .before .before .before .before .before .if1 .left) Out _ _ (c .before .before .before .before .kind-at .ensures) (c .before .before .enum-told5 .given .1) (c .before .fields-at5 .ensures)), c .before .before .before .before .before .before .before .before .before .before .before .pre .has-room)
 
--- src/line.rt:70:26
 stay-requires-3 : tie.Need-stay-requires-3
 stay-requires-3 c κs = search needs
 
--- src/line.rt:72:17
 enum-told-6 : tie.Need-enum-told-6
 enum-told-6 c = search needs
 
--- src/line.rt:72:17
 fields-at-requires-6 : tie.Need-fields-at-requires-6
 fields-at-requires-6 c κs = c .before .before .before .before .before .before .before .before .before .pre .here (c .before .before .before .if1 .left) .line-in
 
--- src/line.rt:73:13
 call-requires : tie.Need-call-requires
 call-requires c κs = ((fields-in _ _ _ _ _ (c .before .before .before .before .before .before .before .before .before .before .before .before .before .pre) (c .before .before .before .before .before .before .before .if1 .left) Call _ _ (c .before .before .before .before .before .before .kind-at .ensures) (c .before .before .before .before .enum-told6 .given .1) (c .before .before .before .fields-at6 .ensures)), c .before .before .before .before .before .before .before .before .before .before .before .before .before .pre .here (c .before .before .before .before .before .before .before .if1 .left) .next-in, c .before .before .before .before .before .before .before .before .before .before .before .before .before .pre .has-room)
 
--- src/line.rt:75:44
 enum-told-7 : tie.Need-enum-told-7
 enum-told-7 c = search needs
 
--- src/line.rt:75:44
 fields-at-requires-7 : tie.Need-fields-at-requires-7
 fields-at-requires-7 c κs = c .before .before .before .before .before .before .before .before .before .pre .here (c .before .before .before .if1 .left) .line-in
 
--- src/line.rt:75:32
 back-requires : tie.Need-back-requires
 back-requires c κs = ((fields-in _ _ _ _ _ (c .before .before .before .before .before .before .before .before .before .before .before .pre) (c .before .before .before .before .before .if1 .left) Back _ _ (c .before .before .before .before .kind-at .ensures) (c .before .before .enum-told7 .given .1) (c .before .fields-at7 .ensures)), c .before .before .before .before .before .before .before .before .before .before .before .pre .here (c .before .before .before .before .before .if1 .left) .next-in, c .before .before .before .before .before .before .before .before .before .before .before .pre .has-room)
 
--- src/line.rt:75:27
 stay-requires-4 : tie.Need-stay-requires-4
 stay-requires-4 c κs = search needs
 
--- src/line.rt:77:17
 enum-told-8 : tie.Need-enum-told-8
 enum-told-8 c = search needs
 
--- src/line.rt:77:17
 fields-at-requires-8 : tie.Need-fields-at-requires-8
 fields-at-requires-8 c κs = c .before .before .before .before .before .before .before .before .before .pre .here (c .before .before .before .if1 .left) .line-in
 
--- src/line.rt:78:13
 ret-requires : tie.Need-ret-requires
 ret-requires c κs = search needs
 
--- src/line.rt:43:1
 same-length-2 : tie.Need-same-length-2
 same-length-2 c = search needs
 
--- src/line.rt:43:1
 returns-2 : tie.Need-returns-2
 returns-2 c = do-arm _ _ _ (c .before .before .before .before .before .before .before .before .before .if1 .left) _ _ (c .before .before .before .before .before .before .before .before .kind-at .ensures) (c .before .before .before .before .before .fields-at .ensures) (c .before .before .before .before .before .before .enum-told .given .1) _ _ _ (c .before .before .do-line .ensures)
 
--- src/line.rt:43:1
 same-length-3 : tie.Need-same-length-3
 same-length-3 c = search needs
 
--- src/line.rt:43:1
 returns-3 : tie.Need-returns-3
 returns-3 c = tick-arm _ _ _ (c .before .before .before .before .before .before .before .before .before .if1 .left) _ _ (c .before .before .before .before .before .before .before .before .kind-at .ensures) (c .before .before .before .before .before .fields-at2 .ensures) (c .before .before .before .before .before .before .enum-told2 .given .1) _ _ _ (c .before .before .before .tick .ensures) (c .stay .ensures)
 
--- src/line.rt:43:1
 same-length-4 : tie.Need-same-length-4
 same-length-4 c = search needs
 
--- src/line.rt:43:1
 returns-4 : tie.Need-returns-4
 returns-4 c = test-arm _ _ _ (c .before .before .before .before .before .before .before .before .before .if1 .left) _ _ (c .before .before .before .before .before .before .before .before .kind-at .ensures) (c .before .before .before .before .before .fields-at3 .ensures) (c .before .before .before .before .before .before .enum-told3 .given .1) _ _ (c .before .before .test-line .ensures)
 
--- src/line.rt:43:1
 same-length-5 : tie.Need-same-length-5
 same-length-5 c = search needs
 
--- src/line.rt:43:1
 returns-5 : tie.Need-returns-5
 returns-5 c = leave-arm _ _ _ (c .before .before .before .before .before .before .before .before .before .if1 .left) _ _ (c .before .before .before .before .before .before .before .before .kind-at .ensures) (c .before .before .before .before .before .fields-at4 .ensures) (c .before .before .before .before .before .before .enum-told4 .given .1) _ _ _ (c .before .before .before .leave .ensures) (c .stay2 .ensures)
 
--- src/line.rt:43:1
 same-length-6 : tie.Need-same-length-6
 same-length-6 c = search needs
 
--- src/line.rt:43:1
 returns-6 : tie.Need-returns-6
 returns-6 c = out-arm _ _ _ (c .before .before .before .before .before .before .before .before .before .if1 .left) _ _ (c .before .before .before .before .before .before .before .before .kind-at .ensures) (c .before .before .before .before .before .fields-at5 .ensures) (c .before .before .before .before .before .before .enum-told5 .given .1) _ _ _ (c .before .before .before .out .ensures) (c .stay3 .ensures)
 
--- src/line.rt:43:1
 same-length-7 : tie.Need-same-length-7
 same-length-7 c = search needs
 
--- src/line.rt:43:1
 returns-7 : tie.Need-returns-7
 returns-7 c = call-arm _ _ _ (c .before .before .before .before .before .before .before .before .before .before .if1 .left) _ _ (c .before .before .before .before .before .before .before .before .before .kind-at .ensures) (c .before .before .before .before .before .before .fields-at6 .ensures) (c .before .before .before .before .before .before .before .enum-told6 .given .1) _ _ _ _ (c .before .before .call .ensures)
 
--- src/line.rt:43:1
 same-length-8 : tie.Need-same-length-8
 same-length-8 c = search needs
 
--- src/line.rt:43:1
 returns-8 : tie.Need-returns-8
 returns-8 c = back-arm _ _ _ (c .before .before .before .before .before .before .before .before .before .if1 .left) _ _ (c .before .before .before .before .before .before .before .before .kind-at .ensures) (c .before .before .before .before .before .fields-at7 .ensures) (c .before .before .before .before .before .before .enum-told7 .given .1) _ _ _ (c .before .before .before .back .ensures) (c .stay4 .ensures)
 
--- src/line.rt:43:1
 same-length-9 : tie.Need-same-length-9
 same-length-9 c = search needs
 
--- src/line.rt:43:1
 returns-9 : tie.Need-returns-9
 returns-9 c = ret-arm _ _ _ (c .before .before .before .before .before .before .before .before .before .before .if1 .left) _ _ (c .before .before .before .before .before .before .before .before .before .kind-at .ensures) (c .before .before .before .before .before .before .fields-at8 .ensures) (c .before .before .before .before .before .before .before .enum-told8 .given .1) _ _ (c .before .before .ret .ensures)
 

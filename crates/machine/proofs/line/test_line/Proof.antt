@@ -7,23 +7,18 @@ use Rattle.machine.proofs.guard.test.Reads as test-reads
 use Rattle.machine.proofs.machine.stay.Reads as stay-reads
 use Rattle.machine.proofs.variables.holds.Reads as holds-reads
 
--- src/line.rt:36:9
 holds-requires : tie.Need-holds-requires
 holds-requires c κs = search needs
 
--- src/line.rt:37:9
 test-requires : tie.Need-test-requires
 test-requires c κs = search needs
 
--- src/line.rt:38:5
 stay-requires : tie.Need-stay-requires
 stay-requires c κs = search needs
 
--- src/line.rt:32:1
 same-length : tie.Need-same-length
 same-length c = search needs
 
--- src/line.rt:32:1
 returns : tie.Need-returns
 returns c = rw (c .stay .ensures, ← c .before .before .before .before .before .holds .ensures, ← c .before .before .before .test .ensures)
 

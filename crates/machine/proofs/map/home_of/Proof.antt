@@ -13,23 +13,19 @@ use Rattle.machine.proofs.map.home_of.Reads as reads
 use Rattle.machine.proofs.map.home_of.Lts as lts
 use Rattle.machine.proofs.fields.fields_at.Reads as fields-at-reads
 
--- src/map.rt:49:18
 element-copy-out-finish : tie.Need-element-copy-out-finish
 element-copy-out-finish c = search needs
 
--- src/map.rt:50:38
 sub-fields-at : tie.Need-sub-fields-at
 sub-fields-at c =
     let so = c .before .before .pre .0 in
     omega (arith, c .before .before .pre .1 .start-is 1 (so .first .known), some-place _ so)
 
--- src/map.rt:50:9
 fields-at-requires : tie.Need-fields-at-requires
 fields-at-requires c κs =
     let so = c .before .before .pre .0 in
     line-bytes (now (c .before .before .args .lines)) _ (omega (arith, c .before .before .pre .1 .start-is 1 (so .first .known), home-in (now (c .before .before .args .lines)) so))
 
--- src/map.rt:45:1
 returns : tie.Need-returns
 returns c =
     let so = c .before .before .before .pre .0 in

@@ -35,14 +35,12 @@ not-ret Ret k =
     (⊎-elim (λ z. omega arith)
     (⊎-elim (λ z. omega arith) (⊎-elim (λ z. omega arith) (⊎-elim (λ z. omega arith) (⊎-elim (λ z. omega arith) (λ z. omega arith)))))) k)
 
--- src/map.rt:18:9
 kind-at-requires : tie.Need-kind-at-requires
 kind-at-requires c κs = search needs
 
 enum-told : tie.Need-enum-told
 enum-told c = search needs
 
--- src/map.rt:20:9
 returns : tie.Need-returns
 unfolding passedOf
 returns c =
@@ -50,27 +48,21 @@ returns c =
     ap (λ b. cond b (passed (a .function + 1) (set (now (a .starts)) (a .function + 1) (a .line + 1))) (passed (a .function) (now (a .starts))))
     (sym (ap endsFunction (sym (c .before .kind-at .ensures)) ∙ not-ret (c .before .kind-at .result) (c .match .keys2)))
 
--- src/map.rt:22:16
 add-next : tie.Need-add-next
 add-next c = search needs
 
--- src/map.rt:23:13
 cast-n : tie.Need-cast-n
 cast-n c = search needs
 
--- src/map.rt:24:17
 add-starts : tie.Need-add-starts
 add-starts c = search needs
 
--- src/map.rt:24:5
 mul-starts : tie.Need-mul-starts
 mul-starts c = search needs
 
--- src/map.rt:24:5
 element-write-starts : tie.Need-element-write-starts
 element-write-starts c = search needs
 
--- src/map.rt:14:1
 returns-2 : tie.Need-returns-2
 unfolding passedOf
 returns-2 c =

@@ -19,27 +19,21 @@ Inv-loop lines starts₀ owners₀ count function₀ line₀ starts owners funct
 abbrev μ-loop : tie.MeasureT-loop
 μ-loop lines starts₀ owners₀ count function₀ line₀ starts owners function line = count - line
 
--- src/map.rt:32:17
 cast-count : tie.Need-cast-count Inv-loop μ-loop
 cast-count c = omega (arith, length-lines (now (c .before .args .lines)), c .before .pre .0 .within .few-lines)
 
--- src/map.rt:33:5
 element-write-starts : tie.Need-element-write-starts Inv-loop μ-loop
 element-write-starts c = search needs
 
--- src/map.rt:36:5
 loop-holds : tie.Need-loop-holds Inv-loop μ-loop
 loop-holds c = surveyed-start (linesIn (now (c .before .args .lines))) (c .before .pre .0) (now (c .before .args .starts)) (now (c .before .args .owners)) (c .before .pre .1) (c .before .pre .2)
 
--- src/map.rt:37:17
 cast-k : tie.Need-cast-k Inv-loop μ-loop
 cast-k c = search needs
 
--- src/map.rt:38:9
 element-write-owners : tie.Need-element-write-owners Inv-loop μ-loop
 element-write-owners c = omega (arith, length-lines (now (c .before .before .before .args .lines)), c .loop-test .taken, c .before .before .before .pre .0 .within .few-lines)
 
--- src/map.rt:39:9
 pass-requires : tie.Need-pass-requires Inv-loop μ-loop
 pass-requires c κs =
     let bs = now (c .before .before .before .before .args .lines) in
@@ -47,21 +41,17 @@ pass-requires c κs =
     let h : c .before .before .loop .line < length (linesIn bs) = omega (arith, length-lines bs, c .before .loop-test .taken) in
     (line-bytes bs _ h, omega (arith, h, so .within .few-lines), function-few (linesIn bs) so _ _ _ _ h (c .before .before .loop .inv))
 
--- src/map.rt:40:9
 add-line : tie.Need-add-line Inv-loop μ-loop
 add-line c = omega (arith, length-lines (now (c .before .before .before .before .before .args .lines)), c .before .before .loop-test .taken, c .before .before .before .before .before .pre .0 .within .few-lines)
 
--- src/map.rt:36:5
 loop-less : tie.Need-loop-less Inv-loop μ-loop
 loop-less c = omega (arith, c .before .before .loop-test .taken)
 
--- src/map.rt:36:5
 loop-again : tie.Need-loop-again Inv-loop μ-loop
 loop-again c =
     let bs = now (c .before .before .before .before .before .args .lines) in
     surveyed-next bs (c .before .before .before .before .before .pre .0) _ _ _ _ (omega (arith, length-lines bs, c .before .before .loop-test .taken)) (c .before .before .before .loop .inv) _ _ (c .pass .ensures)
 
--- src/map.rt:28:1
 returns : tie.Need-returns Inv-loop μ-loop
 returns c =
     let bs = now (c .before .before .before .args .lines) in

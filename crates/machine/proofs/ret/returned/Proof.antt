@@ -8,59 +8,45 @@ use Rattle.machine.proofs.machine.closed.Reads as closed-reads
 use Rattle.machine.proofs.machine.stay.Reads as stay-reads
 use Rattle.machine.proofs.words.index.Reads as index-reads
 
--- src/call.rt:58:9
 index-requires : tie.Need-index-requires
 index-requires c κs = search needs
 
--- src/call.rt:59:13
 mul-v : tie.Need-mul-v
 mul-v c = search needs
 
--- src/call.rt:59:13
 shared-slice-read-v : tie.Need-shared-slice-read-v
 shared-slice-read-v c = search needs
 
--- src/call.rt:61:18
 sub-k : tie.Need-sub-k
 sub-k c = search needs
 
--- src/call.rt:61:17
 cast-k : tie.Need-cast-k
 cast-k c = search needs
 
--- src/call.rt:62:35
 element-copy-out-closed : tie.Need-element-copy-out-closed
 element-copy-out-closed c = search needs
 
--- src/call.rt:62:49
 mul-closed : tie.Need-mul-closed
 mul-closed c = search needs
 
--- src/call.rt:62:49
 element-copy-out-closed-2 : tie.Need-element-copy-out-closed-2
 element-copy-out-closed-2 c = search needs
 
--- src/call.rt:62:9
 closed-requires : tie.Need-closed-requires
 closed-requires c κs = search needs
 
--- src/call.rt:62:9
 returns : tie.Need-returns
 returns c = return-closes _ _ _ _ _ _ (c .before .before .before .before .before .before .before .index .ensures .0) _ (c .before .before .before .before .if1 .taken) (c .closed .ensures)
 
--- src/call.rt:65:9
 stay-requires : tie.Need-stay-requires
 stay-requires c κs = search needs
 
--- src/call.rt:65:9
 returns-2 : tie.Need-returns-2
 returns-2 c = return-alarm _ _ _ _ _ _ (c .before .before .before .before .before .index .ensures .0) _ (c .before .before .if1 .left) (c .before .if2 .taken) (c .stay .ensures)
 
--- src/call.rt:67:5
 stay-requires-2 : tie.Need-stay-requires-2
 stay-requires-2 c κs = search needs
 
--- src/call.rt:48:1
 returns-3 : tie.Need-returns-3
 returns-3 c = return-finishes _ _ _ _ _ _ (c .before .before .before .before .before .index .ensures .0) _ (c .before .before .if1 .left) (c .before .if2 .left) (c .stay2 .ensures)
 

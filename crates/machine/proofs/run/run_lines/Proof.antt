@@ -21,74 +21,57 @@ abbrev μ-loop : tie.MeasureT-loop
 μ-loop lines starts owners home budget counters₀ trace₀ places₀ functions₀ variables₀ h₀ left₀ counters trace places functions variables h left =
     left
 
--- src/run.rt:32:5
 loop-holds : tie.Need-loop-holds Inv-loop μ-loop
 loop-holds c = record { going = c .before .before .before .before .before .before .before .pre .1; same = refl; words-long = refl; slots-long = refl }
 
--- src/run.rt:33:21
 add-steps : tie.Need-add-steps Inv-loop μ-loop
 add-steps c = omega (arith, c .before .before .loop .inv .going .few)
 
--- src/run.rt:34:13
 line-requires : tie.Need-line-requires Inv-loop μ-loop
 line-requires c κs = going-steps _ _ (c .before .before .before .before .before .before .before .before .before .before .before .before .before .before .before .pre .0) _ _ (c .before .before .before .before .before .before .before .loop .inv .going) (c .before .before .before .before .before .before .loop-test .taken)
 
--- src/run.rt:49:24
 enum-known-s : tie.Need-enum-known-s Inv-loop μ-loop
 enum-known-s c = c .match .keys1
 
--- src/run.rt:50:21
 standing-requires : tie.Need-standing-requires Inv-loop μ-loop
 standing-requires c κs = search needs
 
--- src/run.rt:51:13
 at-end-requires : tie.Need-at-end-requires Inv-loop μ-loop
 at-end-requires c κs = search needs
 
--- src/run.rt:51:13
 same-length : tie.Need-same-length Inv-loop μ-loop
 same-length c = c .before .before .before .before .before .before .before .before .line .kept .1 .1 .1 .1 .1 .1 .1 .1 .0 ∙ c .before .before .before .before .before .before .before .before .before .before .before .before .before .before .before .before .loop .inv .words-long
 
--- src/run.rt:51:13
 same-length-2 : tie.Need-same-length-2 Inv-loop μ-loop
 same-length-2 c = c .before .before .before .before .before .before .before .before .line .kept .1 .1 .1 .1 .1 .1 .1 .1 .1 .0 ∙ c .before .before .before .before .before .before .before .before .before .before .before .before .before .before .before .before .loop .inv .slots-long
 
--- src/run.rt:51:13
 returns : tie.Need-returns Inv-loop μ-loop
 returns c =
     ap (λ x. stoppedWith x (c .before .before .before .before .before .before .before .before .line .last .1 .1 .1 .1 .1 .1 .1 .1 .0) (c .before .before .before .before .before .before .before .before .line .last .1 .1 .1 .1 .1 .1 .1 .1 .1 .0)) (rw (c .before .standing .ensures) at (c .at-end .ensures))
     ∙ run-stops _ _ _ _ (c .before .before .before .before .before .before .before .before .before .before .before .before .before .before .before .loop-test .taken) _ (c .before .before .before .before .before .before .before .before .line .ensures) (not-went _ (c .before .before .match .keys2)) ∙ sym (c .before .before .before .before .before .before .before .before .before .before .before .before .before .before .before .before .loop .inv .same)
 
--- src/run.rt:53:13
 standing-requires-2 : tie.Need-standing-requires-2 Inv-loop μ-loop
 standing-requires-2 c κs = search needs
 
--- src/run.rt:54:9
 sub-left : tie.Need-sub-left Inv-loop μ-loop
 sub-left c = omega (arith, c .before .before .before .before .before .before .before .before .before .before .before .before .before .before .before .before .loop-test .taken)
 
--- src/run.rt:32:5
 loop-less : tie.Need-loop-less Inv-loop μ-loop
 loop-less c = omega (arith, c .before .before .before .before .before .before .before .before .before .before .before .before .before .before .before .before .loop-test .taken)
 
--- src/run.rt:32:5
 loop-again : tie.Need-loop-again Inv-loop μ-loop
 loop-again c =
     runs-on _ _ (c .before .before .before .before .before .before .before .before .before .before .before .before .before .before .before .before .before .before .before .before .before .before .before .before .before .pre .0) _ _ _ _ (c .before .before .before .before .before .before .before .before .before .before .before .before .before .before .before .before .before .loop .inv) (c .before .before .before .before .before .before .before .before .before .before .before .before .before .before .before .before .loop-test .taken) _ (c .before .before .before .before .before .before .before .before .before .line .ensures) _ (c .before .before .s .given .1) (c .before .before .before .before .before .before .before .before .before .line .kept .1 .1 .1 .1 .1 .1 .1 .1 .0) (c .before .before .before .before .before .before .before .before .before .line .kept .1 .1 .1 .1 .1 .1 .1 .1 .1 .0) _ (c .standing2 .ensures)
 
--- src/run.rt:55:5
 at-end-requires-2 : tie.Need-at-end-requires-2 Inv-loop μ-loop
 at-end-requires-2 c κs = search needs
 
--- src/run.rt:14:1
 same-length-3 : tie.Need-same-length-3 Inv-loop μ-loop
 same-length-3 c = c .before .before .loop .inv .words-long
 
--- src/run.rt:14:1
 same-length-4 : tie.Need-same-length-4 Inv-loop μ-loop
 same-length-4 c = c .before .before .loop .inv .slots-long
 
--- src/run.rt:14:1
 returns-2 : tie.Need-returns-2 Inv-loop μ-loop
 returns-2 c = ap (λ x. stoppedWith x (c .before .before .loop .counters) (c .before .before .loop .trace)) (c .at-end2 .ensures) ∙ run-none _ _ _ _ (c .before .loop-test .left) ∙ sym (c .before .before .loop .inv .same)
 

@@ -15,47 +15,36 @@ use Rattle.machine.proofs.strike.land.Lts as lts
 use Rattle.machine.proofs.machine.at_place.Reads as at-place-reads
 use Rattle.machine.proofs.run.run_lines.Reads as run-lines-reads
 
--- src/strike.rt:29:13
 cast-f : tie.Need-cast-f
 cast-f c = search needs
 
--- src/strike.rt:30:17
 mul-first : tie.Need-mul-first
 mul-first c = search needs
 
--- src/strike.rt:30:17
 element-copy-out-first : tie.Need-element-copy-out-first
 element-copy-out-first c = omega (arith, function-in _ _ (c .before .before .before .before .pre .0) _ _ _ (c .before .before .before .before .pre .1 .stands))
 
--- src/strike.rt:31:23
 add-last : tie.Need-add-last
 add-last c = search needs
 
--- src/strike.rt:31:16
 mul-last : tie.Need-mul-last
 mul-last c = search needs
 
--- src/strike.rt:31:16
 element-copy-out-last : tie.Need-element-copy-out-last
 element-copy-out-last c = omega (arith, function-in _ _ (c .before .before .before .before .before .pre .0) _ _ _ (c .before .before .before .before .before .pre .1 .stands))
 
--- src/strike.rt:31:16
 sub-last : tie.Need-sub-last
 sub-last c = first-before-last _ _ (c .before .before .before .before .before .before .pre .0) _ _ _ (c .before .before .before .before .before .before .pre .1 .stands)
 
--- src/strike.rt:33:9
 returns : tie.Need-returns
 returns c = lands-beyond _ _ _ _ _ (c .if1 .taken)
 
--- src/strike.rt:38:45
 add-at-place : tie.Need-add-at-place
 add-at-place c = omega (arith, c .if1 .left, first-before-last _ _ (c .before .before .before .before .before .before .before .pre .0) _ _ _ (c .before .before .before .before .before .before .before .pre .1 .stands), last-few _ _ (c .before .before .before .before .before .before .before .pre .0) _ _ _ (c .before .before .before .before .before .before .before .pre .1 .stands))
 
--- src/strike.rt:38:9
 at-place-requires : tie.Need-at-place-requires
 at-place-requires c κs = search needs
 
--- src/strike.rt:39:5
 run-lines-requires : tie.Need-run-lines-requires
 run-lines-requires c κs =
     let a = c .before .before .before .before .before .before .before .before .before .before .args in (
@@ -64,15 +53,12 @@ run-lines-requires c κs =
           (going-there _ _ (c .before .before .before .before .before .before .before .before .before .before .pre .0) _ _ (c .before .before .before .before .before .before .before .before .before .before .pre .1) _ (c .before .before .before .if1 .left)),
     )
 
--- src/strike.rt:15:1
 same-length : tie.Need-same-length
 same-length c = search needs
 
--- src/strike.rt:15:1
 same-length-2 : tie.Need-same-length-2
 same-length-2 c = search needs
 
--- src/strike.rt:15:1
 returns-2 : tie.Need-returns-2
 returns-2 c =
     let a = c .before .before .before .before .before .before .before .before .before .before .before .before .before .before .before .args in

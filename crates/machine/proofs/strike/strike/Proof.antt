@@ -11,58 +11,45 @@ use Rattle.machine.proofs.strike.strike.Lts as lts
 use Rattle.machine.proofs.run.run_lines.Reads as run-lines-reads
 use Rattle.machine.proofs.strike.land.Reads as land-reads
 
--- src/strike.rt:59:9
 run-lines-requires : tie.Need-run-lines-requires
 run-lines-requires c κs = search needs
 
--- src/strike.rt:59:9
 same-length : tie.Need-same-length
 same-length c = search needs
 
--- src/strike.rt:59:9
 same-length-2 : tie.Need-same-length-2
 same-length-2 c = search needs
 
--- src/strike.rt:59:9
 returns : tie.Need-returns
 returns c = c .before .before .before .before .run-lines .ensures ∙ struck-none _ _ _ _ _ _ (c .before .before .before .before .before .before .before .if1 .taken)
 
--- src/strike.rt:61:9
 run-lines-requires-2 : tie.Need-run-lines-requires-2
 run-lines-requires-2 c κs = (c .before .before .before .before .before .before .pre .0, going-fewer _ _ _ _ (c .before .before .before .before .before .before .pre .1) (omega (arith, c .before .before .if1 .left)))
 
 enum-told : tie.Need-enum-told
 enum-told c = search needs
 
--- src/strike.rt:64:9
 same-length-3 : tie.Need-same-length-3
 same-length-3 c = search needs
 
--- src/strike.rt:64:9
 same-length-4 : tie.Need-same-length-4
 same-length-4 c = search needs
 
--- src/strike.rt:64:9
 returns-2 : tie.Need-returns-2
 returns-2 c = struck-stopped _ _ _ _ _ _ (c .before .before .before .before .before .before .before .before .if1 .left) _ (c .before .before .before .before .before .run-lines2 .ensures) (not-went _ (c .match .keys2))
 
--- src/strike.rt:66:16
 sub-left : tie.Need-sub-left
 sub-left c = search needs
 
--- src/strike.rt:67:5
 land-requires : tie.Need-land-requires
 land-requires c κs = (c .before .before .before .before .before .before .before .before .before .before .before .before .before .before .before .pre .0, going-left _ _ (c .before .before .before .before .before .before .before .before .before .before .before .before .before .before .before .pre .0) _ _ _ (c .before .before .before .before .before .before .before .before .before .before .before .before .before .before .before .pre .1) (c .before .before .before .before .before .before .before .before .before .before .before .if1 .left) _ (c .before .before .before .before .before .before .before .before .run-lines2 .ensures) _ (c .before .before .enum-told .given .1))
 
--- src/strike.rt:43:1
 same-length-5 : tie.Need-same-length-5
 same-length-5 c = search needs
 
--- src/strike.rt:43:1
 same-length-6 : tie.Need-same-length-6
 same-length-6 c = search needs
 
--- src/strike.rt:43:1
 returns-3 : tie.Need-returns-3
 returns-3 c = c .before .before .before .before .land .ensures ∙ struck-there _ _ _ _ _ _ (c .before .before .before .before .before .before .before .before .before .before .before .before .before .before .before .before .if1 .left) _ (c .before .before .before .before .before .before .before .before .before .before .before .before .before .run-lines2 .ensures) _ (c .before .before .before .before .before .before .before .enum-told .given .1)
 

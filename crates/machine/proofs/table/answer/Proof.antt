@@ -6,11 +6,9 @@ use Rattle.machine.proofs.table.answer.Reads as reads
 use Rattle.machine.proofs.table.answer.Lts as lts
 use Rattle.machine.proofs.table.outcome_of.Reads as outcome-of-reads
 
--- src/table.rt:41:9
 outcome-of-requires : tie.Need-outcome-of-requires
 outcome-of-requires c κs = search needs
 
--- src/table.rt:34:1
 returns : tie.Need-returns
 returns c = rw (c .outcome-of .ensures)
 

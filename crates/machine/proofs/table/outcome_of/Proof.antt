@@ -7,47 +7,37 @@ use Rattle.machine.proofs.table.outcome_of.Tie as tie
 use Rattle.machine.proofs.table.outcome_of.Reads as reads
 use Rattle.machine.proofs.table.outcome_of.Lts as lts
 
--- src/table.rt:26:26
 enum-told : tie.Need-enum-told
 enum-told c = search needs
 
--- src/table.rt:27:27
 enum-told-2 : tie.Need-enum-told-2
 enum-told-2 c = search needs
 
--- src/table.rt:28:24
 enum-told-3 : tie.Need-enum-told-3
 enum-told-3 c = search needs
 
--- src/table.rt:29:33
 enum-told-4 : tie.Need-enum-told-4
 enum-told-4 c = search needs
 
--- src/table.rt:30:28
 enum-told-5 : tie.Need-enum-told-5
 enum-told-5 c = search needs
 
--- src/table.rt:22:1
 returns : tie.Need-returns
 unfolding outcomeOf
 returns c = sym (ap outcomeOf (c .enum-told .given .1))
 
--- src/table.rt:22:1
 returns-2 : tie.Need-returns-2
 unfolding outcomeOf
 returns-2 c = sym (ap outcomeOf (c .enum-told2 .given .1))
 
--- src/table.rt:22:1
 returns-3 : tie.Need-returns-3
 unfolding outcomeOf
 returns-3 c = sym (ap outcomeOf (c .enum-told3 .given .1))
 
--- src/table.rt:22:1
 returns-4 : tie.Need-returns-4
 unfolding outcomeOf
 returns-4 c = sym (ap outcomeOf (c .enum-told4 .given .1))
 
--- src/table.rt:22:1
 returns-5 : tie.Need-returns-5
 unfolding outcomeOf
 returns-5 c = sym (ap outcomeOf (c .enum-told5 .given .1))

@@ -20,15 +20,12 @@ use Rattle.machine.proofs.table.answer.Reads as answer-reads
 use Rattle.machine.proofs.words.clear.Reads as clear-reads
 use Rattle.machine.proofs.words.fresh.Reads as fresh-reads
 
--- src/table.rt:67:5
 fresh-requires : tie.Need-fresh-requires
 fresh-requires c κs = search needs
 
--- src/table.rt:68:9
 begun-requires : tie.Need-begun-requires
 begun-requires c κs = search needs
 
--- src/table.rt:69:9
 strike-requires : tie.Need-strike-requires
 strike-requires c κs =
     let a = c .before .before .before .before .before .before .before .before .before .before .args in (
@@ -37,23 +34,18 @@ strike-requires c κs =
           (going-start (now (a .lines)) (a .variables) (now (a .words)) (now (a .trace)) _ (c .before .before .before .before .before .before .before .before .before .before .pre .0 .sound) (c .before .before .begun .ensures) (c .before .before .before .before .before .before .before .before .before .before .pre .2) (a .budget) (c .before .before .before .before .before .before .before .before .before .before .pre .1) (omega (arith, c .before .before .before .before .before .before .before .before .before .before .fits))),
     )
 
--- src/table.rt:70:5
 clear-requires : tie.Need-clear-requires
 clear-requires c κs = search needs
 
--- src/table.rt:71:5
 answer-requires : tie.Need-answer-requires
 answer-requires c κs = search needs
 
--- src/table.rt:52:1
 same-length : tie.Need-same-length
 same-length c = search needs
 
--- src/table.rt:52:1
 same-length-2 : tie.Need-same-length-2
 same-length-2 c = search needs
 
--- src/table.rt:52:1
 returns : tie.Need-returns
 returns c =
     let a = c .before .before .before .before .before .before .before .before .before .before .before .before .before .before .before .before .before .before .before .before .args in

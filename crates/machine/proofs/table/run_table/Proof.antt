@@ -19,31 +19,24 @@ use Rattle.machine.proofs.map.no_owners.Reads as no-owners-reads
 use Rattle.machine.proofs.map.no_starts.Reads as no-starts-reads
 use Rattle.machine.proofs.table.run_mapped.Reads as run-mapped-reads
 
--- src/table.rt:100:22
 no-starts-requires : tie.Need-no-starts-requires
 no-starts-requires c κs = search needs
 
--- src/table.rt:101:22
 no-owners-requires : tie.Need-no-owners-requires
 no-owners-requires c κs = search needs
 
--- src/table.rt:102:5
 survey-requires : tie.Need-survey-requires
 survey-requires c κs = (sound (now (c .before .before .before .before .before .before .before .args .lines)) (record { each = λ i. omega (arith, c .before .before .before .before .before .before .shared-slice-known .given i) }) (c .before .before .before .before .before .before .before .pre .0), c .before .before .before .no-starts .ensures, c .before .before .no-owners .ensures)
 
--- src/table.rt:103:9
 home-of-requires : tie.Need-home-of-requires
 home-of-requires c κs = (sound (now (c .before .before .before .before .before .before .before .before .before .before .args .lines)) (record { each = λ i. omega (arith, c .before .before .before .before .before .before .before .before .before .shared-slice-known .given i) }) (c .before .before .before .before .before .before .before .before .before .before .pre .0), c .before .before .survey .ensures)
 
--- src/table.rt:114:9
 slice-relend-prefix-run-mapped : tie.Need-slice-relend-prefix-run-mapped
 slice-relend-prefix-run-mapped c = search needs
 
--- src/table.rt:114:9
 slice-aggregate-run-mapped : tie.Need-slice-aggregate-run-mapped
 slice-aggregate-run-mapped c = sym (length-take-le 1024 (now (c .before .before .before .before .before .before .before .before .before .before .before .before .before .before .before .args .counters)) (c .before .before .before .before .before .before .before .before .before .before .before .before .before .before .before .pre .1 .1))
 
--- src/table.rt:104:5
 run-mapped-requires : tie.Need-run-mapped-requires
 run-mapped-requires c κs = (
   record { sound = sound (now (c .before .before .before .before .before .before .before .before .before .before .before .before .before .before .before .args .lines)) (record { each = λ i. omega (arith, c .before .before .before .before .before .before .before .before .before .before .before .before .before .before .shared-slice-known .given i) }) (c .before .before .before .before .before .before .before .before .before .before .before .before .before .before .before .pre .0); mapped = record { located = c .before .before .before .before .before .before .before .survey .ensures; home-is = c .before .before .before .before .home-of .ensures } },
@@ -51,15 +44,12 @@ run-mapped-requires c κs = (
   length-take-le 1024 (now (c .before .before .before .before .before .before .before .before .before .before .before .before .before .before .before .args .counters)) (c .before .before .before .before .before .before .before .before .before .before .before .before .before .before .before .pre .1 .1),
 )
 
--- src/table.rt:87:1
 same-length : tie.Need-same-length
 same-length c = search needs
 
--- src/table.rt:87:1
 same-length-2 : tie.Need-same-length-2
 same-length-2 c = search needs
 
--- src/table.rt:87:1
 returns : tie.Need-returns
 returns c =
     let a = c .before .before .before .before .before .before .before .before .before .before .before .before .before .before .before .before .before .before .before .before .args in

@@ -8,86 +8,66 @@ use Rattle.machine.proofs.variables.assign.Lts as lts
 use Rattle.machine.proofs.variables.difference_of.Reads as difference-of-reads
 use Rattle.machine.proofs.variables.sum_of.Reads as sum-of-reads
 
--- src/variables.rt:24:13
 cast-p : tie.Need-cast-p
 cast-p c = search needs
 
--- src/variables.rt:25:13
 cast-q : tie.Need-cast-q
 cast-q c = search needs
 
--- src/variables.rt:27:9
 mul-variables : tie.Need-mul-variables
 mul-variables c = search needs
 
--- src/variables.rt:27:9
 element-write-variables : tie.Need-element-write-variables
 element-write-variables c = search needs
 
--- src/variables.rt:28:9
 returns : tie.Need-returns
 unfolding doneOn
 returns c = rw (eq-eqb _ _ (c .if1 .taken))
 
--- src/variables.rt:30:13
 mul-y : tie.Need-mul-y
 mul-y c = search needs
 
--- src/variables.rt:30:13
 element-copy-out-y : tie.Need-element-copy-out-y
 element-copy-out-y c = search needs
 
--- src/variables.rt:32:9
 mul-variables-2 : tie.Need-mul-variables-2
 mul-variables-2 c = search needs
 
--- src/variables.rt:32:9
 element-write-variables-2 : tie.Need-element-write-variables-2
 element-write-variables-2 c = search needs
 
--- src/variables.rt:33:9
 returns-2 : tie.Need-returns-2
 unfolding doneOn
 returns-2 c = rw (ne-eqb _ _ (c .before .before .before .if1 .left), eq-eqb _ _ (c .if2 .taken))
 
--- src/variables.rt:35:13
 mul-x : tie.Need-mul-x
 mul-x c = search needs
 
--- src/variables.rt:35:13
 element-copy-out-x : tie.Need-element-copy-out-x
 element-copy-out-x c = search needs
 
--- src/variables.rt:37:24
 sum-of-requires : tie.Need-sum-of-requires
 sum-of-requires c κs = search needs
 
--- src/variables.rt:37:9
 mul-variables-3 : tie.Need-mul-variables-3
 mul-variables-3 c = search needs
 
--- src/variables.rt:37:9
 element-write-variables-3 : tie.Need-element-write-variables-3
 element-write-variables-3 c = search needs
 
--- src/variables.rt:38:9
 returns-3 : tie.Need-returns-3
 unfolding doneOn
 returns-3 c = rw (c .sum-of .ensures, ne-eqb _ _ (c .before .before .before .before .before .before .before .if1 .left), ne-eqb _ _ (c .before .before .before .before .if2 .left), eq-eqb _ _ (c .before .if3 .taken))
 
--- src/variables.rt:40:20
 difference-of-requires : tie.Need-difference-of-requires
 difference-of-requires c κs = search needs
 
--- src/variables.rt:40:5
 mul-variables-4 : tie.Need-mul-variables-4
 mul-variables-4 c = search needs
 
--- src/variables.rt:40:5
 element-write-variables-4 : tie.Need-element-write-variables-4
 element-write-variables-4 c = search needs
 
--- src/variables.rt:20:1
 returns-4 : tie.Need-returns-4
 unfolding doneOn
 returns-4 c = rw (c .difference-of .ensures, ne-eqb _ _ (c .before .before .before .before .before .before .before .if1 .left), ne-eqb _ _ (c .before .before .before .before .if2 .left), ne-eqb _ _ (c .before .if3 .left))

@@ -6,23 +6,18 @@ use Rattle.machine.proofs.words.fresh.Lts as lts
 use Rattle.machine.proofs.words.put.Reads as put-reads
 use Rattle.machine.proofs.words.zero_part.Reads as zero-part-reads
 
--- src/words.rt:49:22
 mul-zero-part : tie.Need-mul-zero-part
 mul-zero-part c = search needs
 
--- src/words.rt:49:5
 zero-part-requires : tie.Need-zero-part-requires
 zero-part-requires c κs = search needs
 
--- src/words.rt:50:5
 put-requires : tie.Need-put-requires
 put-requires c κs = search needs
 
--- src/words.rt:45:1
 same-length : tie.Need-same-length
 same-length c = search needs
 
--- src/words.rt:45:1
 returns : tie.Need-returns
 returns c = rw (c .before .before .put .ensures, c .before .before .before .before .before .before .zero-part .ensures)
 

@@ -7,35 +7,27 @@ use Rattle.machine.proofs.words.zero_part.Reads as reads
 use Rattle.machine.proofs.words.zero_part.Lts as lts
 use Rattle.machine.proofs.words.clear.Reads as clear-reads
 
--- src/words.rt:40:14
 add-to : tie.Need-add-to
 add-to c = search needs
 
--- src/words.rt:41:11
 mul-clear : tie.Need-mul-clear
 mul-clear c = search needs
 
--- src/words.rt:41:11
 sub-clear : tie.Need-sub-clear
 sub-clear c = search needs
 
--- src/words.rt:41:11
 part-clear-start : tie.Need-part-clear-start
 part-clear-start c = search needs
 
--- src/words.rt:41:11
 part-clear-end : tie.Need-part-clear-end
 part-clear-end c = search needs
 
--- src/words.rt:41:5
 clear-requires : tie.Need-clear-requires
 clear-requires c κs = search needs
 
--- src/words.rt:36:1
 same-length : tie.Need-same-length
 same-length c = search needs
 
--- src/words.rt:36:1
 returns : tie.Need-returns
 returns c = let a = c .before .before .before .before .before .args in zeroed-is (a .from) (a .n) (now (a .words)) _ (c .before .before .before .before .before .pre) (c .before .before .clear .ensures)
 

@@ -10,51 +10,39 @@ use Rattle.console.proofs.output.unreadable.Reads as unreadable-reads
 use Rattle.console.proofs.output.within.Reads as within-reads
 use Rattle.readback.proofs.output.read_back.Reads as read-back-reads
 
--- src/output.rt:18:21
 enum-known-read : tie.Need-enum-known-read
 enum-known-read c = search needs
 
--- src/output.rt:19:17
 within-requires : tie.Need-within-requires
 within-requires c κs = search needs
 
--- src/output.rt:20:23
 slice-aggregate-read-back : tie.Need-slice-aggregate-read-back
 slice-aggregate-read-back c = sym (length-take-le _ _ (omega arith))
 
--- src/output.rt:20:38
 slice-relend-prefix-read-back : tie.Need-slice-relend-prefix-read-back
 slice-relend-prefix-read-back c = search needs
 
--- src/output.rt:20:38
 slice-aggregate-read-back-2 : tie.Need-slice-aggregate-read-back-2
 slice-aggregate-read-back-2 c = sym (length-take-le 6144 (c .before .before .before .before .before .before .before .before .before .args .rows .now) (omega arith))
 
--- src/output.rt:20:13
 read-back-requires : tie.Need-read-back-requires
 read-back-requires c κs = (sym (length-take-le 6144 (c .before .before .before .before .before .before .before .before .before .before .args .rows .now) (omega arith)), search needs)
 
--- src/output.rt:22:29
 enum-told : tie.Need-enum-told
 enum-told c = search needs
 
--- src/output.rt:22:29
 unreadable-requires : tie.Need-unreadable-requires
 unreadable-requires c κs = search needs
 
--- src/output.rt:14:1
 same-length : tie.Need-same-length
 same-length c = search needs
 
--- src/output.rt:14:1
 same-length-2 : tie.Need-same-length-2
 same-length-2 c = search needs
 
--- src/output.rt:14:1
 returns : tie.Need-returns
 returns c = search needs
 
--- src/output.rt:14:1
 returns-2 : tie.Need-returns-2
 returns-2 c = search needs
 

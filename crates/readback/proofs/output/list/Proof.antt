@@ -12,39 +12,30 @@ use Rattle.console.proofs.output.within.Reads as within-reads
 use Rattle.io.proofs.write_all.Reads as write-all-reads
 use Rattle.text.proofs.write.listing.Reads as listing-reads
 
--- src/output.rt:42:14
 mul-to : tie.Need-mul-to
 mul-to c = search needs
 
--- src/output.rt:43:28
 slice-aggregate-listing : tie.Need-slice-aggregate-listing
 slice-aggregate-listing c = sym (length-take-le _ _ (omega arith))
 
--- src/output.rt:43:9
 listing-requires : tie.Need-listing-requires
 listing-requires c κs = record { count = c .before .before .before .before .args .count; some-width = omega arith; narrow = omega arith; few = omega (arith, length-take-le (6 * c .before .before .before .before .args .count) (now (c .before .before .before .before .args .rows)) (omega arith)); whole = length-take-le (6 * c .before .before .before .before .args .count) (now (c .before .before .before .before .args .rows)) (omega arith); room = omega (arith, length-take-le (6 * c .before .before .before .before .args .count) (now (c .before .before .before .before .args .rows)) (omega arith)) }
 
--- src/output.rt:44:9
 within-requires : tie.Need-within-requires
 within-requires c κs = search needs
 
--- src/output.rt:45:22
 slice-reshare-prefix-write-all : tie.Need-slice-reshare-prefix-write-all
 slice-reshare-prefix-write-all c = search needs
 
--- src/output.rt:45:22
 slice-aggregate-write-all : tie.Need-slice-aggregate-write-all
 slice-aggregate-write-all c = sym (length-take-le _ _ (omega arith))
 
--- src/output.rt:45:5
 write-all-requires : tie.Need-write-all-requires
 write-all-requires c κs = search needs
 
--- src/output.rt:39:1
 same-length : tie.Need-same-length
 same-length c = search needs
 
--- src/output.rt:39:1
 returns : tie.Need-returns
 returns c = search needs
 

@@ -11,35 +11,27 @@ use Rattle.reader.proofs.candidate.callee.Reads as reads
 use Rattle.reader.proofs.candidate.callee.Lts as lts
 use Rattle.reader.proofs.candidate.go_of.Reads as go-of-reads
 
--- src/candidate.rt:134:14
 go-of-requires : tie.Need-go-of-requires
 go-of-requires c κs = search needs
 
--- src/candidate.rt:134:14
 cast-go : tie.Need-cast-go
 cast-go c = search needs
 
--- src/candidate.rt:136:16
 mul-result : tie.Need-mul-result
 mul-result c = search needs
 
--- src/candidate.rt:136:16
 element-copy-out-result : tie.Need-element-copy-out-result
 element-copy-out-result c = search needs
 
--- src/candidate.rt:136:9
 returns : tie.Need-returns
 returns c = owner-inside (c .before .before .before .before .pre .1) (omega arith) ∙ ap (functionAt (linesIn (now (c .before .before .before .before .args .lines)))) (c .before .before .go-of .ensures)
 
--- src/candidate.rt:138:5
 mul-result-2 : tie.Need-mul-result-2
 mul-result-2 c = search needs
 
--- src/candidate.rt:138:5
 element-copy-out-result-2 : tie.Need-element-copy-out-result-2
 element-copy-out-result-2 c = search needs
 
--- src/candidate.rt:129:1
 returns-2 : tie.Need-returns-2
 returns-2 c = owner-beyond (c .before .before .before .before .pre .1) (omega arith) ∙ ap (functionAt (linesIn (now (c .before .before .before .before .args .lines)))) (c .before .before .go-of .ensures)
 

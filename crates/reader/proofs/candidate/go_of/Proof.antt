@@ -7,19 +7,15 @@ use Rattle.reader.proofs.candidate.go_of.Reads as reads
 use Rattle.reader.proofs.candidate.go_of.Lts as lts
 use Rattle.rules.proofs.bytes.word.Reads as word-reads
 
--- src/candidate.rt:67:25
 mul-word : tie.Need-mul-word
 mul-word c = search needs
 
--- src/candidate.rt:67:25
 add-word : tie.Need-add-word
 add-word c = search needs
 
--- src/candidate.rt:67:5
 word-requires : tie.Need-word-requires
 word-requires c κs = search needs
 
--- src/candidate.rt:63:1
 returns : tie.Need-returns
 unfolding fieldsAt
 returns c = c .word .ensures

@@ -11,19 +11,15 @@ use Rattle.reader.proofs.candidate.leave_kind.Reads as reads
 use Rattle.reader.proofs.candidate.leave_kind.Lts as lts
 use Rattle.reader.proofs.candidate.go_of.Reads as go-of-reads
 
--- src/candidate.rt:111:8
 add-if1 : tie.Need-add-if1
 add-if1 c = search needs
 
--- src/candidate.rt:111:19
 go-of-requires : tie.Need-go-of-requires
 go-of-requires c κs = search needs
 
--- src/candidate.rt:112:9
 returns : tie.Need-returns
 returns c = chosen 4 6 (lt-ltb (suc (c .before .before .before .args .line)) (fieldsAt (now (c .before .before .before .args .lines)) (c .before .before .before .args .line) .go) (omega (arith, c .before .go-of .ensures)))
 
--- src/candidate.rt:107:1
 returns-2 : tie.Need-returns-2
 returns-2 c = other 4 6 (le-ltb (suc (c .before .before .before .args .line)) (fieldsAt (now (c .before .before .before .args .lines)) (c .before .before .before .args .line) .go) (omega (arith, c .before .go-of .ensures)))
 

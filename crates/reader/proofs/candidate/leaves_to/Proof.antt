@@ -13,31 +13,24 @@ use Rattle.machine.proofs.fields.kind_at.Reads as kind-at-reads
 use Rattle.reader.proofs.candidate.is_leave.Reads as is-leave-reads
 use Rattle.reader.proofs.candidate.go_of.Reads as go-of-reads
 
--- src/candidate.rt:75:17
 cast-count : tie.Need-cast-count
 cast-count c = search needs
 
--- src/candidate.rt:77:9
 returns : tie.Need-returns
 returns c = leaves-beyond (now (c .before .before .args .lines)) (c .before .before .args .line) (c .before .before .args .k) (omega arith)
 
--- src/candidate.rt:79:17
 kind-at-requires : tie.Need-kind-at-requires
 kind-at-requires c κs = search needs
 
--- src/candidate.rt:79:8
 is-leave-requires : tie.Need-is-leave-requires
 is-leave-requires c κs = search needs
 
--- src/candidate.rt:80:16
 go-of-requires : tie.Need-go-of-requires
 go-of-requires c κs = search needs
 
--- src/candidate.rt:80:9
 returns-2 : tie.Need-returns-2
 returns-2 c = ap (λ x. eqb x (c .before .before .before .before .before .before .args .k)) (c .go-of .ensures) ∙ leaves-there (now (c .before .before .before .before .before .before .args .lines)) (c .before .before .before .before .before .before .args .line) (c .before .before .before .before .before .before .args .k) (omega arith) (sym (c .before .before .is-leave .ensures ∙ ap isLeave (c .before .before .before .kind-at .ensures)) ∙ c .before .if2 .taken)
 
--- src/candidate.rt:71:1
 returns-3 : tie.Need-returns-3
 returns-3 c = leaves-nowhere (now (c .before .before .before .before .before .args .lines)) (c .before .before .before .before .before .args .line) (c .before .before .before .before .before .args .k) (omega arith) (sym (c .before .is-leave .ensures ∙ ap isLeave (c .before .before .kind-at .ensures)) ∙ c .if2 .left)
 

@@ -9,23 +9,18 @@ use Rattle.reader.proofs.candidate.open.Lts as lts
 use Rattle.reader.proofs.row.Row.bare.Reads as bare-reads
 use Rattle.reader.proofs.row.Row.write.Reads as write-reads
 
--- src/candidate.rt:147:16
 bare-requires : tie.Need-bare-requires
 bare-requires c κs = search needs
 
--- src/candidate.rt:147:9
 write-requires : tie.Need-write-requires
 write-requires c κs = search needs
 
--- src/candidate.rt:147:9
 same-length : tie.Need-same-length
 same-length c = search needs
 
--- src/candidate.rt:147:9
 returns : tie.Need-returns
 returns c = function-row (c .before .before .before .before .before .if1 .taken) (c .before .before .before .before .bare .ensures) (c .before .before .write .ensures)
 
--- src/candidate.rt:142:1
 returns-2 : tie.Need-returns-2
 returns-2 c = no-function-row (now (c .before .before .args .rows)) (c .before .before .args .at) (c .if1 .left)
 

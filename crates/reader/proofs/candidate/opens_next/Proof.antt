@@ -10,15 +10,12 @@ use Rattle.reader.proofs.candidate.opens_next.Lts as lts
 use Rattle.machine.proofs.fields.kind_at.Reads as kind-at-reads
 use Rattle.reader.proofs.functions.ends_function.Reads as ends-function-reads
 
--- src/candidate.rt:157:30
 kind-at-requires : tie.Need-kind-at-requires
 kind-at-requires c κs = search needs
 
--- src/candidate.rt:157:5
 ends-function-requires : tie.Need-ends-function-requires
 ends-function-requires c κs = search needs
 
--- src/candidate.rt:153:1
 returns : tie.Need-returns
 returns c = begins-next (c .before .before .before .pre) (c .ends-function .ensures ∙ ap endsFunction (c .before .kind-at .ensures))
 

@@ -10,15 +10,12 @@ use Rattle.reader.proofs.candidate.out_kind.Reads as reads
 use Rattle.reader.proofs.candidate.out_kind.Lts as lts
 use Rattle.reader.proofs.candidate.go_of.Reads as go-of-reads
 
--- src/candidate.rt:122:15
 go-of-requires : tie.Need-go-of-requires
 go-of-requires c κs = search needs
 
--- src/candidate.rt:123:9
 returns : tie.Need-returns
 returns c = chosen 7 8 (lt-ltb (c .before .before .before .args .line) (fieldsAt (now (c .before .before .before .args .lines)) (c .before .before .before .args .line) .go) (omega (arith, c .before .go-of .ensures)))
 
--- src/candidate.rt:118:1
 returns-2 : tie.Need-returns-2
 returns-2 c = other 7 8 (le-ltb (c .before .before .before .args .line) (fieldsAt (now (c .before .before .before .args .lines)) (c .before .before .before .args .line) .go) (omega (arith, c .before .go-of .ensures)))
 

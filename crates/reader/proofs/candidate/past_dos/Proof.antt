@@ -7,19 +7,15 @@ use Rattle.reader.proofs.candidate.past_dos.Reads as reads
 use Rattle.reader.proofs.candidate.past_dos.Lts as lts
 use Rattle.reader.proofs.dos.dos.Reads as dos-reads
 
--- src/candidate.rt:184:9
 returns : tie.Need-returns
 returns c = no-dos
 
--- src/candidate.rt:186:5
 dos-requires : tie.Need-dos-requires
 dos-requires c κs = search needs
 
--- src/candidate.rt:179:1
 same-length : tie.Need-same-length
 same-length c = search needs
 
--- src/candidate.rt:179:1
 returns-2 : tie.Need-returns-2
 returns-2 c = dos-where (c .before .before .before .before .if1 .left) (c .before .before .dos .ensures)
 

@@ -22,79 +22,60 @@ Inv-loop lines owners rows₀ count at₀ opening₀ line₀ rows at opening lin
 abbrev μ-loop : tie.MeasureT-loop
 μ-loop lines owners rows₀ count at₀ opening₀ line₀ rows at opening line = count - line
 
--- src/candidate.rt:194:17
 cast-count : tie.Need-cast-count Inv-loop μ-loop
 cast-count c = omega arith
 
--- src/candidate.rt:198:5
 loop-holds : tie.Need-loop-holds Inv-loop μ-loop
 loop-holds c = search (readings, needs)
 
--- src/candidate.rt:200:13
 same-length : tie.Need-same-length Inv-loop μ-loop
 same-length c = search needs
 
--- src/candidate.rt:200:13
 returns : tie.Need-returns Inv-loop μ-loop
 returns c = search (readings, needs)
 
--- src/candidate.rt:202:13
 past-dos-requires : tie.Need-past-dos-requires Inv-loop μ-loop
 past-dos-requires c κs = (c .before .before .before .before .before .before .pre .0, omega (arith, c .before .before .before .before .before .before .pre .0 .short), c .before .before .before .loop .inv .length-is)
 
--- src/candidate.rt:204:29
 sub-at : tie.Need-sub-at Inv-loop μ-loop
 sub-at c = omega arith
 
--- src/candidate.rt:204:28
 cast-at : tie.Need-cast-at Inv-loop μ-loop
 cast-at c = search needs
 
--- src/candidate.rt:204:23
 mul-at : tie.Need-mul-at Inv-loop μ-loop
 mul-at c = omega arith
 
--- src/candidate.rt:204:18
 add-at : tie.Need-add-at Inv-loop μ-loop
 add-at c = omega (arith, c .before .before .before .past-dos .ensures .leads _ (c .before .before .before .before .before .before .before .loop .inv) .room)
 
--- src/candidate.rt:198:5
 loop-less : tie.Need-loop-less Inv-loop μ-loop
 loop-less c = omega arith
 
--- src/candidate.rt:198:5
 loop-again : tie.Need-loop-again Inv-loop μ-loop
 loop-again c = c .before .before .before .past-dos .ensures .leads _ (c .before .before .before .before .before .before .before .loop .inv)
 
--- src/candidate.rt:207:17
 open-requires : tie.Need-open-requires Inv-loop μ-loop
 open-requires c κs = omega (arith, (dos-none (c .before .before .before .before .past-dos .ensures) (omega arith) (c .before .before .before .before .before .before .before .before .loop .inv)) .length-is)
 
--- src/candidate.rt:208:13
 stand-requires : tie.Need-stand-requires Inv-loop μ-loop
 stand-requires c κs = (record { table = c .before .before .before .before .before .before .before .before .before .before .before .before .before .before .before .pre .0; inside = omega arith }, c .before .before .before .before .before .before .before .before .before .before .before .before .before .before .before .pre .1, omega (arith, opened-low (c .before .before .before .before .before .before .before .before .before .before .before .before .loop .opening) (c .before .before .before .«open» .ensures), added-length (tableBytes (functionRowIf (c .before .before .before .before .before .before .before .before .before .before .before .before .loop .opening))) (c .before .before .before .«open» .ensures), (dos-none (c .before .before .before .before .before .before .before .before .past-dos .ensures) (omega arith) (c .before .before .before .before .before .before .before .before .before .before .before .before .loop .inv)) .length-is))
 
--- src/candidate.rt:209:13
 opens-next-requires : tie.Need-opens-next-requires Inv-loop μ-loop
 opens-next-requires c κs = record { table = c .before .before .before .before .before .before .before .before .before .before .before .before .before .before .before .before .before .before .pre .0; inside = omega arith }
 
--- src/candidate.rt:210:13
 add-line : tie.Need-add-line Inv-loop μ-loop
 add-line c = omega arith
 
--- src/candidate.rt:198:5
 loop-less-2 : tie.Need-loop-less-2 Inv-loop μ-loop
 loop-less-2 c = omega arith
 
--- src/candidate.rt:198:5
 loop-again-2 : tie.Need-loop-again-2 Inv-loop μ-loop
 loop-again-2 c = reading-next (dos-none (c .before .before .before .before .before .before .before .before .before .before .before .before .past-dos .ensures) (omega arith) (c .before .before .before .before .before .before .before .before .before .before .before .before .before .before .before .before .loop .inv)) (omega arith) (omega arith) (c .before .before .before .before .before .before .before .«open» .ensures) (c .before .before .before .stand .ensures) (c .opens-next .ensures)
 
--- src/candidate.rt:190:1
 same-length-2 : tie.Need-same-length-2 Inv-loop μ-loop
 same-length-2 c = search needs
 
--- src/candidate.rt:190:1
 returns-2 : tie.Need-returns-2 Inv-loop μ-loop
 returns-2 c = search (readings, needs)
 

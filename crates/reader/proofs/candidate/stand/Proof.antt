@@ -18,159 +18,120 @@ use Rattle.reader.proofs.row.Row.call.Reads as call-reads
 use Rattle.reader.proofs.row.Row.copied.Reads as copied-reads
 use Rattle.reader.proofs.row.Row.write.Reads as write-reads
 
--- src/candidate.rt:174:11
 kind-at-requires : tie.Need-kind-at-requires
 kind-at-requires c κs = search needs
 
--- src/candidate.rt:175:25
 enum-told : tie.Need-enum-told
 enum-told c = search needs
 
--- src/candidate.rt:175:25
 copied-requires : tie.Need-copied-requires
 copied-requires c κs = search needs
 
--- src/candidate.rt:175:25
 write-requires : tie.Need-write-requires
 write-requires c κs = search needs
 
--- src/candidate.rt:176:27
 enum-told-2 : tie.Need-enum-told-2
 enum-told-2 c = search needs
 
--- src/candidate.rt:177:39
 enum-told-3 : tie.Need-enum-told-3
 enum-told-3 c = search needs
 
--- src/candidate.rt:177:39
 test-kind-requires : tie.Need-test-kind-requires
 test-kind-requires c κs = search needs
 
--- src/candidate.rt:177:27
 copied-requires-2 : tie.Need-copied-requires-2
 copied-requires-2 c κs = search needs
 
--- src/candidate.rt:177:27
 write-requires-2 : tie.Need-write-requires-2
 write-requires-2 c κs = search needs
 
--- src/candidate.rt:178:38
 enum-told-4 : tie.Need-enum-told-4
 enum-told-4 c = search needs
 
--- src/candidate.rt:178:38
 leave-kind-requires : tie.Need-leave-kind-requires
 leave-kind-requires c κs = search needs
 
--- src/candidate.rt:178:28
 bare-requires : tie.Need-bare-requires
 bare-requires c κs = search needs
 
--- src/candidate.rt:178:28
 write-requires-3 : tie.Need-write-requires-3
 write-requires-3 c κs = search needs
 
--- src/candidate.rt:179:36
 enum-told-5 : tie.Need-enum-told-5
 enum-told-5 c = search needs
 
--- src/candidate.rt:179:36
 out-kind-requires : tie.Need-out-kind-requires
 out-kind-requires c κs = search needs
 
--- src/candidate.rt:179:26
 bare-requires-2 : tie.Need-bare-requires-2
 bare-requires-2 c κs = search needs
 
--- src/candidate.rt:179:26
 write-requires-4 : tie.Need-write-requires-4
 write-requires-4 c κs = search needs
 
--- src/candidate.rt:180:43
 enum-told-6 : tie.Need-enum-told-6
 enum-told-6 c = search needs
 
--- src/candidate.rt:180:43
 callee-requires : tie.Need-callee-requires
 callee-requires c κs = search needs
 
--- src/candidate.rt:180:27
 call-requires : tie.Need-call-requires
 call-requires c κs = search needs
 
--- src/candidate.rt:180:27
 write-requires-5 : tie.Need-write-requires-5
 write-requires-5 c κs = search needs
 
--- src/candidate.rt:181:27
 enum-told-7 : tie.Need-enum-told-7
 enum-told-7 c = search needs
 
--- src/candidate.rt:182:26
 enum-told-8 : tie.Need-enum-told-8
 enum-told-8 c = search needs
 
--- src/candidate.rt:182:26
 bare-requires-3 : tie.Need-bare-requires-3
 bare-requires-3 c κs = search needs
 
--- src/candidate.rt:182:26
 write-requires-6 : tie.Need-write-requires-6
 write-requires-6 c κs = search needs
 
--- src/candidate.rt:170:1
 same-length : tie.Need-same-length
 same-length c = search needs
 
--- src/candidate.rt:170:1
 returns : tie.Need-returns
 returns c = do-row (c .before .before .before .before .before .before .before .before .before .before .pre .0) (sym (c .before .before .before .before .before .before .before .kind-at .ensures) ∙ c .before .before .before .before .before .enum-told .given .1) (c .before .before .before .before .copied .ensures) (c .before .before .write .ensures)
 
--- src/candidate.rt:170:1
 returns-2 : tie.Need-returns-2
 returns-2 c = tick-row (c .before .before .before .before .before .pre .0) (now (c .before .before .before .before .before .args .rows)) (c .before .before .before .before .before .args .at) (sym (c .before .before .kind-at .ensures) ∙ c .enum-told2 .given .1)
 
--- src/candidate.rt:170:1
 same-length-2 : tie.Need-same-length-2
 same-length-2 c = search needs
 
--- src/candidate.rt:170:1
 returns-3 : tie.Need-returns-3
 returns-3 c = test-row (c .before .before .before .before .before .before .before .before .before .before .before .pre .0) (sym (c .before .before .before .before .before .before .before .before .kind-at .ensures) ∙ c .before .before .before .before .before .before .enum-told3 .given .1) (c .before .before .before .before .copied2 .ensures ∙ ap (λ x. copiedRow x (now (c .before .before .before .before .before .before .before .before .before .before .before .args .lines)) (c .before .before .before .before .before .before .before .before .before .before .before .args .line)) (c .before .before .before .before .before .test-kind .ensures)) (c .before .before .write2 .ensures)
 
--- src/candidate.rt:170:1
 same-length-3 : tie.Need-same-length-3
 same-length-3 c = search needs
 
--- src/candidate.rt:170:1
 returns-4 : tie.Need-returns-4
 returns-4 c = leave-row (c .before .before .before .before .before .before .before .before .before .before .before .pre .0) (sym (c .before .before .before .before .before .before .before .before .kind-at .ensures) ∙ c .before .before .before .before .before .before .enum-told4 .given .1) (c .before .before .before .before .bare .ensures ∙ ap bareRow (c .before .before .before .before .before .leave-kind .ensures)) (c .before .before .write3 .ensures)
 
--- src/candidate.rt:170:1
 same-length-4 : tie.Need-same-length-4
 same-length-4 c = search needs
 
--- src/candidate.rt:170:1
 returns-5 : tie.Need-returns-5
 returns-5 c = out-row (c .before .before .before .before .before .before .before .before .before .before .before .pre .0) (sym (c .before .before .before .before .before .before .before .before .kind-at .ensures) ∙ c .before .before .before .before .before .before .enum-told5 .given .1) (c .before .before .before .before .bare2 .ensures ∙ ap bareRow (c .before .before .before .before .before .out-kind .ensures)) (c .before .before .write4 .ensures)
 
--- src/candidate.rt:170:1
 same-length-5 : tie.Need-same-length-5
 same-length-5 c = search needs
 
--- src/candidate.rt:170:1
 returns-6 : tie.Need-returns-6
 returns-6 c = call-row (c .before .before .before .before .before .before .before .before .before .before .before .pre .0) (sym (c .before .before .before .before .before .before .before .before .kind-at .ensures) ∙ c .before .before .before .before .before .before .enum-told6 .given .1) (c .before .before .before .before .before .callee .ensures) (c .before .before .before .before .call .ensures) (c .before .before .write5 .ensures)
 
--- src/candidate.rt:170:1
 returns-7 : tie.Need-returns-7
 returns-7 c = back-row (c .before .before .before .before .before .pre .0) (now (c .before .before .before .before .before .args .rows)) (c .before .before .before .before .before .args .at) (sym (c .before .before .kind-at .ensures) ∙ c .enum-told7 .given .1)
 
--- src/candidate.rt:170:1
 same-length-6 : tie.Need-same-length-6
 same-length-6 c = search needs
 
--- src/candidate.rt:170:1
 returns-8 : tie.Need-returns-8
 returns-8 c = ret-row (c .before .before .before .before .before .before .before .before .before .before .pre .0) (sym (c .before .before .before .before .before .before .before .kind-at .ensures) ∙ c .before .before .before .before .before .enum-told8 .given .1) (c .before .before .before .before .bare3 .ensures) (c .before .before .write6 .ensures)
 

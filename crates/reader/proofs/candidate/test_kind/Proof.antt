@@ -13,23 +13,18 @@ use Rattle.reader.proofs.candidate.leaves_to.Reads as leaves-to-reads
 use Rattle.reader.proofs.candidate.line_before.Reads as line-before-reads
 use Rattle.reader.proofs.candidate.go_of.Reads as go-of-reads
 
--- src/candidate.rt:90:9
 go-of-requires : tie.Need-go-of-requires
 go-of-requires c κs = search needs
 
--- src/candidate.rt:91:25
 line-before-requires : tie.Need-line-before-requires
 line-before-requires c κs = search needs
 
--- src/candidate.rt:91:8
 leaves-to-requires : tie.Need-leaves-to-requires
 leaves-to-requires c κs = search needs
 
--- src/candidate.rt:92:9
 returns : tie.Need-returns
 returns c = chosen 5 3 (sym (c .before .leaves-to .ensures ∙ ap (λ j. leavesTo (c .before .before .before .before .before .args .line) (lineAt (linesIn (now (c .before .before .before .before .before .args .lines))) j)) (c .before .before .line-before .ensures ∙ ap (λ x. x - 1) (c .before .before .before .go-of .ensures))) ∙ c .if1 .taken)
 
--- src/candidate.rt:86:1
 returns-2 : tie.Need-returns-2
 returns-2 c = other 5 3 (sym (c .before .leaves-to .ensures ∙ ap (λ j. leavesTo (c .before .before .before .before .before .args .line) (lineAt (linesIn (now (c .before .before .before .before .before .args .lines))) j)) (c .before .before .line-before .ensures ∙ ap (λ x. x - 1) (c .before .before .before .go-of .ensures))) ∙ c .if1 .left)
 

@@ -8,11 +8,9 @@ use Rattle.reader.proofs.compare.and_same.Tie as tie
 use Rattle.reader.proofs.compare.and_same.Reads as reads
 use Rattle.reader.proofs.compare.and_same.Lts as lts
 
--- src/compare.rt:36:9
 returns : tie.Need-returns
 returns c = and-kept (c .before .args .equal) (c .before .args .x) (c .before .args .y) (c .if1 .taken)
 
--- src/compare.rt:32:1
 returns-2 : tie.Need-returns-2
 returns-2 c = and-lost (c .before .args .equal) (c .before .args .x) (c .before .args .y) (c .if1 .left)
 

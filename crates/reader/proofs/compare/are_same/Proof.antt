@@ -19,35 +19,27 @@ Inv-loop xs ys equal₀ k₀ equal k = (k ≤ length xs) × (equal ≡ same (tak
 abbrev μ-loop : tie.MeasureT-loop
 μ-loop xs ys equal₀ k₀ equal k = length xs - k
 
--- src/compare.rt:48:5
 loop-holds : tie.Need-loop-holds Inv-loop μ-loop
 loop-holds c = (omega arith, same-none (now (c .before .before .args .xs)) (now (c .before .before .args .ys)))
 
--- src/compare.rt:49:33
 shared-slice-read-and-same : tie.Need-shared-slice-read-and-same Inv-loop μ-loop
 shared-slice-read-and-same c = search needs
 
--- src/compare.rt:49:40
 shared-slice-read-and-same-2 : tie.Need-shared-slice-read-and-same-2 Inv-loop μ-loop
 shared-slice-read-and-same-2 c = search needs
 
--- src/compare.rt:49:9
 and-same-requires : tie.Need-and-same-requires Inv-loop μ-loop
 and-same-requires c κs = search needs
 
--- src/compare.rt:50:9
 add-k : tie.Need-add-k Inv-loop μ-loop
 add-k c = omega arith
 
--- src/compare.rt:48:5
 loop-less : tie.Need-loop-less Inv-loop μ-loop
 loop-less c = omega arith
 
--- src/compare.rt:48:5
 loop-again : tie.Need-loop-again Inv-loop μ-loop
 loop-again c = (omega arith, same-next (now (c .before .before .before .before .before .before .before .args .xs)) (now (c .before .before .before .before .before .before .before .args .ys)) {k = c .before .before .before .before .loop .k} (c .before .before .before .before .loop .inv .1) (omega arith) (c .before .before .before .before .before .before .before .pre) (c .and-same .ensures))
 
--- src/compare.rt:42:1
 returns : tie.Need-returns Inv-loop μ-loop
 returns c = same-all (now (c .before .before .before .before .args .xs)) (now (c .before .before .before .before .args .ys)) {k = c .before .loop .k} (c .before .loop .inv .1) (omega arith) (c .before .before .before .before .pre)
 

@@ -11,23 +11,18 @@ use Rattle.reader.proofs.compare.hardens_long.Lts as lts
 use Rattle.reader.proofs.compare.line_bytes.Reads as line-bytes-reads
 use Rattle.reader.proofs.compare.makes.Reads as makes-reads
 
--- src/compare.rt:87:20
 line-bytes-requires : tie.Need-line-bytes-requires
 line-bytes-requires c κs = search needs
 
--- src/compare.rt:89:44
 array-borrow-prefix-made : tie.Need-array-borrow-prefix-made
 array-borrow-prefix-made c = search needs
 
--- src/compare.rt:89:44
 slice-aggregate-makes : tie.Need-slice-aggregate-makes
 slice-aggregate-makes c = sym (length-take-le _ _ (omega arith))
 
--- src/compare.rt:89:5
 makes-requires : tie.Need-makes-requires
 makes-requires c κs = (c .before .before .before .before .pre .0, c .before .before .before .before .pre .1, length-take-le _ _ (omega arith))
 
--- src/compare.rt:77:1
 returns : tie.Need-returns
 returns c = c .before .makes .ensures
 

@@ -14,39 +14,30 @@ use Rattle.reader.proofs.compare.hardens_linked.Reads as hardens-linked
 use Rattle.table.proofs.check.row_words.Reads as row-words-reads
 use Rattle.table.proofs.check.check.Reads as check-reads
 
--- src/compare.rt:97:20
 row-words-requires : tie.Need-row-words-requires
 row-words-requires c κs = search needs
 
--- src/compare.rt:98:21
 row-words-requires-2 : tie.Need-row-words-requires-2
 row-words-requires-2 c κs = search needs
 
--- src/compare.rt:99:21
 function-words-requires : tie.Need-function-words-requires
 function-words-requires c κs = search needs
 
--- src/compare.rt:100:11
 check-requires : tie.Need-check-requires
 check-requires c κs = search needs
 
--- src/compare.rt:101:32
 enum-told : tie.Need-enum-told
 enum-told c = search needs
 
--- src/compare.rt:102:51
 enum-told-2 : tie.Need-enum-told-2
 enum-told-2 c = search needs
 
--- src/compare.rt:102:30
 hardens-linked-requires : tie.Need-hardens-linked-requires
 hardens-linked-requires c κs = (sym (c .before .before .before .before .before .check .ensures .verdict-is) ∙ c .before .before .before .enum-told2 .given .1, c .before .before .before .before .before .check .ensures .links (c .before .before .before .enum-told2 .given .1), c .before .before .before .before .before .before .before .before .before .before .before .before .before .before .pre)
 
--- src/compare.rt:93:1
 returns : tie.Need-returns
 returns c = judged-refused (verdictOf (now (c .before .before .before .before .before .before .before .before .before .before .before .args .rows))) _ (ap isAccepted (sym (c .before .before .check .ensures .verdict-is) ∙ c .enum-told .given .1))
 
--- src/compare.rt:93:1
 returns-2 : tie.Need-returns-2
 returns-2 c = judged-accepted (verdictOf (now (c .before .before .before .before .before .before .before .before .before .before .before .before .before .before .before .args .rows))) (ap isAccepted (sym (c .before .before .before .before .before .before .check .ensures .verdict-is) ∙ c .before .before .before .before .enum-told2 .given .1)) (c .hardens-linked .ensures)
 

@@ -11,35 +11,27 @@ use Rattle.reader.proofs.compare.makes.Lts as lts
 use Rattle.hardener.proofs.harden_linked.Reads as harden-linked-reads
 use Rattle.reader.proofs.compare.are_same.Reads as are-same-reads
 
--- src/compare.rt:67:9
 harden-linked-requires : tie.Need-harden-linked-requires
 harden-linked-requires c κs = (c .before .before .before .before .pre .0, c .before .before .before .before .pre .1)
 
--- src/compare.rt:69:9
 same-length : tie.Need-same-length
 same-length c = search needs
 
--- src/compare.rt:69:9
 returns : tie.Need-returns
 returns c = makes-long (hardenedBytes (now (c .before .before .before .before .before .before .before .before .before .args .rows))) (now (c .before .before .before .before .before .before .before .before .before .args .made)) (now (c .before .before .before .before .before .before .before .before .before .args .lines)) (c .before .before .before .before .harden-linked .ensures) (c .before .before .before .before .before .before .before .before .before .pre .2) (c .if1 .taken)
 
--- src/compare.rt:72:9
 same-length-2 : tie.Need-same-length-2
 same-length-2 c = search needs
 
--- src/compare.rt:72:9
 returns-2 : tie.Need-returns-2
 returns-2 c = makes-short (hardenedBytes (now (c .before .before .before .before .before .before .before .before .before .before .before .args .rows))) (now (c .before .before .before .before .before .before .before .before .before .before .before .args .made)) (now (c .before .before .before .before .before .before .before .before .before .before .before .args .lines)) (c .before .before .before .before .before .before .harden-linked .ensures) (c .before .before .before .before .before .before .before .before .before .before .before .pre .2) (c .before .before .if1 .left) (c .if2 .taken)
 
--- src/compare.rt:74:5
 are-same-requires : tie.Need-are-same-requires
 are-same-requires c κs = search needs
 
--- src/compare.rt:56:1
 same-length-3 : tie.Need-same-length-3
 same-length-3 c = search needs
 
--- src/compare.rt:56:1
 returns-3 : tie.Need-returns-3
 returns-3 c = makes-same (hardenedBytes (now (c .before .before .before .before .before .before .before .before .before .before .before .before .before .args .rows))) (now (c .before .before .before .before .before .before .before .before .before .before .before .before .before .args .made)) (now (c .before .before .before .before .before .before .before .before .before .before .before .before .before .args .lines)) (c .before .before .before .before .before .before .before .before .harden-linked .ensures) (c .before .before .before .before .before .before .before .before .before .before .before .before .before .pre .2) (c .before .before .before .before .if1 .left) (c .before .before .if2 .left) (c .are-same .ensures)
 

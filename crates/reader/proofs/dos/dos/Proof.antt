@@ -17,47 +17,36 @@ Inv-loop lines line rows₀ at next₀ to₀ rows next to = DosTo lines rows₀ 
 abbrev μ-loop : tie.MeasureT-loop
 μ-loop lines line rows₀ at next₀ to₀ rows next to = 65536 - to
 
--- src/dos.rt:39:5
 loop-holds : tie.Need-loop-holds Inv-loop μ-loop
 loop-holds c = dos-start (c .before .before .pre .1) (c .before .before .pre .2)
 
--- src/dos.rt:40:12
 is-pair-requires : tie.Need-is-pair-requires Inv-loop μ-loop
 is-pair-requires c κs = (c .before .before .before .before .pre .0, omega (arith, c .before .loop .inv .low))
 
--- src/dos.rt:41:18
 copied-requires : tie.Need-copied-requires Inv-loop μ-loop
 copied-requires c κs = omega (arith, c .before .is-pair .ensures (c .if1 .taken) .inside)
 
--- src/dos.rt:41:13
 write-requires : tie.Need-write-requires Inv-loop μ-loop
 write-requires c κs = omega (arith, c .before .before .before .before .before .loop .inv .length-is)
 
--- src/dos.rt:42:13
 add-next : tie.Need-add-next Inv-loop μ-loop
 add-next c = omega (arith, c .before .before .before .before .before .before .before .before .loop .inv .low)
 
--- src/dos.rt:39:5
 loop-less : tie.Need-loop-less Inv-loop μ-loop
 loop-less c = omega (arith, c .before .before .write .ensures .to-is)
 
--- src/dos.rt:39:5
 loop-again : tie.Need-loop-again Inv-loop μ-loop
 loop-again c = dos-more (c .before .before .before .before .before .before .before .before .before .before .before .pre .0) (c .before .before .before .before .before .before .before .before .loop .inv) (c .before .before .before .before .before .before .is-pair .ensures (c .before .before .before .before .before .if1 .taken)) (omega arith) (c .before .before .before .before .copied .ensures) (c .before .before .write .ensures)
 
--- src/dos.rt:44:13
 same-length : tie.Need-same-length Inv-loop μ-loop
 same-length c = omega (arith, c .before .before .before .loop .inv .length-is)
 
--- src/dos.rt:44:13
 returns : tie.Need-returns Inv-loop μ-loop
 returns c = c .before .before .before .loop .inv .read
 
--- src/dos.rt:33:1
 same-length-2 : tie.Need-same-length-2 Inv-loop μ-loop
 same-length-2 c = omega (arith, c .before .loop .inv .length-is)
 
--- src/dos.rt:33:1
 returns-2 : tie.Need-returns-2 Inv-loop μ-loop
 returns-2 c = c .before .loop .inv .read
 

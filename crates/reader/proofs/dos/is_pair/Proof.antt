@@ -9,45 +9,36 @@ use Rattle.reader.proofs.dos.is_pair.Reads as reads
 use Rattle.reader.proofs.dos.is_pair.Lts as lts
 use Rattle.machine.proofs.fields.kind_at.Reads as kind-at-reads
 
--- src/dos.rt:19:17
 cast-count : tie.Need-cast-count
 cast-count c = search needs
 
--- src/dos.rt:20:8
 add-if1 : tie.Need-add-if1
 add-if1 c = search needs
 
--- src/dos.rt:21:9
 returns : tie.Need-returns
 returns c = λ e. no-pair e
 
--- src/dos.rt:23:24
 kind-at-requires : tie.Need-kind-at-requires
 kind-at-requires c κs = search needs
 
 enum-told : tie.Need-enum-told
 enum-told c = search needs
 
--- src/dos.rt:24:9
 returns-2 : tie.Need-returns-2
 returns-2 c = λ e. no-pair e
 
--- src/dos.rt:26:49
 add-kind-at : tie.Need-add-kind-at
 add-kind-at c = search needs
 
--- src/dos.rt:26:26
 kind-at-requires-2 : tie.Need-kind-at-requires-2
 kind-at-requires-2 c κs = search needs
 
 enum-told-2 : tie.Need-enum-told-2
 enum-told-2 c = search needs
 
--- src/dos.rt:27:9
 returns-3 : tie.Need-returns-3
 returns-3 c = λ e. no-pair e
 
--- src/dos.rt:15:1
 returns-4 : tie.Need-returns-4
 returns-4 c = λ e. record { inside = omega arith; first = sym (c .before .before .before .before .before .kind-at .ensures) ∙ c .before .before .before .enum-told .given .1; second = sym (c .before .before .kind-at2 .ensures) ∙ c .enum-told2 .given .1 }
 

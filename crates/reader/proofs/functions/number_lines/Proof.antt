@@ -20,51 +20,39 @@ Inv-loop lines owners₀ count function₀ line₀ owners function line = Number
 abbrev μ-loop : tie.MeasureT-loop
 μ-loop lines owners₀ count function₀ line₀ owners function line = count - line
 
--- src/functions.rt:48:17
 cast-count : tie.Need-cast-count Inv-loop μ-loop
 cast-count c = omega arith
 
--- src/functions.rt:51:5
 loop-holds : tie.Need-loop-holds Inv-loop μ-loop
 loop-holds c = search (numberings, needs)
 
--- src/functions.rt:52:23
 cast-store : tie.Need-cast-store Inv-loop μ-loop
 cast-store c = omega arith
 
--- src/functions.rt:52:9
 store-requires : tie.Need-store-requires Inv-loop μ-loop
 store-requires c κs = search needs
 
--- src/functions.rt:53:9
 pass-requires : tie.Need-pass-requires Inv-loop μ-loop
 pass-requires c κs = (omega arith, omega (arith, few-functions (c .before .before .before .before .before .loop .inv)))
 
--- src/functions.rt:54:9
 add-line : tie.Need-add-line Inv-loop μ-loop
 add-line c = omega arith
 
--- src/functions.rt:51:5
 loop-less : tie.Need-loop-less Inv-loop μ-loop
 loop-less c = omega arith
 
--- src/functions.rt:51:5
 loop-again : tie.Need-loop-again Inv-loop μ-loop
 loop-again c = search (numberings, needs)
 
--- src/functions.rt:56:19
 cast-store-2 : tie.Need-cast-store-2 Inv-loop μ-loop
 cast-store-2 c = omega arith
 
--- src/functions.rt:56:5
 store-requires-2 : tie.Need-store-requires-2 Inv-loop μ-loop
 store-requires-2 c κs = search needs
 
--- src/functions.rt:44:1
 same-length : tie.Need-same-length Inv-loop μ-loop
 same-length c = omega (arith, ap length (c .before .before .store2 .ensures), length-set (c .before .before .before .before .before .loop .owners) (length (now (c .before .before .before .before .before .before .before .before .args .lines)) / 20) (c .before .before .before .before .before .loop .function), c .before .before .before .before .before .loop .inv .length-is, c .before .before .before .before .before .before .before .before .pre .1)
 
--- src/functions.rt:44:1
 returns : tie.Need-returns Inv-loop μ-loop
 returns c = search (numberings, needs)
 

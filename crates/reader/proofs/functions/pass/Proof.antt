@@ -10,23 +10,18 @@ use Rattle.reader.proofs.functions.pass.Lts as lts
 use Rattle.machine.proofs.fields.kind_at.Reads as kind-at-reads
 use Rattle.reader.proofs.functions.ends_function.Reads as ends-function-reads
 
--- src/functions.rt:30:22
 kind-at-requires : tie.Need-kind-at-requires
 kind-at-requires c κs = search needs
 
--- src/functions.rt:30:8
 ends-function-requires : tie.Need-ends-function-requires
 ends-function-requires c κs = search needs
 
--- src/functions.rt:31:16
 add-result : tie.Need-add-result
 add-result c = search needs
 
--- src/functions.rt:31:9
 returns : tie.Need-returns
 returns c = chosen _ _ (sym (c .before .ends-function .ensures ∙ ap endsFunction (c .before .before .kind-at .ensures)) ∙ c .if1 .taken)
 
--- src/functions.rt:26:1
 returns-2 : tie.Need-returns-2
 returns-2 c = other _ _ (sym (c .before .ends-function .ensures ∙ ap endsFunction (c .before .before .kind-at .ensures)) ∙ c .if1 .left)
 

@@ -13,63 +13,48 @@ use Rattle.replay.proofs.call.tables.Reads as tables-reads
 use Rattle.replay.proofs.runs.hardened.Reads as hardened-reads
 use Rattle.replay.proofs.runs.source.Reads as source-reads
 
--- src/call.rt:24:22
 slice-aggregate-source : tie.Need-slice-aggregate-source
 slice-aggregate-source c = sym (length-take-le _ _ (omega arith))
 
--- src/call.rt:24:9
 source-requires : tie.Need-source-requires
 source-requires c κs = search needs
 
--- src/call.rt:25:9
 same-length : tie.Need-same-length
 same-length c = search needs
 
--- src/call.rt:25:9
 returns : tie.Need-returns
 returns c = search needs
 
--- src/call.rt:28:24
 slice-aggregate-hardened : tie.Need-slice-aggregate-hardened
 slice-aggregate-hardened c = sym (length-take-le _ _ (omega arith))
 
--- src/call.rt:28:9
 hardened-requires : tie.Need-hardened-requires
 hardened-requires c κs = search needs
 
--- src/call.rt:29:9
 same-length-2 : tie.Need-same-length-2
 same-length-2 c = search needs
 
--- src/call.rt:29:9
 same-length-3 : tie.Need-same-length-3
 same-length-3 c = search needs
 
--- src/call.rt:29:9
 returns-2 : tie.Need-returns-2
 returns-2 c = search needs
 
--- src/call.rt:31:20
 slice-aggregate-tables : tie.Need-slice-aggregate-tables
 slice-aggregate-tables c = sym (length-take-le _ _ (omega arith))
 
--- src/call.rt:31:38
 shared-slice-read-size : tie.Need-shared-slice-read-size
 shared-slice-read-size c = search needs
 
--- src/call.rt:31:33
 size-requires : tie.Need-size-requires
 size-requires c κs = search needs
 
--- src/call.rt:31:5
 tables-requires : tie.Need-tables-requires
 tables-requires c κs = search needs
 
--- src/call.rt:12:1
 same-length-4 : tie.Need-same-length-4
 same-length-4 c = search needs
 
--- src/call.rt:12:1
 returns-3 : tie.Need-returns-3
 returns-3 c = search needs
 

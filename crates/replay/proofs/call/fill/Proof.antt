@@ -16,31 +16,24 @@ Inv-loop bytes₀ x at₀ bytes at = (at ≤ length bytes₀) × (length bytes �
 abbrev μ-loop : tie.MeasureT-loop
 μ-loop bytes₀ x at₀ bytes at = length bytes₀ - at
 
--- src/call.rt:38:5
 loop-holds : tie.Need-loop-holds Inv-loop μ-loop
 loop-holds c = search needs
 
--- src/call.rt:39:9
 slice-write-bytes : tie.Need-slice-write-bytes Inv-loop μ-loop
 slice-write-bytes c = search needs
 
--- src/call.rt:40:9
 add-at : tie.Need-add-at Inv-loop μ-loop
 add-at c = search needs
 
--- src/call.rt:38:5
 loop-less : tie.Need-loop-less Inv-loop μ-loop
 loop-less c = search needs
 
--- src/call.rt:38:5
 loop-again : tie.Need-loop-again Inv-loop μ-loop
 loop-again c = (omega arith, simp length-set (omega arith))
 
--- src/call.rt:36:1
 same-length : tie.Need-same-length Inv-loop μ-loop
 same-length c = search needs
 
--- src/call.rt:36:1
 returns : tie.Need-returns Inv-loop μ-loop
 returns c = search needs
 

@@ -14,35 +14,27 @@ Inv-loop words₀ x at₀ words at = (at ≤ length words₀) × (length words �
 abbrev μ-loop : tie.MeasureT-loop
 μ-loop words₀ x at₀ words at = length words₀ - at
 
--- src/runs.rt:28:5
 loop-holds : tie.Need-loop-holds Inv-loop μ-loop
 loop-holds c = search needs
 
--- src/runs.rt:29:9
 mul-words : tie.Need-mul-words Inv-loop μ-loop
 mul-words c = search needs
 
--- src/runs.rt:29:9
 slice-write-words : tie.Need-slice-write-words Inv-loop μ-loop
 slice-write-words c = search needs
 
--- src/runs.rt:30:9
 add-at : tie.Need-add-at Inv-loop μ-loop
 add-at c = search needs
 
--- src/runs.rt:28:5
 loop-less : tie.Need-loop-less Inv-loop μ-loop
 loop-less c = search needs
 
--- src/runs.rt:28:5
 loop-again : tie.Need-loop-again Inv-loop μ-loop
 loop-again c = (omega arith, simp length-set (omega arith))
 
--- src/runs.rt:26:1
 same-length : tie.Need-same-length Inv-loop μ-loop
 same-length c = search needs
 
--- src/runs.rt:26:1
 returns : tie.Need-returns Inv-loop μ-loop
 returns c = search needs
 

@@ -12,55 +12,42 @@ use Rattle.replay.proofs.asked.size.Reads as size-reads
 use Rattle.replay.proofs.runs.hardened_within.Reads as hardened-within-reads
 use Rattle.replay.proofs.show.least.Reads as least-reads
 
--- src/runs.rt:56:22
 shared-slice-read-size : tie.Need-shared-slice-read-size
 shared-slice-read-size c = search needs
 
--- src/runs.rt:56:9
 size-requires : tie.Need-size-requires
 size-requires c κs = search needs
 
--- src/runs.rt:57:28
 shared-slice-read-size-2 : tie.Need-shared-slice-read-size-2
 shared-slice-read-size-2 c = search needs
 
--- src/runs.rt:57:23
 size-requires-2 : tie.Need-size-requires-2
 size-requires-2 c κs = search needs
 
--- src/runs.rt:57:9
 least-requires : tie.Need-least-requires
 least-requires c κs = search needs
 
--- src/runs.rt:58:37
 slice-relend-prefix-hardened-within : tie.Need-slice-relend-prefix-hardened-within
 slice-relend-prefix-hardened-within c = search needs
 
--- src/runs.rt:58:37
 slice-aggregate-hardened-within : tie.Need-slice-aggregate-hardened-within
 slice-aggregate-hardened-within c = sym (length-take-le _ _ (omega arith))
 
--- src/runs.rt:58:58
 slice-relend-prefix-hardened-within-2 : tie.Need-slice-relend-prefix-hardened-within-2
 slice-relend-prefix-hardened-within-2 c = search needs
 
--- src/runs.rt:58:58
 slice-aggregate-hardened-within-2 : tie.Need-slice-aggregate-hardened-within-2
 slice-aggregate-hardened-within-2 c = sym (length-take-le _ _ (omega arith))
 
--- src/runs.rt:58:5
 hardened-within-requires : tie.Need-hardened-within-requires
 hardened-within-requires c κs = search needs
 
--- src/runs.rt:53:1
 same-length : tie.Need-same-length
 same-length c = search needs
 
--- src/runs.rt:53:1
 same-length-2 : tie.Need-same-length-2
 same-length-2 c = search needs
 
--- src/runs.rt:53:1
 returns : tie.Need-returns
 returns c = search needs
 

@@ -11,31 +11,24 @@ use Rattle.replay.proofs.runs.source.Lts as lts
 use Rattle.replay.proofs.asked.size.Reads as size-reads
 use Rattle.replay.proofs.runs.source_within.Reads as source-within-reads
 
--- src/runs.rt:39:22
 shared-slice-read-size : tie.Need-shared-slice-read-size
 shared-slice-read-size c = search needs
 
--- src/runs.rt:39:9
 size-requires : tie.Need-size-requires
 size-requires c κs = search needs
 
--- src/runs.rt:40:34
 slice-relend-prefix-source-within : tie.Need-slice-relend-prefix-source-within
 slice-relend-prefix-source-within c = search needs
 
--- src/runs.rt:40:34
 slice-aggregate-source-within : tie.Need-slice-aggregate-source-within
 slice-aggregate-source-within c = sym (length-take-le _ _ (omega arith))
 
--- src/runs.rt:40:5
 source-within-requires : tie.Need-source-within-requires
 source-within-requires c κs = search needs
 
--- src/runs.rt:36:1
 same-length : tie.Need-same-length
 same-length c = search needs
 
--- src/runs.rt:36:1
 returns : tie.Need-returns
 returns c = search needs
 

@@ -15,43 +15,33 @@ Inv-loop numbers from all₀ k₀ all k = (k ≤ 16) × (length all ≡ 16)
 abbrev μ-loop : tie.MeasureT-loop
 μ-loop numbers from all₀ k₀ all k = 16 - k
 
--- src/runs.rt:19:5
 loop-holds : tie.Need-loop-holds Inv-loop μ-loop
 loop-holds c = search needs
 
--- src/runs.rt:20:26
 add-all : tie.Need-add-all Inv-loop μ-loop
 add-all c = search needs
 
--- src/runs.rt:20:18
 mul-all : tie.Need-mul-all Inv-loop μ-loop
 mul-all c = search needs
 
--- src/runs.rt:20:18
 shared-slice-read-all : tie.Need-shared-slice-read-all Inv-loop μ-loop
 shared-slice-read-all c = search needs
 
--- src/runs.rt:20:9
 mul-all-2 : tie.Need-mul-all-2 Inv-loop μ-loop
 mul-all-2 c = search needs
 
--- src/runs.rt:20:9
 array-write-all : tie.Need-array-write-all Inv-loop μ-loop
 array-write-all c = search needs
 
--- src/runs.rt:21:9
 add-k : tie.Need-add-k Inv-loop μ-loop
 add-k c = search needs
 
--- src/runs.rt:19:5
 loop-less : tie.Need-loop-less Inv-loop μ-loop
 loop-less c = search needs
 
--- src/runs.rt:19:5
 loop-again : tie.Need-loop-again Inv-loop μ-loop
 loop-again c = (omega arith, simp length-set (omega arith))
 
--- src/runs.rt:14:1
 returns : tie.Need-returns Inv-loop μ-loop
 returns c = search needs
 

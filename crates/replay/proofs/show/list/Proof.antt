@@ -17,47 +17,36 @@ Inv-loop these text₀ at₀ k₀ text at k = (k ≤ length these) × (at ≤ 6 
 abbrev μ-loop : tie.MeasureT-loop
 μ-loop these text₀ at₀ k₀ text at k = length these - k
 
--- src/show.rt:158:5
 loop-holds : tie.Need-loop-holds Inv-loop μ-loop
 loop-holds c = search needs
 
--- src/show.rt:159:22
 mul-decimal : tie.Need-mul-decimal Inv-loop μ-loop
 mul-decimal c = search needs
 
--- src/show.rt:159:22
 shared-slice-read-decimal : tie.Need-shared-slice-read-decimal Inv-loop μ-loop
 shared-slice-read-decimal c = search needs
 
--- src/show.rt:159:9
 decimal-requires : tie.Need-decimal-requires Inv-loop μ-loop
 decimal-requires c κs = (omega arith, omega arith)
 
--- src/show.rt:160:9
 slice-write-text : tie.Need-slice-write-text Inv-loop μ-loop
 slice-write-text c = omega arith
 
--- src/show.rt:161:9
 add-at : tie.Need-add-at Inv-loop μ-loop
 add-at c = search needs
 
--- src/show.rt:162:9
 add-k : tie.Need-add-k Inv-loop μ-loop
 add-k c = search needs
 
--- src/show.rt:158:5
 loop-less : tie.Need-loop-less Inv-loop μ-loop
 loop-less c = search needs
 
--- src/show.rt:158:5
 loop-again : tie.Need-loop-again Inv-loop μ-loop
 loop-again c = (omega arith, omega arith, simp length-set (omega arith))
 
--- src/show.rt:152:1
 same-length : tie.Need-same-length Inv-loop μ-loop
 same-length c = search needs
 
--- src/show.rt:152:1
 returns : tie.Need-returns Inv-loop μ-loop
 returns c = (omega arith, sym (length-take-le _ _ (omega arith)))
 

@@ -17,55 +17,42 @@ Inv-loop these last text₀ at₀ text at = (at ≤ last) × (last ≤ length th
 abbrev μ-loop : tie.MeasureT-loop
 μ-loop these last text₀ at₀ text at = last - at
 
--- src/show.rt:180:5
 loop-holds : tie.Need-loop-holds Inv-loop μ-loop
 loop-holds c = search needs
 
--- src/show.rt:181:30
 sub-least : tie.Need-sub-least Inv-loop μ-loop
 sub-least c = search needs
 
--- src/show.rt:181:24
 least-requires : tie.Need-least-requires Inv-loop μ-loop
 least-requires c κs = search needs
 
--- src/show.rt:181:19
 add-end : tie.Need-add-end Inv-loop μ-loop
 add-end c = search needs
 
--- src/show.rt:182:16
 mul-commas : tie.Need-mul-commas Inv-loop μ-loop
 mul-commas c = search needs
 
--- src/show.rt:182:16
 sub-commas : tie.Need-sub-commas Inv-loop μ-loop
 sub-commas c = search needs
 
--- src/show.rt:182:16
 part-commas-start : tie.Need-part-commas-start Inv-loop μ-loop
 part-commas-start c = search needs
 
--- src/show.rt:182:16
 part-commas-end : tie.Need-part-commas-end Inv-loop μ-loop
 part-commas-end c = search needs
 
--- src/show.rt:182:9
 commas-requires : tie.Need-commas-requires Inv-loop μ-loop
 commas-requires c κs = search needs
 
--- src/show.rt:180:5
 loop-less : tie.Need-loop-less Inv-loop μ-loop
 loop-less c = search needs
 
--- src/show.rt:180:5
 loop-again : tie.Need-loop-again Inv-loop μ-loop
 loop-again c = search needs
 
--- src/show.rt:176:1
 same-length : tie.Need-same-length Inv-loop μ-loop
 same-length c = search needs
 
--- src/show.rt:176:1
 returns : tie.Need-returns Inv-loop μ-loop
 returns c = search needs
 

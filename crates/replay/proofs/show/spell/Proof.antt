@@ -18,87 +18,66 @@ Inv-loop bytes text₀ n₀ text n = (n ≤ length bytes) × (2 * n ≤ length t
 abbrev μ-loop : tie.MeasureT-loop
 μ-loop bytes text₀ n₀ text n = length bytes - n
 
--- src/show.rt:42:5
 loop-holds : tie.Need-loop-holds Inv-loop μ-loop
 loop-holds c = search needs
 
--- src/show.rt:43:25
 mul-if1 : tie.Need-mul-if1 Inv-loop μ-loop
 mul-if1 c = search needs
 
--- src/show.rt:43:25
 add-if1 : tie.Need-add-if1 Inv-loop μ-loop
 add-if1 c = search needs
 
--- src/show.rt:44:20
 mul-result : tie.Need-mul-result Inv-loop μ-loop
 mul-result c = search needs
 
--- src/show.rt:44:13
 same-length : tie.Need-same-length Inv-loop μ-loop
 same-length c = search needs
 
--- src/show.rt:44:13
 returns : tie.Need-returns Inv-loop μ-loop
 returns c = (omega arith, sym (length-take-le _ _ (omega arith)))
 
--- src/show.rt:46:28
 shared-slice-read-high : tie.Need-shared-slice-read-high Inv-loop μ-loop
 shared-slice-read-high c = search needs
 
--- src/show.rt:46:23
 high-requires : tie.Need-high-requires Inv-loop μ-loop
 high-requires c κs = search needs
 
--- src/show.rt:46:14
 mul-text : tie.Need-mul-text Inv-loop μ-loop
 mul-text c = search needs
 
--- src/show.rt:46:9
 slice-write-text : tie.Need-slice-write-text Inv-loop μ-loop
 slice-write-text c = search needs
 
--- src/show.rt:47:31
 shared-slice-read-low : tie.Need-shared-slice-read-low Inv-loop μ-loop
 shared-slice-read-low c = search needs
 
--- src/show.rt:47:27
 low-requires : tie.Need-low-requires Inv-loop μ-loop
 low-requires c κs = search needs
 
--- src/show.rt:47:14
 mul-text-2 : tie.Need-mul-text-2 Inv-loop μ-loop
 mul-text-2 c = search needs
 
--- src/show.rt:47:14
 add-text : tie.Need-add-text Inv-loop μ-loop
 add-text c = search needs
 
--- src/show.rt:47:9
 slice-write-text-2 : tie.Need-slice-write-text-2 Inv-loop μ-loop
 slice-write-text-2 c = simp length-set (omega arith)
 
--- src/show.rt:48:9
 add-n : tie.Need-add-n Inv-loop μ-loop
 add-n c = search needs
 
--- src/show.rt:42:5
 loop-less : tie.Need-loop-less Inv-loop μ-loop
 loop-less c = search needs
 
--- src/show.rt:42:5
 loop-again : tie.Need-loop-again Inv-loop μ-loop
 loop-again c = (omega arith, omega arith, simp length-set (omega arith), omega arith)
 
--- src/show.rt:50:5
 mul-result-2 : tie.Need-mul-result-2 Inv-loop μ-loop
 mul-result-2 c = search needs
 
--- src/show.rt:37:1
 same-length-2 : tie.Need-same-length-2 Inv-loop μ-loop
 same-length-2 c = search needs
 
--- src/show.rt:37:1
 returns-2 : tie.Need-returns-2 Inv-loop μ-loop
 returns-2 c = (omega arith, sym (length-take-le _ _ (omega arith)))
 

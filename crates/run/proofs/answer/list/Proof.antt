@@ -15,43 +15,33 @@ Inv-loop words at text₀ next₀ i₀ t6 text next i = (i ≤ length words) × 
 abbrev μ-loop : tie.MeasureT-loop
 μ-loop words at text₀ next₀ i₀ t6 text next i = length words - i
 
--- src/answer.rt:30:5
 loop-holds : tie.Need-loop-holds Inv-loop μ-loop
 loop-holds c = search needs
 
--- src/answer.rt:31:29
 slice-aggregate-named : tie.Need-slice-aggregate-named Inv-loop μ-loop
 slice-aggregate-named c = search needs
 
--- src/answer.rt:31:35
 mul-named : tie.Need-mul-named Inv-loop μ-loop
 mul-named c = search needs
 
--- src/answer.rt:31:35
 shared-slice-read-named : tie.Need-shared-slice-read-named Inv-loop μ-loop
 shared-slice-read-named c = search needs
 
--- src/answer.rt:31:9
 named-requires : tie.Need-named-requires Inv-loop μ-loop
 named-requires c κs = search needs
 
--- src/answer.rt:32:9
 add-i : tie.Need-add-i Inv-loop μ-loop
 add-i c = search needs
 
--- src/answer.rt:30:5
 loop-less : tie.Need-loop-less Inv-loop μ-loop
 loop-less c = search needs
 
--- src/answer.rt:30:5
 loop-again : tie.Need-loop-again Inv-loop μ-loop
 loop-again c = search needs
 
--- src/answer.rt:34:5
 put-requires : tie.Need-put-requires Inv-loop μ-loop
 put-requires c κs = search needs
 
--- src/answer.rt:24:1
 returns : tie.Need-returns Inv-loop μ-loop
 returns c = search needs
 

@@ -20,87 +20,66 @@ Inv-loop buffer₀ variables₀ count seen₀ asked₀ i₀ buffer variables see
 abbrev μ-loop : tie.MeasureT-loop
 μ-loop buffer₀ variables₀ count seen₀ asked₀ i₀ buffer variables seen asked i = count - i
 
--- src/arguments.rt:62:9
 arg-count-requires : tie.Need-arg-count-requires Inv-loop μ-loop
 arg-count-requires c κs = search needs
 
--- src/arguments.rt:66:5
 loop-holds : tie.Need-loop-holds Inv-loop μ-loop
 loop-holds c = search needs
 
--- src/arguments.rt:67:13
 arg-requires : tie.Need-arg-requires Inv-loop μ-loop
 arg-requires c κs = search needs
 
--- src/arguments.rt:68:12
 is-long-requires : tie.Need-is-long-requires Inv-loop μ-loop
 is-long-requires c κs = search needs
 
--- src/arguments.rt:69:13
 wrong-requires : tie.Need-wrong-requires Inv-loop μ-loop
 wrong-requires c κs = search needs
 
--- src/arguments.rt:69:13
 same-length : tie.Need-same-length Inv-loop μ-loop
 same-length c = search needs
 
--- src/arguments.rt:69:13
 returns : tie.Need-returns Inv-loop μ-loop
 returns c = search needs
 
--- src/arguments.rt:71:31
 slice-reshare-prefix-read : tie.Need-slice-reshare-prefix-read Inv-loop μ-loop
 slice-reshare-prefix-read c = search needs
 
--- src/arguments.rt:71:31
 slice-aggregate-read : tie.Need-slice-aggregate-read Inv-loop μ-loop
 slice-aggregate-read c = search needs
 
--- src/arguments.rt:71:20
 read-requires : tie.Need-read-requires Inv-loop μ-loop
 read-requires c κs = search needs
 
--- src/arguments.rt:71:15
 take-requires : tie.Need-take-requires Inv-loop μ-loop
 take-requires c κs = search needs
 
--- src/arguments.rt:72:26
 enum-known-e : tie.Need-enum-known-e Inv-loop μ-loop
 enum-known-e c = search needs
 
--- src/arguments.rt:72:32
 wrong-requires-2 : tie.Need-wrong-requires-2 Inv-loop μ-loop
 wrong-requires-2 c κs = search needs
 
--- src/arguments.rt:72:32
 same-length-2 : tie.Need-same-length-2 Inv-loop μ-loop
 same-length-2 c = search needs
 
--- src/arguments.rt:72:32
 returns-2 : tie.Need-returns-2 Inv-loop μ-loop
 returns-2 c = search needs
 
--- src/arguments.rt:73:26
 enum-known-a : tie.Need-enum-known-a Inv-loop μ-loop
 enum-known-a c = search needs
 
--- src/arguments.rt:75:9
 add-i : tie.Need-add-i Inv-loop μ-loop
 add-i c = search needs
 
--- src/arguments.rt:66:5
 loop-less : tie.Need-loop-less Inv-loop μ-loop
 loop-less c = search needs
 
--- src/arguments.rt:66:5
 loop-again : tie.Need-loop-again Inv-loop μ-loop
 loop-again c = search needs
 
--- src/arguments.rt:59:1
 same-length-3 : tie.Need-same-length-3 Inv-loop μ-loop
 same-length-3 c = search needs
 
--- src/arguments.rt:59:1
 returns-3 : tie.Need-returns-3 Inv-loop μ-loop
 returns-3 c = search needs
 

@@ -13,58 +13,45 @@ use Rattle.io.proofs.write_all.Reads as write-all-reads
 use Rattle.machine.proofs.strike.land.Reads as land-reads
 use Rattle.run.proofs.hardened_steps.walk.Reads as walk-reads
 
--- src/hardened_steps.rt:77:22
 slice-aggregate-write-all : tie.Need-slice-aggregate-write-all
 slice-aggregate-write-all c = search needs
 
--- src/hardened_steps.rt:77:5
 write-all-requires : tie.Need-write-all-requires
 write-all-requires c κs = search needs
 
--- src/hardened_steps.rt:78:5
 print-decimal-requires : tie.Need-print-decimal-requires
 print-decimal-requires c κs = search needs
 
--- src/hardened_steps.rt:79:22
 slice-aggregate-write-all-2 : tie.Need-slice-aggregate-write-all-2
 slice-aggregate-write-all-2 c = search needs
 
--- src/hardened_steps.rt:79:5
 write-all-requires-2 : tie.Need-write-all-requires-2
 write-all-requires-2 c κs = search needs
 
--- src/hardened_steps.rt:80:9
 land-requires : tie.Need-land-requires
 land-requires c κs = (c .before .before .before .before .before .before .before .before .before .before .pre .0, going-fewer _ _ 0 _ (c .before .before .before .before .before .before .before .before .before .before .pre .1) (omega arith))
 
 enum-told : tie.Need-enum-told
 enum-told c = search needs
 
--- src/hardened_steps.rt:93:9
 same-length : tie.Need-same-length
 same-length c = search needs
 
--- src/hardened_steps.rt:93:9
 same-length-2 : tie.Need-same-length-2
 same-length-2 c = search needs
 
--- src/hardened_steps.rt:93:9
 returns : tie.Need-returns
 returns c = sym (lands-over _ _ _ _ _ _ (c .before .before .before .before .before .land .ensures) (not-went _ (c .match .keys2)))
 
--- src/hardened_steps.rt:95:5
 walk-requires : tie.Need-walk-requires
 walk-requires c κs = (c .before .before .before .before .before .before .before .before .before .before .before .before .before .before .before .before .before .before .before .before .pre .0, going-landed _ _ _ _ _ _ (c .before .before .before .before .before .before .before .before .before .land .ensures) (c .before .before .before .before .before .before .before .before .before .before .before .before .before .before .before .before .before .before .before .before .pre .0) (c .before .before .before .before .before .before .before .before .before .before .before .before .before .before .before .before .before .before .before .before .pre .1) _ (c .before .before .before .enum-told .given .1))
 
--- src/hardened_steps.rt:62:1
 same-length-3 : tie.Need-same-length-3
 same-length-3 c = search needs
 
--- src/hardened_steps.rt:62:1
 same-length-4 : tie.Need-same-length-4
 same-length-4 c = search needs
 
--- src/hardened_steps.rt:62:1
 returns-2 : tie.Need-returns-2
 returns-2 c = c .before .before .before .before .walk .ensures ∙ sym (lands-rest _ _ _ _ _ _ (c .before .before .before .before .before .before .before .before .before .before .before .before .before .before .land .ensures) _ (c .before .before .before .before .before .before .before .before .enum-told .given .1))
 

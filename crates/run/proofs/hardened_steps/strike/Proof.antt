@@ -8,35 +8,27 @@ use Rattle.run.proofs.hardened_steps.strike.Lts as lts
 use Rattle.run.proofs.hardened_steps.walk.Reads as walk-reads
 use Rattle.run.proofs.hardened_steps.walk_struck.Reads as walk-struck-reads
 
--- src/hardened_steps.rt:172:9
 walk-requires : tie.Need-walk-requires
 walk-requires c κs = search needs
 
--- src/hardened_steps.rt:172:9
 same-length : tie.Need-same-length
 same-length c = search needs
 
--- src/hardened_steps.rt:172:9
 same-length-2 : tie.Need-same-length-2
 same-length-2 c = search needs
 
--- src/hardened_steps.rt:172:9
 returns : tie.Need-returns
 returns c = c .before .before .before .before .walk .ensures ∙ struck-none _ _ _ _ _ _ (c .before .before .before .before .before .before .before .before .if1 .taken)
 
--- src/hardened_steps.rt:184:5
 walk-struck-requires : tie.Need-walk-struck-requires
 walk-struck-requires c κs = search needs
 
--- src/hardened_steps.rt:155:1
 same-length-3 : tie.Need-same-length-3
 same-length-3 c = search needs
 
--- src/hardened_steps.rt:155:1
 same-length-4 : tie.Need-same-length-4
 same-length-4 c = search needs
 
--- src/hardened_steps.rt:155:1
 returns-2 : tie.Need-returns-2
 returns-2 c = search needs
 

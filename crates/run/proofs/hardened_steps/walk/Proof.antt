@@ -23,62 +23,48 @@ abbrev μ-loop : tie.MeasureT-loop
 μ-loop lines starts owners home budget counters₀ trace₀ text₀ m₀ left₀ at₀ counters trace text m left at =
     left
 
--- src/hardened_steps.rt:41:5
 loop-holds : tie.Need-loop-holds Inv-loop μ-loop
 loop-holds c = (record { going = c .before .before .before .pre .1; same = refl; words-long = refl; slots-long = refl }, omega arith)
 
--- src/hardened_steps.rt:43:9
 list-requires : tie.Need-list-requires Inv-loop μ-loop
 list-requires c κs = (placed _ _ (c .before .before .before .before .before .before .before .before .pre .0) _ _ (c .before .before .before .before .loop .inv .0 .going) (c .before .before .before .loop-test .taken), c .before .before .before .before .loop .inv .1)
 
--- src/hardened_steps.rt:44:13
 step-requires : tie.Need-step-requires Inv-loop μ-loop
 step-requires c κs = (c .before .before .before .before .before .before .before .before .before .before .before .pre .0, going-fewer _ _ 1 _ (c .before .before .before .before .before .before .before .loop .inv .0 .going) (omega (arith, c .before .before .before .before .before .before .loop-test .taken)))
 
 enum-told : tie.Need-enum-told Inv-loop μ-loop
 enum-told c = c .match .keys1
 
--- src/hardened_steps.rt:47:13
 flush-requires : tie.Need-flush-requires Inv-loop μ-loop
 flush-requires c κs = search needs
 
--- src/hardened_steps.rt:48:13
 same-length : tie.Need-same-length Inv-loop μ-loop
 same-length c = c .before .before .before .before .before .before .before .before .step .kept .1 .1 .1 .1 .1 .0 ∙ c .before .before .before .before .before .before .before .before .before .before .before .before .before .before .before .before .loop .inv .0 .words-long
 
--- src/hardened_steps.rt:48:13
 same-length-2 : tie.Need-same-length-2 Inv-loop μ-loop
 same-length-2 c = c .before .before .before .before .before .before .before .before .step .kept .1 .1 .1 .1 .1 .1 .0 ∙ c .before .before .before .before .before .before .before .before .before .before .before .before .before .before .before .before .loop .inv .0 .slots-long
 
--- src/hardened_steps.rt:48:13
 returns : tie.Need-returns Inv-loop μ-loop
 returns c = walks-over _ _ _ _ _ _ (c .before .before .before .before .before .before .before .before .before .before .before .before .before .before .before .before .loop .inv .0) (c .before .before .before .before .before .before .before .before .before .before .before .before .before .before .before .loop-test .taken) _ (c .before .before .before .before .before .before .before .before .step .ensures) (not-went _ (c .before .before .before .match .keys2))
 
--- src/hardened_steps.rt:51:9
 sub-left : tie.Need-sub-left Inv-loop μ-loop
 sub-left c = omega (arith, c .before .before .before .before .before .before .before .before .before .before .before .before .before .before .loop-test .taken)
 
--- src/hardened_steps.rt:41:5
 loop-less : tie.Need-loop-less Inv-loop μ-loop
 loop-less c = omega (arith, c .before .before .before .before .before .before .before .before .before .before .before .before .before .before .loop-test .taken)
 
--- src/hardened_steps.rt:41:5
 loop-again : tie.Need-loop-again Inv-loop μ-loop
 loop-again c = (walks-on _ _ _ _ _ _ (c .before .before .before .before .before .before .before .before .before .before .before .before .before .before .before .loop .inv .0) (c .before .before .before .before .before .before .before .before .before .before .before .before .before .before .loop-test .taken) _ (c .before .before .before .before .before .before .before .step .ensures) (c .before .before .before .before .before .before .before .before .before .before .before .before .before .before .before .before .before .before .before .pre .0) _ (c .before .enum-told .given .1) (c .before .before .before .before .before .before .before .step .kept .1 .1 .1 .1 .1 .0) (c .before .before .before .before .before .before .before .step .kept .1 .1 .1 .1 .1 .1 .0), c .before .before .before .before .before .before .before .before .before .before .list .ensures)
 
--- src/hardened_steps.rt:53:5
 flush-requires-2 : tie.Need-flush-requires-2 Inv-loop μ-loop
 flush-requires-2 c κs = search needs
 
--- src/hardened_steps.rt:24:1
 same-length-3 : tie.Need-same-length-3 Inv-loop μ-loop
 same-length-3 c = c .before .before .before .before .before .loop .inv .0 .words-long
 
--- src/hardened_steps.rt:24:1
 same-length-4 : tie.Need-same-length-4 Inv-loop μ-loop
 same-length-4 c = c .before .before .before .before .before .loop .inv .0 .slots-long
 
--- src/hardened_steps.rt:24:1
 returns-2 : tie.Need-returns-2 Inv-loop μ-loop
 returns-2 c = run-none _ _ _ _ (c .before .before .before .before .loop-test .left) ∙ sym (c .before .before .before .before .before .loop .inv .0 .same)
 

@@ -10,42 +10,33 @@ use Rattle.run.proofs.hardened_steps.walk_struck.Lts as lts
 use Rattle.run.proofs.hardened_steps.land_and_walk.Reads as land-and-walk-reads
 use Rattle.run.proofs.hardened_steps.walk.Reads as walk-reads
 
--- src/hardened_steps.rt:125:9
 walk-requires : tie.Need-walk-requires
 walk-requires c κs = (c .before .before .before .before .before .before .pre .0, going-fewer _ _ _ _ (c .before .before .before .before .before .before .pre .1) (omega (arith, c .before .before .before .before .before .before .pre .2)))
 
 enum-told : tie.Need-enum-told
 enum-told c = search needs
 
--- src/hardened_steps.rt:138:9
 same-length : tie.Need-same-length
 same-length c = search needs
 
--- src/hardened_steps.rt:138:9
 same-length-2 : tie.Need-same-length-2
 same-length-2 c = search needs
 
--- src/hardened_steps.rt:138:9
 returns : tie.Need-returns
 returns c = struck-stopped _ _ _ _ _ _ (c .before .before .before .before .before .before .before .before .before .before .before .before .pre .2) _ (c .before .before .before .before .before .walk .ensures) (not-went _ (c .match .keys2))
 
--- src/hardened_steps.rt:140:16
 sub-left : tie.Need-sub-left
 sub-left c = search needs
 
--- src/hardened_steps.rt:141:5
 land-and-walk-requires : tie.Need-land-and-walk-requires
 land-and-walk-requires c κs = (c .before .before .before .before .before .before .before .before .before .before .before .before .before .before .before .before .pre .0, going-left _ _ (c .before .before .before .before .before .before .before .before .before .before .before .before .before .before .before .before .pre .0) _ _ _ (c .before .before .before .before .before .before .before .before .before .before .before .before .before .before .before .before .pre .1) (c .before .before .before .before .before .before .before .before .before .before .before .before .before .before .before .before .pre .2) _ (c .before .before .before .before .before .before .before .before .before .walk .ensures) _ (c .before .before .before .enum-told .given .1))
 
--- src/hardened_steps.rt:109:1
 same-length-3 : tie.Need-same-length-3
 same-length-3 c = search needs
 
--- src/hardened_steps.rt:109:1
 same-length-4 : tie.Need-same-length-4
 same-length-4 c = search needs
 
--- src/hardened_steps.rt:109:1
 returns-2 : tie.Need-returns-2
 returns-2 c = c .before .before .before .before .land-and-walk .ensures ∙ struck-there _ _ _ _ _ _ (c .before .before .before .before .before .before .before .before .before .before .before .before .before .before .before .before .before .before .before .before .before .pre .2) _ (c .before .before .before .before .before .before .before .before .before .before .before .before .before .before .walk .ensures) _ (c .before .before .before .before .before .before .before .before .enum-told .given .1)
 

@@ -12,131 +12,99 @@ use Rattle.run.proofs.line.leave.Reads as leave-reads
 use Rattle.run.proofs.line.one.Reads as one-reads
 use Rattle.run.proofs.print.word.Reads as word-reads
 
--- src/line.rt:73:9
 kind-at-requires : tie.Need-kind-at-requires
 kind-at-requires c κs = search needs
 
--- src/line.rt:74:9
 fields-at-requires : tie.Need-fields-at-requires
 fields-at-requires c κs = search needs
 
--- src/line.rt:76:37
 enum-told : tie.Need-enum-told
 enum-told c = search needs
 
--- src/line.rt:76:37
 slice-aggregate-word : tie.Need-slice-aggregate-word
 slice-aggregate-word c = search needs
 
--- src/line.rt:76:25
 word-requires : tie.Need-word-requires
 word-requires c κs = search needs
 
--- src/line.rt:77:31
 enum-told-2 : tie.Need-enum-told-2
 enum-told-2 c = search needs
 
--- src/line.rt:77:31
 slice-aggregate-one : tie.Need-slice-aggregate-one
 slice-aggregate-one c = search needs
 
--- src/line.rt:77:27
 one-requires : tie.Need-one-requires
 one-requires c κs = ((fields-in _ _ (c .before .before .before .before .before .before .before .before .pre .0) Tick _ _ (c .before .before .before .before .before .kind-at .ensures) (c .before .before .enum-told2 .given .1) (c .before .before .before .before .fields-at .ensures)), c .before .before .before .before .before .before .before .before .pre .1, c .before .before .before .before .before .before .before .before .pre .2)
 
--- src/line.rt:78:31
 enum-told-3 : tie.Need-enum-told-3
 enum-told-3 c = search needs
 
--- src/line.rt:78:31
 slice-aggregate-one-2 : tie.Need-slice-aggregate-one-2
 slice-aggregate-one-2 c = search needs
 
--- src/line.rt:78:27
 one-requires-2 : tie.Need-one-requires-2
 one-requires-2 c κs = ((fields-in _ _ (c .before .before .before .before .before .before .before .before .pre .0) Test _ _ (c .before .before .before .before .before .kind-at .ensures) (c .before .before .enum-told3 .given .1) (c .before .before .before .before .fields-at .ensures)) .1 .r-in, c .before .before .before .before .before .before .before .before .pre .1, c .before .before .before .before .before .before .before .before .pre .2)
 
--- src/line.rt:79:54
 enum-told-4 : tie.Need-enum-told-4
 enum-told-4 c = search needs
 
--- src/line.rt:79:28
 leave-requires : tie.Need-leave-requires
 leave-requires c κs = ((fields-in _ _ (c .before .before .before .before .before .before .before .pre .0) Leave _ _ (c .before .before .before .before .kind-at .ensures) (c .before .enum-told4 .given .1) (c .before .before .before .fields-at .ensures)) .r-in, (fields-in _ _ (c .before .before .before .before .before .before .before .pre .0) Leave _ _ (c .before .before .before .before .kind-at .ensures) (c .before .enum-told4 .given .1) (c .before .before .before .fields-at .ensures)) .s-in, c .before .before .before .before .before .before .before .pre .1, c .before .before .before .before .before .before .before .pre .2)
 
--- src/line.rt:80:30
 enum-told-5 : tie.Need-enum-told-5
 enum-told-5 c = search needs
 
--- src/line.rt:80:30
 slice-aggregate-one-3 : tie.Need-slice-aggregate-one-3
 slice-aggregate-one-3 c = search needs
 
--- src/line.rt:80:26
 one-requires-3 : tie.Need-one-requires-3
 one-requires-3 c κs = ((fields-in _ _ (c .before .before .before .before .before .before .before .before .pre .0) Out _ _ (c .before .before .before .before .before .kind-at .ensures) (c .before .before .enum-told5 .given .1) (c .before .before .before .before .fields-at .ensures)) .r-in, c .before .before .before .before .before .before .before .before .pre .1, c .before .before .before .before .before .before .before .before .pre .2)
 
--- src/line.rt:81:31
 enum-told-6 : tie.Need-enum-told-6
 enum-told-6 c = search needs
 
--- src/line.rt:81:31
 slice-aggregate-one-4 : tie.Need-slice-aggregate-one-4
 slice-aggregate-one-4 c = search needs
 
--- src/line.rt:81:27
 one-requires-4 : tie.Need-one-requires-4
 one-requires-4 c κs = ((fields-in _ _ (c .before .before .before .before .before .before .before .before .pre .0) Call _ _ (c .before .before .before .before .before .kind-at .ensures) (c .before .before .enum-told6 .given .1) (c .before .before .before .before .fields-at .ensures)) .r-in, c .before .before .before .before .before .before .before .before .pre .1, c .before .before .before .before .before .before .before .before .pre .2)
 
--- src/line.rt:82:52
 enum-told-7 : tie.Need-enum-told-7
 enum-told-7 c = search needs
 
--- src/line.rt:82:27
 back-requires : tie.Need-back-requires
 back-requires c κs = ((fields-in _ _ (c .before .before .before .before .before .before .before .pre .0) Back _ _ (c .before .before .before .before .kind-at .ensures) (c .before .enum-told7 .given .1) (c .before .before .before .fields-at .ensures)), c .before .before .before .before .before .before .before .pre .1, c .before .before .before .before .before .before .before .pre .2)
 
--- src/line.rt:83:30
 enum-told-8 : tie.Need-enum-told-8
 enum-told-8 c = search needs
 
--- src/line.rt:83:30
 slice-aggregate-one-5 : tie.Need-slice-aggregate-one-5
 slice-aggregate-one-5 c = search needs
 
--- src/line.rt:83:26
 one-requires-5 : tie.Need-one-requires-5
 one-requires-5 c κs = search needs
 
--- src/line.rt:68:1
 returns : tie.Need-returns
 returns c = search needs
 
--- src/line.rt:68:1
 returns-2 : tie.Need-returns-2
 returns-2 c = search needs
 
--- src/line.rt:68:1
 returns-3 : tie.Need-returns-3
 returns-3 c = search needs
 
--- src/line.rt:68:1
 returns-4 : tie.Need-returns-4
 returns-4 c = search needs
 
--- src/line.rt:68:1
 returns-5 : tie.Need-returns-5
 returns-5 c = search needs
 
--- src/line.rt:68:1
 returns-6 : tie.Need-returns-6
 returns-6 c = search needs
 
--- src/line.rt:68:1
 returns-7 : tie.Need-returns-7
 returns-7 c = search needs
 
--- src/line.rt:68:1
 returns-8 : tie.Need-returns-8
 returns-8 c = search needs
 

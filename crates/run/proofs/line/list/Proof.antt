@@ -7,75 +7,57 @@ use Rattle.run.proofs.line.end.Reads as end-reads
 use Rattle.run.proofs.line.line.Reads as line-reads
 use Rattle.run.proofs.print.named.Reads as named-reads
 
--- src/line.rt:98:13
 cast-f : tie.Need-cast-f
 cast-f c = search needs
 
--- src/line.rt:99:17
 mul-first : tie.Need-mul-first
 mul-first c = search needs
 
--- src/line.rt:99:17
 element-copy-out-first : tie.Need-element-copy-out-first
 element-copy-out-first c = search needs
 
--- src/line.rt:100:23
 add-last : tie.Need-add-last
 add-last c = search needs
 
--- src/line.rt:100:16
 mul-last : tie.Need-mul-last
 mul-last c = search needs
 
--- src/line.rt:100:16
 element-copy-out-last : tie.Need-element-copy-out-last
 element-copy-out-last c = search needs
 
--- src/line.rt:101:29
 slice-aggregate-named : tie.Need-slice-aggregate-named
 slice-aggregate-named c = search needs
 
--- src/line.rt:101:9
 named-requires : tie.Need-named-requires
 named-requires c κs = search needs
 
--- src/line.rt:102:33
 slice-aggregate-named-2 : tie.Need-slice-aggregate-named-2
 slice-aggregate-named-2 c = search needs
 
--- src/line.rt:102:48
 cast-named : tie.Need-cast-named
 cast-named c = search needs
 
--- src/line.rt:102:9
 named-requires-2 : tie.Need-named-requires-2
 named-requires-2 c κs = search needs
 
--- src/line.rt:103:30
 slice-aggregate-named-3 : tie.Need-slice-aggregate-named-3
 slice-aggregate-named-3 c = search needs
 
--- src/line.rt:103:42
 sub-named : tie.Need-sub-named
 sub-named c = search needs
 
--- src/line.rt:103:9
 named-requires-3 : tie.Need-named-requires-3
 named-requires-3 c κs = search needs
 
--- src/line.rt:105:9
 end-requires : tie.Need-end-requires
 end-requires c κs = (c .before .before .before .before .before .before .before .before .before .before .before .before .before .before .before .before .before .before .before .pre .0 .has-room, c .before .before .before .named3 .ensures)
 
--- src/line.rt:105:9
 returns : tie.Need-returns
 returns c = search needs
 
--- src/line.rt:107:5
 line-requires : tie.Need-line-requires
 line-requires c κs = (c .before .before .before .before .before .before .before .before .before .before .before .before .before .before .before .before .before .before .before .pre .0 .here (c .before .if1 .left), c .before .before .before .before .before .before .before .before .before .before .before .before .before .before .before .before .before .before .before .pre .0 .has-room, c .before .before .before .named3 .ensures)
 
--- src/line.rt:87:1
 returns-2 : tie.Need-returns-2
 returns-2 c = search needs
 

@@ -18,63 +18,48 @@ Inv-loop text value₀ i₀ value i = Read text value i
 abbrev μ-loop : tie.MeasureT-loop
 μ-loop text value₀ i₀ value i = length text - i
 
--- src/number.rt:31:9
 returns : tie.Need-returns Inv-loop μ-loop
 returns c = none-read _ (c .if1 .taken)
 
--- src/number.rt:35:5
 loop-holds : tie.Need-loop-holds Inv-loop μ-loop
 loop-holds c = read-starts _ (c .if1 .left)
 
--- src/number.rt:36:17
 shared-slice-read-b : tie.Need-shared-slice-read-b Inv-loop μ-loop
 shared-slice-read-b c = omega arith
 
--- src/number.rt:37:13
 is-other-requires : tie.Need-is-other-requires Inv-loop μ-loop
 is-other-requires c κs = search needs
 
--- src/number.rt:38:13
 returns-2 : tie.Need-returns-2 Inv-loop μ-loop
 returns-2 c = read-other (c .before .before .before .before .loop .inv) (c .before .before .before .loop-test .taken) refl (c .before .is-other .ensures) (c .if2 .taken)
 
--- src/number.rt:40:17
 mul-value : tie.Need-mul-value Inv-loop μ-loop
 mul-value c = omega (arith, c .before .before .before .before .loop .inv .small)
 
--- src/number.rt:40:30
 wide-requires : tie.Need-wide-requires Inv-loop μ-loop
 wide-requires c κs = search needs
 
--- src/number.rt:40:17
 add-value : tie.Need-add-value Inv-loop μ-loop
 add-value c = omega (arith, c .before .before .before .before .before .loop .inv .small, c .wide .ensures .1)
 
--- src/number.rt:40:17
 sub-value : tie.Need-sub-value Inv-loop μ-loop
 sub-value c = omega (arith, c .wide .ensures .0, told-low (getD (now (c .before .before .before .before .before .before .before .before .args .text)) (c .before .before .before .before .before .loop .i) 0) (c .before .before .is-other .ensures) (c .before .if2 .left))
 
--- src/number.rt:42:13
 returns-3 : tie.Need-returns-3 Inv-loop μ-loop
 returns-3 c = read-over (c .before .before .before .before .before .before .loop .inv) (c .before .before .before .before .before .loop-test .taken) refl (c .before .before .before .is-other .ensures) (c .before .before .if2 .left) (ap (λ x. 10 * c .before .before .before .before .before .before .loop .value + x - 48) (c .before .wide .ensures .0)) (c .if3 .taken)
 
--- src/number.rt:44:9
 add-i : tie.Need-add-i Inv-loop μ-loop
 add-i c = omega arith
 
--- src/number.rt:35:5
 loop-less : tie.Need-loop-less Inv-loop μ-loop
 loop-less c = omega arith
 
--- src/number.rt:35:5
 loop-again : tie.Need-loop-again Inv-loop μ-loop
 loop-again c = read-more (c .before .before .before .before .before .before .loop .inv) (c .before .before .before .before .before .loop-test .taken) refl (c .before .before .before .is-other .ensures) (c .before .before .if2 .left) (ap (λ x. 10 * c .before .before .before .before .before .before .loop .value + x - 48) (c .before .wide .ensures .0)) (c .if3 .left)
 
--- src/number.rt:46:19
 cast-t15 : tie.Need-cast-t15 Inv-loop μ-loop
 cast-t15 c = omega (arith, c .before .loop .inv .small)
 
--- src/number.rt:27:1
 returns-4 : tie.Need-returns-4 Inv-loop μ-loop
 returns-4 c = read-all (c .before .loop .inv) (c .loop-test .left)
 

@@ -14,31 +14,24 @@ Inv-loop w at text₀ next₀ i₀ text next i = (i ≤ length w) × (next ≤ 6
 abbrev μ-loop : tie.MeasureT-loop
 μ-loop w at text₀ next₀ i₀ text next i = length w - i
 
--- src/print.rt:25:5
 loop-holds : tie.Need-loop-holds Inv-loop μ-loop
 loop-holds c = search needs
 
--- src/print.rt:26:20
 shared-slice-read-put : tie.Need-shared-slice-read-put Inv-loop μ-loop
 shared-slice-read-put c = search needs
 
--- src/print.rt:26:9
 put-requires : tie.Need-put-requires Inv-loop μ-loop
 put-requires c κs = search needs
 
--- src/print.rt:27:9
 add-i : tie.Need-add-i Inv-loop μ-loop
 add-i c = search needs
 
--- src/print.rt:25:5
 loop-less : tie.Need-loop-less Inv-loop μ-loop
 loop-less c = search needs
 
--- src/print.rt:25:5
 loop-again : tie.Need-loop-again Inv-loop μ-loop
 loop-again c = search needs
 
--- src/print.rt:19:1
 returns : tie.Need-returns Inv-loop μ-loop
 returns c = search needs
 

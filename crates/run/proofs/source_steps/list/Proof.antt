@@ -7,30 +7,24 @@ use Rattle.run.proofs.source_steps.list.Lts as lts
 use Rattle.run.proofs.source_steps.list_accepted.Reads as list-accepted-reads
 use Rattle.table.proofs.check.check.Reads as check-reads
 
--- src/source_steps.rt:100:11
 check-requires : tie.Need-check-requires
 check-requires c κs = search needs
 
 enum-told : tie.Need-enum-told
 enum-told c = search needs
 
--- src/source_steps.rt:103:33
 enum-told-2 : tie.Need-enum-told-2
 enum-told-2 c = search needs
 
--- src/source_steps.rt:103:13
 list-accepted-requires : tie.Need-list-accepted-requires
 list-accepted-requires c κs = (sym (c .before .before .before .before .before .before .before .check .ensures .verdict-is) ∙ c .before .before .before .before .before .enum-told2 .given .1, (c .before .before .before .before .before .before .before .check .ensures .links (c .before .before .before .before .before .enum-told2 .given .1), c .before .before .before .before .before .before .before .before .before .before .before .before .before .pre))
 
--- src/source_steps.rt:88:1
 returns : tie.Need-returns
 returns c = search needs
 
--- src/source_steps.rt:88:1
 same-length : tie.Need-same-length
 same-length c = search needs
 
--- src/source_steps.rt:88:1
 returns-2 : tie.Need-returns-2
 returns-2 c = search needs
 

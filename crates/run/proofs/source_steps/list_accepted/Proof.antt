@@ -9,23 +9,18 @@ use Rattle.run.proofs.source_steps.walk.Reads as walk-reads
 use Rattle.source.proofs.goes.find.Reads as find-reads
 use Rattle.source.proofs.start.Reads as start-reads
 
--- src/source_steps.rt:70:5
 find-requires : tie.Need-find-requires
 find-requires c κs = search needs
 
--- src/source_steps.rt:71:23
 start-requires : tie.Need-start-requires
 start-requires c κs = search needs
 
--- src/source_steps.rt:71:5
 walk-requires : tie.Need-walk-requires
 walk-requires c κs = (c .before .before .before .before .find .ensures, starts (c .before .before .before .before .before .before .before .before .pre .0) (c .before .before .before .before .before .before .before .before .pre .1 .1) (omega arith) (c .before .before .start .ensures))
 
--- src/source_steps.rt:55:1
 same-length : tie.Need-same-length
 same-length c = search needs
 
--- src/source_steps.rt:55:1
 returns : tie.Need-returns
 returns c = search needs
 

@@ -20,54 +20,42 @@ Inv-loop rows goes budget trace₀ text₀ m₀ left₀ at₀ trace text m left 
 abbrev μ-loop : tie.MeasureT-loop
 μ-loop rows goes budget trace₀ text₀ m₀ left₀ at₀ trace text m left at = left
 
--- src/source_steps.rt:34:5
 loop-holds : tie.Need-loop-holds Inv-loop μ-loop
 loop-holds c = (walk-starts (c .before .before .pre .1), omega arith)
 
--- src/source_steps.rt:36:9
 list-requires : tie.Need-list-requires Inv-loop μ-loop
 list-requires c κs = (c .before .before .before .loop .inv .0 .going .fits .here, c .before .before .before .loop .inv .1)
 
--- src/source_steps.rt:37:13
 step-requires : tie.Need-step-requires Inv-loop μ-loop
 step-requires c κs = (c .before .before .before .before .before .before .before .before .pre .0, going-one (c .before .before .before .before .before .loop .inv .0 .going) (c .before .before .before .before .loop-test .taken))
 
 enum-told : tie.Need-enum-told Inv-loop μ-loop
 enum-told c = c .match .keys1
 
--- src/source_steps.rt:40:13
 flush-requires : tie.Need-flush-requires Inv-loop μ-loop
 flush-requires c κs = search needs
 
--- src/source_steps.rt:41:13
 same-length : tie.Need-same-length Inv-loop μ-loop
 same-length c = c .before .before .before .before .before .before .step .kept .1 .1 .1 .0 ∙ c .before .before .before .before .before .before .before .before .before .before .before .before .loop .inv .0 .slots-long
 
--- src/source_steps.rt:41:13
 returns : tie.Need-returns Inv-loop μ-loop
 returns c = walks-over (c .before .before .before .before .before .before .before .before .before .before .before .before .loop .inv .0) (c .before .before .before .before .before .before .before .before .before .before .before .loop-test .taken) _ (c .before .before .before .before .before .before .step .ensures) (not-went _ (c .before .before .before .match .keys2))
 
--- src/source_steps.rt:44:9
 sub-left : tie.Need-sub-left Inv-loop μ-loop
 sub-left c = omega (arith, c .before .before .before .before .before .before .before .before .before .before .loop-test .taken)
 
--- src/source_steps.rt:34:5
 loop-less : tie.Need-loop-less Inv-loop μ-loop
 loop-less c = omega (arith, c .before .before .before .before .before .before .before .before .before .before .loop-test .taken)
 
--- src/source_steps.rt:34:5
 loop-again : tie.Need-loop-again Inv-loop μ-loop
 loop-again c = (walks-on (c .before .before .before .before .before .before .before .before .before .before .before .loop .inv .0) (c .before .before .before .before .before .before .before .before .before .before .loop-test .taken) _ (c .before .before .before .before .before .step .ensures) _ (c .before .enum-told .given .1), c .before .before .before .before .before .before .before .list .ensures)
 
--- src/source_steps.rt:46:5
 flush-requires-2 : tie.Need-flush-requires-2 Inv-loop μ-loop
 flush-requires-2 c κs = search needs
 
--- src/source_steps.rt:20:1
 same-length-2 : tie.Need-same-length-2 Inv-loop μ-loop
 same-length-2 c = c .before .before .before .before .before .loop .inv .0 .slots-long
 
--- src/source_steps.rt:20:1
 returns-2 : tie.Need-returns-2 Inv-loop μ-loop
 returns-2 c = walk-spent (c .before .before .before .before .before .loop .inv .0) (c .before .before .before .before .loop-test .left)
 

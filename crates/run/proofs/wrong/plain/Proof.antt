@@ -15,39 +15,30 @@ Inv-loop word₀ i₀ word i = (i ≤ length word₀) × (length word ≡ length
 abbrev μ-loop : tie.MeasureT-loop
 μ-loop word₀ i₀ word i = length word₀ - i
 
--- src/wrong.rt:44:5
 loop-holds : tie.Need-loop-holds Inv-loop μ-loop
 loop-holds c = search needs
 
--- src/wrong.rt:45:25
 slice-read-shown : tie.Need-slice-read-shown Inv-loop μ-loop
 slice-read-shown c = search needs
 
--- src/wrong.rt:45:19
 shown-requires : tie.Need-shown-requires Inv-loop μ-loop
 shown-requires c κs = search needs
 
--- src/wrong.rt:45:9
 slice-write-word : tie.Need-slice-write-word Inv-loop μ-loop
 slice-write-word c = search needs
 
--- src/wrong.rt:46:9
 add-i : tie.Need-add-i Inv-loop μ-loop
 add-i c = search needs
 
--- src/wrong.rt:44:5
 loop-less : tie.Need-loop-less Inv-loop μ-loop
 loop-less c = search needs
 
--- src/wrong.rt:44:5
 loop-again : tie.Need-loop-again Inv-loop μ-loop
 loop-again c = (omega arith, simp length-set (omega arith))
 
--- src/wrong.rt:42:1
 same-length : tie.Need-same-length Inv-loop μ-loop
 same-length c = search needs
 
--- src/wrong.rt:42:1
 returns : tie.Need-returns Inv-loop μ-loop
 returns c = search needs
 

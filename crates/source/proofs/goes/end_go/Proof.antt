@@ -8,39 +8,30 @@ use Rattle.layout.proofs.spot.in_body.Reads as in-body-reads
 use Rattle.layout.proofs.spot.is_loop.Reads as is-loop-reads
 use Rattle.layout.proofs.spot.opener_of.Reads as opener-of-reads
 
--- src/goes.rt:46:8
 in-body-requires : tie.Need-in-body-requires
 in-body-requires c κs = search needs
 
--- src/goes.rt:47:9
 returns : tie.Need-returns
 returns c = end-nowhere (c .before .before .before .before .pre .0) (c .before .before .before .before .pre .1) (c .before .in-body .ensures) (c .if1 .taken)
 
--- src/goes.rt:49:9
 opener-of-requires : tie.Need-opener-of-requires
 opener-of-requires c κs = search needs
 
--- src/goes.rt:50:8
 is-loop-requires : tie.Need-is-loop-requires
 is-loop-requires c κs = search needs
 
--- src/goes.rt:51:16
 cast-result : tie.Need-cast-result
 cast-result c = search needs
 
--- src/goes.rt:51:9
 returns-2 : tie.Need-returns-2
 returns-2 c = end-loops (c .before .before .before .before .before .before .before .pre .0) (c .before .before .before .before .before .before .before .pre .1) (c .before .before .before .before .in-body .ensures) (c .before .before .opener-of .ensures) (c .before .is-loop .ensures) (c .if2 .taken)
 
--- src/goes.rt:53:6
 add-result : tie.Need-add-result
 add-result c = search needs
 
--- src/goes.rt:53:5
 cast-result-2 : tie.Need-cast-result-2
 cast-result-2 c = search needs
 
--- src/goes.rt:42:1
 returns-3 : tie.Need-returns-3
 returns-3 c = end-passes (c .before .before .before .before .before .before .before .pre .0) (c .before .before .before .before .before .before .before .pre .1) (c .before .before .before .before .in-body .ensures) (c .before .before .opener-of .ensures) (c .before .is-loop .ensures) (c .before .before .before .if1 .left) (c .if2 .left)
 

@@ -15,35 +15,27 @@ Inv-loop rows map ends elses heads goes₀ n i₀ goes i = Filling rows goes i
 abbrev μ-loop : tie.MeasureT-loop
 μ-loop rows map ends elses heads goes₀ n i₀ goes i = n - i
 
--- src/goes.rt:91:5
 loop-holds : tie.Need-loop-holds Inv-loop μ-loop
 loop-holds c = fill-starts (c .before .before .before .before .before .pre .0 .1)
 
--- src/goes.rt:92:19
 row-go-requires : tie.Need-row-go-requires Inv-loop μ-loop
 row-go-requires c κs = ((c .before .before .before .before .before .before .before .pre .0 .0, omega (arith, c .loop-test .taken)), c .before .before .before .before .before .before .before .pre .1)
 
--- src/goes.rt:92:9
 mul-goes : tie.Need-mul-goes Inv-loop μ-loop
 mul-goes c = omega (arith, c .before .loop-test .taken, few-rows _ (c .before .before .before .before .before .before .before .before .pre .0 .0 .accepted))
 
--- src/goes.rt:92:9
 element-write-goes : tie.Need-element-write-goes Inv-loop μ-loop
 element-write-goes c = omega (arith, c .before .loop-test .taken, few-rows _ (c .before .before .before .before .before .before .before .before .pre .0 .0 .accepted))
 
--- src/goes.rt:93:9
 add-i : tie.Need-add-i Inv-loop μ-loop
 add-i c = omega (arith, c .before .loop-test .taken, few-rows _ (c .before .before .before .before .before .before .before .before .pre .0 .0 .accepted))
 
--- src/goes.rt:91:5
 loop-less : tie.Need-loop-less Inv-loop μ-loop
 loop-less c = omega (arith, c .before .loop-test .taken)
 
--- src/goes.rt:91:5
 loop-again : tie.Need-loop-again Inv-loop μ-loop
 loop-again c = fill-on (c .before .before .before .before .before .before .before .before .pre .0 .0 .accepted) (c .before .before .loop .inv) (omega (arith, c .before .loop-test .taken)) (c .row-go .ensures)
 
--- src/goes.rt:77:1
 returns : tie.Need-returns Inv-loop μ-loop
 returns c = filled (c .before .before .before .before .before .before .before .pre .0 .0 .accepted) (c .before .loop .inv) (omega (arith, c .loop-test .left))
 

@@ -8,23 +8,18 @@ use Rattle.source.proofs.goes.find.Lts as lts
 use Rattle.layout.proofs.place.survey.Reads as survey-reads
 use Rattle.source.proofs.goes.fill.Reads as fill-reads
 
--- src/goes.rt:110:25
 slice-aggregate-survey : tie.Need-slice-aggregate-survey
 slice-aggregate-survey c = search needs
 
--- src/goes.rt:110:5
 survey-requires : tie.Need-survey-requires
 survey-requires c κs = search needs
 
--- src/goes.rt:111:16
 slice-aggregate-fill : tie.Need-slice-aggregate-fill
 slice-aggregate-fill c = search needs
 
--- src/goes.rt:111:5
 fill-requires : tie.Need-fill-requires
 fill-requires c κs = ((c .before .before .before .before .before .before .survey .ensures, c .before .before .before .before .before .before .before .before .before .pre .1), (ends-of _ (c .before .before .before .before .before .before .before .before .before .pre .0 .1) (omega (arith, c .before .before .before .fill-arg .given)), elses-of _ (c .before .before .before .before .before .before .before .before .before .pre .0 .1) (omega (arith, c .before .before .fill-arg2 .given)), heads-of _ (c .before .before .before .before .before .before .before .before .before .pre .0 .1) (omega (arith, c .before .fill-arg3 .given))))
 
--- src/goes.rt:98:1
 returns : tie.Need-returns
 returns c = search needs
 

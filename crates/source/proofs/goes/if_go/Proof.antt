@@ -8,27 +8,21 @@ use Rattle.source.proofs.goes.if_go.Reads as reads
 use Rattle.source.proofs.goes.if_go.Lts as lts
 use Rattle.source.proofs.goes.past.Reads as past-reads
 
--- src/goes.rt:34:13
 mul-x : tie.Need-mul-x
 mul-x c = search needs
 
--- src/goes.rt:34:13
 shared-slice-read-x : tie.Need-shared-slice-read-x
 shared-slice-read-x c = if-in (c .before .before .before .before .pre .0 .0) (c .before .before .before .before .pre .1 .0) (c .before .before .before .before .pre .1 .1) (c .before .before .before .before .pre .0 .2)
 
--- src/goes.rt:36:9
 past-requires : tie.Need-past-requires
 past-requires c κs = (c .before .before .before .before .before .pre .0 .0, c .before .before .before .before .before .pre .0 .1, if-opens (c .before .before .before .before .before .pre .0 .0) (c .before .before .before .before .before .pre .1 .0) (c .before .before .before .before .before .pre .1 .1) (c .before .before .before .before .before .pre .0 .2))
 
--- src/goes.rt:36:9
 returns : tie.Need-returns
 returns c = if-past (c .before .before .before .before .before .before .pre .0 .0) (c .before .before .before .before .before .before .pre .1 .0) (c .before .before .before .before .before .before .pre .1 .1) (c .before .before .before .before .before .before .pre .0 .2) refl (c .before .if1 .taken) (c .past .ensures)
 
--- src/goes.rt:38:5
 add-result : tie.Need-add-result
 add-result c = omega (arith, else-low (c .before .before .before .before .before .pre .0 .0) (c .before .before .before .before .before .pre .1 .0) (c .before .before .before .before .before .pre .1 .1) (c .before .before .before .before .before .pre .0 .2) refl (c .if1 .left))
 
--- src/goes.rt:29:1
 returns-2 : tie.Need-returns-2
 returns-2 c = if-else (c .before .before .before .before .before .pre .0 .0) (c .before .before .before .before .before .pre .1 .0) (c .before .before .before .before .before .pre .1 .1) (c .before .before .before .before .before .pre .0 .2) refl (c .if1 .left)
 

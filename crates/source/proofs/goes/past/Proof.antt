@@ -6,19 +6,15 @@ use Rattle.source.proofs.goes.past.Tie as tie
 use Rattle.source.proofs.goes.past.Reads as reads
 use Rattle.source.proofs.goes.past.Lts as lts
 
--- src/goes.rt:25:5
 mul-result : tie.Need-mul-result
 mul-result c = search needs
 
--- src/goes.rt:25:5
 shared-slice-read-result : tie.Need-shared-slice-read-result
 shared-slice-read-result c = end-in (c .before .pre .0) (c .before .pre .1) (c .before .pre .2)
 
--- src/goes.rt:25:5
 add-result : tie.Need-add-result
 add-result c = omega (arith, end-low (c .before .pre .0) (c .before .pre .1) (c .before .pre .2))
 
--- src/goes.rt:21:1
 returns : tie.Need-returns
 returns c = past-is (c .before .pre .0) (c .before .pre .1) (c .before .pre .2)
 

@@ -15,135 +15,102 @@ use Rattle.source.proofs.goes.end_go.Reads as end-go-reads
 use Rattle.source.proofs.goes.if_go.Reads as if-go-reads
 use Rattle.source.proofs.goes.past.Reads as past-reads
 
--- src/goes.rt:62:11
 kind-requires : tie.Need-kind-requires
 kind-requires c κs = search needs
 
--- src/goes.rt:63:27
 enum-told : tie.Need-enum-told
 enum-told c = search needs
 
--- src/goes.rt:64:21
 enum-told-2 : tie.Need-enum-told-2
 enum-told-2 c = search needs
 
--- src/goes.rt:65:21
 enum-told-3 : tie.Need-enum-told-3
 enum-told-3 c = search needs
 
--- src/goes.rt:65:21
 if-go-requires : tie.Need-if-go-requires
 if-go-requires c κs = ((c .before .before .before .before .before .before .before .before .pre .0 .0 .accepted, c .before .before .before .before .before .before .before .before .pre .1 .0, c .before .before .before .before .before .before .before .before .pre .1 .1), (c .before .before .before .before .before .before .before .before .pre .0 .1, kind-is _ _ (c .before .before .kind .ensures) (c .enum-told3 .given .1)))
 
--- src/goes.rt:66:40
 enum-told-4 : tie.Need-enum-told-4
 enum-told-4 c = search needs
 
--- src/goes.rt:66:40
 opener-of-requires : tie.Need-opener-of-requires
 opener-of-requires c κs = (c .before .before .before .before .before .before .before .before .pre .0 .0, in-else (c .before .before .before .before .before .before .before .before .pre .0 .0) (c .before .before .before .before .before .before .before .before .pre .0 .1) (c .before .before .kind .ensures) (c .enum-told4 .given .1))
 
--- src/goes.rt:66:23
 past-requires : tie.Need-past-requires
 past-requires c κs = search needs
 
--- src/goes.rt:67:23
 enum-told-5 : tie.Need-enum-told-5
 enum-told-5 c = search needs
 
--- src/goes.rt:67:23
 past-requires-2 : tie.Need-past-requires-2
 past-requires-2 c κs = (c .before .before .before .before .before .before .before .before .pre .0 .0 .accepted, c .before .before .before .before .before .before .before .before .pre .1 .0, record { row = c .before .before .before .before .before .before .before .before .pre .0 .1; opening = ap isOpening (kind-is _ _ (c .before .before .kind .ensures) (c .enum-told5 .given .1)) })
 
--- src/goes.rt:68:22
 enum-told-6 : tie.Need-enum-told-6
 enum-told-6 c = search needs
 
--- src/goes.rt:68:22
 end-go-requires : tie.Need-end-go-requires
 end-go-requires c κs = (c .before .before .before .before .before .before .before .before .pre .0 .0, in-end (c .before .before .before .before .before .before .before .before .pre .0 .0) (c .before .before .before .before .before .before .before .before .pre .0 .1) (c .before .before .kind .ensures) (c .enum-told6 .given .1))
 
--- src/goes.rt:69:41
 enum-told-7 : tie.Need-enum-told-7
 enum-told-7 c = search needs
 
--- src/goes.rt:69:41
 loop-of-requires : tie.Need-loop-of-requires
 loop-of-requires c κs = (c .before .before .before .before .before .before .before .before .pre .0 .0, in-break (c .before .before .before .before .before .before .before .before .pre .0 .0) (c .before .before .before .before .before .before .before .before .pre .0 .1) (c .before .before .kind .ensures) (c .enum-told7 .given .1))
 
--- src/goes.rt:69:24
 past-requires-3 : tie.Need-past-requires-3
 past-requires-3 c κs = search needs
 
--- src/goes.rt:70:27
 enum-told-8 : tie.Need-enum-told-8
 enum-told-8 c = search needs
 
--- src/goes.rt:70:27
 loop-of-requires-2 : tie.Need-loop-of-requires-2
 loop-of-requires-2 c κs = (c .before .before .before .before .before .before .before .before .pre .0 .0, in-continue (c .before .before .before .before .before .before .before .before .pre .0 .0) (c .before .before .before .before .before .before .before .before .pre .0 .1) (c .before .before .kind .ensures) (c .enum-told8 .given .1))
 
--- src/goes.rt:70:27
 cast-result : tie.Need-cast-result
 cast-result c = search needs
 
--- src/goes.rt:71:24
 enum-told-9 : tie.Need-enum-told-9
 enum-told-9 c = search needs
 
--- src/goes.rt:71:24
 callee-of-requires : tie.Need-callee-of-requires
 callee-of-requires c κs = ((c .before .before .before .before .before .before .before .before .pre .0 .0, c .before .before .before .before .before .before .before .before .pre .1 .2), (c .before .before .before .before .before .before .before .before .pre .0 .1, kind-is _ _ (c .before .before .kind .ensures) (c .enum-told9 .given .1)))
 
--- src/goes.rt:71:24
 add-result : tie.Need-add-result
 add-result c = search needs
 
--- src/goes.rt:71:23
 cast-result-2 : tie.Need-cast-result-2
 cast-result-2 c = search needs
 
--- src/goes.rt:72:26
 enum-told-10 : tie.Need-enum-told-10
 enum-told-10 c = search needs
 
--- src/goes.rt:57:1
 returns : tie.Need-returns
 returns c = function-goes _ _ (c .before .before .kind .ensures) (c .enum-told .given .1)
 
--- src/goes.rt:57:1
 returns-2 : tie.Need-returns-2
 returns-2 c = do-goes _ _ (c .before .before .kind .ensures) (c .enum-told2 .given .1)
 
--- src/goes.rt:57:1
 returns-3 : tie.Need-returns-3
 returns-3 c = if-goes _ _ (c .before .before .before .kind .ensures) (c .before .enum-told3 .given .1) (c .if-go .ensures)
 
--- src/goes.rt:57:1
 returns-4 : tie.Need-returns-4
 returns-4 c = else-goes _ _ (c .before .before .before .before .kind .ensures) (c .before .before .enum-told4 .given .1) (c .before .opener-of .ensures) (c .past .ensures)
 
--- src/goes.rt:57:1
 returns-5 : tie.Need-returns-5
 returns-5 c = loop-goes _ _ (c .before .before .before .kind .ensures) (c .before .enum-told5 .given .1) (c .past2 .ensures)
 
--- src/goes.rt:57:1
 returns-6 : tie.Need-returns-6
 returns-6 c = end-goes _ _ (c .before .before .before .kind .ensures) (c .before .enum-told6 .given .1) (c .end-go .ensures)
 
--- src/goes.rt:57:1
 returns-7 : tie.Need-returns-7
 returns-7 c = break-goes _ _ (c .before .before .before .before .kind .ensures) (c .before .before .enum-told7 .given .1) (c .before .loop-of .ensures) (c .past3 .ensures)
 
--- src/goes.rt:57:1
 returns-8 : tie.Need-returns-8
 returns-8 c = continue-goes _ _ (c .before .before .before .kind .ensures) (c .before .enum-told8 .given .1) (c .loop-of2 .ensures)
 
--- src/goes.rt:57:1
 returns-9 : tie.Need-returns-9
 returns-9 c = call-goes _ _ (c .before .before .before .kind .ensures) (c .before .enum-told9 .given .1) (c .callee-of .ensures)
 
--- src/goes.rt:57:1
 returns-10 : tie.Need-returns-10
 returns-10 c = unknown-goes _ _ (c .before .before .kind .ensures) (c .enum-told10 .given .1)
 

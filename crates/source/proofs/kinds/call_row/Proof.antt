@@ -11,59 +11,45 @@ use Rattle.machine.proofs.machine.opened.Reads as opened-reads
 use Rattle.machine.proofs.machine.stay.Reads as stay-reads
 use Rattle.source.proofs.kinds.go_of.Reads as go-of-reads
 
--- src/kinds.rt:142:14
 add-if1 : tie.Need-add-if1
 add-if1 c = search needs
 
--- src/kinds.rt:143:9
 stay-requires : tie.Need-stay-requires
 stay-requires c κs = search needs
 
--- src/kinds.rt:143:9
 returns : tie.Need-returns
 returns c = call-deep _ _ _ _ (c .before .if1 .taken) (c .stay .ensures)
 
--- src/kinds.rt:145:34
 index-requires : tie.Need-index-requires
 index-requires c κs = search needs
 
--- src/kinds.rt:145:9
 fields-of-requires : tie.Need-fields-of-requires
 fields-of-requires c κs = search needs
 
--- src/kinds.rt:146:9
 index-requires-2 : tie.Need-index-requires-2
 index-requires-2 c κs = search needs
 
--- src/kinds.rt:147:17
 add-places : tie.Need-add-places
 add-places c = omega (arith, low (c .before .before .before .before .before .before .before .pre .0 .0))
 
--- src/kinds.rt:147:5
 mul-places : tie.Need-mul-places
 mul-places c = search needs
 
--- src/kinds.rt:147:5
 element-write-places : tie.Need-element-write-places
 element-write-places c = search needs
 
--- src/kinds.rt:148:5
 element-write-functions : tie.Need-element-write-functions
 element-write-functions c = search needs
 
--- src/kinds.rt:149:15
 cast-opened : tie.Need-cast-opened
 cast-opened c = omega (arith, callee-low _ _ (c .before .before .before .before .index .ensures) (c .before .before .before .fields-of .ensures) (c .before .before .before .before .before .before .before .before .pre .0 .0) (c .before .before .before .before .before .before .before .before .pre .1 .0))
 
--- src/kinds.rt:149:26
 go-of-requires : tie.Need-go-of-requires
 go-of-requires c κs = search needs
 
--- src/kinds.rt:149:5
 opened-requires : tie.Need-opened-requires
 opened-requires c κs = search needs
 
--- src/kinds.rt:131:1
 returns-2 : tie.Need-returns-2
 returns-2 c = call-opens _ _ _ _ (c .before .before .before .before .before .before .index .ensures) (c .before .before .before .before .before .fields-of .ensures) (c .before .go-of .ensures) (c .before .before .before .before .before .before .before .if1 .left) (c .before .before .before .before .index2 .ensures) (c .opened .ensures)
 

@@ -14,43 +14,33 @@ use Rattle.machine.proofs.variables.assign.Reads as assign-reads
 use Rattle.source.proofs.kinds.next_row.Reads as next-row-reads
 use Rattle.source.proofs.kinds.operands.Reads as operands-reads
 
--- src/kinds.rt:74:38
 index-requires : tie.Need-index-requires
 index-requires c κs = search needs
 
--- src/kinds.rt:74:23
 operands-requires : tie.Need-operands-requires
 operands-requires c κs = search needs
 
--- src/kinds.rt:74:5
 assign-requires : tie.Need-assign-requires
 assign-requires c κs = operands-in (c .before .before .before .before .before .pre .0) (do-variables (c .before .before .before .before .before .pre .0) (record { each = λ j. c .before .before .before .before .shared-slice-known .given j .fits }) (c .before .before .before .before .before .pre .1)) (c .before .before .index .ensures) (c .before .operands .ensures)
 
--- src/kinds.rt:75:9
 traced-requires : tie.Need-traced-requires
 traced-requires c κs = search needs
 
--- src/kinds.rt:76:9
 index-requires-2 : tie.Need-index-requires-2
 index-requires-2 c κs = search needs
 
--- src/kinds.rt:77:5
 mul-trace : tie.Need-mul-trace
 mul-trace c = search needs
 
--- src/kinds.rt:77:5
 slice-write-trace : tie.Need-slice-write-trace
 slice-write-trace c = search needs
 
--- src/kinds.rt:78:5
 next-row-requires : tie.Need-next-row-requires
 next-row-requires c κs = omega (arith, low (c .before .before .before .before .before .before .before .before .pre .0), ap (λ x. x .place) (c .before .traced .ensures))
 
--- src/kinds.rt:70:1
 same-length : tie.Need-same-length
 same-length c = search needs
 
--- src/kinds.rt:70:1
 returns : tie.Need-returns
 returns c = do-is _ _ _ _ (c .before .before .before .before .before .before .index .ensures) (c .before .before .before .before .before .operands .ensures) (c .before .before .before .assign .ensures) (c .before .index2 .ensures) (c .next-row .ensures ∙ ap (λ x. goesTo x (suc (x .place))) (c .before .before .traced .ensures))
 

@@ -8,23 +8,18 @@ use Rattle.source.proofs.kinds.go_of.Reads as go-of-reads
 use Rattle.source.proofs.kinds.returned.Reads as returned-reads
 use Rattle.source.proofs.kinds.to_row.Reads as to-row-reads
 
--- src/kinds.rt:123:9
 go-of-requires : tie.Need-go-of-requires
 go-of-requires c κs = search needs
 
--- src/kinds.rt:125:9
 returned-requires : tie.Need-returned-requires
 returned-requires c κs = search needs
 
--- src/kinds.rt:125:9
 returns : tie.Need-returns
 returns c = end-returns _ _ _ _ (c .before .before .go-of .ensures) (c .before .if1 .taken) (c .returned .ensures)
 
--- src/kinds.rt:127:5
 to-row-requires : tie.Need-to-row-requires
 to-row-requires c κs = search needs
 
--- src/kinds.rt:113:1
 returns-2 : tie.Need-returns-2
 returns-2 c = end-goes-on _ _ _ _ (c .before .before .go-of .ensures) (c .before .if1 .left) (c .to-row .ensures)
 

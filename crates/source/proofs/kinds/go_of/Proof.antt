@@ -8,19 +8,15 @@ use Rattle.source.proofs.kinds.go_of.Reads as reads
 use Rattle.source.proofs.kinds.go_of.Lts as lts
 use Rattle.layout.proofs.row.index.Reads as index-reads
 
--- src/kinds.rt:66:10
 index-requires : tie.Need-index-requires
 index-requires c κs = search needs
 
--- src/kinds.rt:66:5
 mul-result : tie.Need-mul-result
 mul-result c = search needs
 
--- src/kinds.rt:66:5
 element-copy-out-result : tie.Need-element-copy-out-result
 element-copy-out-result c = omega (arith, low (c .before .before .pre .0), c .index .ensures)
 
--- src/kinds.rt:62:1
 returns : tie.Need-returns
 returns c = goes-to (c .before .before .before .pre .0) (c .before .before .before .pre .1) (c .before .index .ensures) refl
 

@@ -7,15 +7,12 @@ use Rattle.source.proofs.kinds.jump_row.Lts as lts
 use Rattle.source.proofs.kinds.go_of.Reads as go-of-reads
 use Rattle.source.proofs.kinds.to_row.Reads as to-row-reads
 
--- src/kinds.rt:97:12
 go-of-requires : tie.Need-go-of-requires
 go-of-requires c κs = search needs
 
--- src/kinds.rt:97:5
 to-row-requires : tie.Need-to-row-requires
 to-row-requires c κs = search needs
 
--- src/kinds.rt:93:1
 returns : tie.Need-returns
 returns c = jump-is _ _ (c .before .go-of .ensures) (c .to-row .ensures)
 

@@ -6,15 +6,12 @@ use Rattle.source.proofs.kinds.next_row.Reads as reads
 use Rattle.source.proofs.kinds.next_row.Lts as lts
 use Rattle.source.proofs.kinds.to_row.Reads as to-row-reads
 
--- src/kinds.rt:58:12
 add-to-row : tie.Need-add-to-row
 add-to-row c = search needs
 
--- src/kinds.rt:58:5
 to-row-requires : tie.Need-to-row-requires
 to-row-requires c κs = search needs
 
--- src/kinds.rt:54:1
 returns : tie.Need-returns
 returns c = next-is (c .to-row .ensures)
 

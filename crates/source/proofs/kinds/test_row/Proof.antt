@@ -11,35 +11,27 @@ use Rattle.source.proofs.kinds.next_row.Reads as next-row-reads
 use Rattle.source.proofs.kinds.operands.Reads as operands-reads
 use Rattle.source.proofs.kinds.to_row.Reads as to-row-reads
 
--- src/kinds.rt:86:40
 index-requires : tie.Need-index-requires
 index-requires c κs = search needs
 
--- src/kinds.rt:86:25
 operands-requires : tie.Need-operands-requires
 operands-requires c κs = search needs
 
--- src/kinds.rt:86:8
 holds-requires : tie.Need-holds-requires
 holds-requires c κs = operands-in (c .before .before .before .pre .0) (c .before .before .before .pre .2) (c .before .index .ensures) (c .operands .ensures)
 
--- src/kinds.rt:87:9
 next-row-requires : tie.Need-next-row-requires
 next-row-requires c κs = low (c .before .before .before .before .before .pre .0)
 
--- src/kinds.rt:87:9
 returns : tie.Need-returns
 returns c = test-true _ _ _ (c .before .before .before .before .index .ensures) (c .before .before .before .operands .ensures) (c .before .before .holds .ensures) (c .before .if1 .taken) (c .next-row .ensures)
 
--- src/kinds.rt:89:12
 go-of-requires : tie.Need-go-of-requires
 go-of-requires c κs = search needs
 
--- src/kinds.rt:89:5
 to-row-requires : tie.Need-to-row-requires
 to-row-requires c κs = search needs
 
--- src/kinds.rt:82:1
 returns-2 : tie.Need-returns-2
 returns-2 c = test-false _ _ _ (c .before .before .before .before .before .index .ensures) (c .before .before .before .before .operands .ensures) (c .before .before .before .holds .ensures) (c .before .before .if1 .left) (c .before .go-of .ensures) (c .to-row .ensures)
 

@@ -9,15 +9,12 @@ use Rattle.source.proofs.kinds.to_row.Lts as lts
 use Rattle.machine.proofs.machine.standing.Reads as standing-reads
 use Rattle.machine.proofs.machine.stay.Reads as stay-reads
 
--- src/kinds.rt:50:25
 standing-requires : tie.Need-standing-requires
 standing-requires c κs = search needs
 
--- src/kinds.rt:50:5
 stay-requires : tie.Need-stay-requires
 stay-requires c κs = search needs
 
--- src/kinds.rt:47:1
 returns : tie.Need-returns
 returns c = c .stay .ensures ∙ ap (moved (Went _)) (c .before .standing .ensures)
 

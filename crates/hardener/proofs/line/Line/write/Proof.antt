@@ -8,67 +8,51 @@ use Rattle.hardener.proofs.line.copy.Reads as copy-reads
 use Rattle.hardener.proofs.line.high.Reads as high-reads
 use Rattle.hardener.proofs.line.low.Reads as low-reads
 
--- src/line.rt:169:13
 low-requires : tie.Need-low-requires
 low-requires c κs = search needs
 
--- src/line.rt:170:13
 high-requires : tie.Need-high-requires
 high-requires c κs = search needs
 
--- src/line.rt:175:13
 low-requires-2 : tie.Need-low-requires-2
 low-requires-2 c κs = search needs
 
--- src/line.rt:176:13
 high-requires-2 : tie.Need-high-requires-2
 high-requires-2 c κs = search needs
 
--- src/line.rt:177:13
 low-requires-3 : tie.Need-low-requires-3
 low-requires-3 c κs = search needs
 
--- src/line.rt:178:13
 high-requires-3 : tie.Need-high-requires-3
 high-requires-3 c κs = search needs
 
--- src/line.rt:179:13
 low-requires-4 : tie.Need-low-requires-4
 low-requires-4 c κs = search needs
 
--- src/line.rt:180:13
 high-requires-4 : tie.Need-high-requires-4
 high-requires-4 c κs = search needs
 
--- src/line.rt:181:13
 low-requires-5 : tie.Need-low-requires-5
 low-requires-5 c κs = search needs
 
--- src/line.rt:182:13
 high-requires-5 : tie.Need-high-requires-5
 high-requires-5 c κs = search needs
 
--- src/line.rt:183:13
 low-requires-6 : tie.Need-low-requires-6
 low-requires-6 c κs = search needs
 
--- src/line.rt:184:13
 high-requires-6 : tie.Need-high-requires-6
 high-requires-6 c κs = search needs
 
--- src/line.rt:186:14
 slice-aggregate-copy : tie.Need-slice-aggregate-copy
 slice-aggregate-copy c = search needs
 
--- src/line.rt:186:9
 copy-requires : tie.Need-copy-requires
 copy-requires c κs = search needs
 
--- src/line.rt:160:5
 same-length : tie.Need-same-length
 same-length c = search needs
 
--- src/line.rt:160:5
 returns : tie.Need-returns
 unfolding put
 returns c = cc

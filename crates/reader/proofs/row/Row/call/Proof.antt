@@ -8,15 +8,12 @@ use Rattle.reader.proofs.row.Row.call.Lts as lts
 use Rattle.hardener.proofs.line.high.Reads as high-reads
 use Rattle.hardener.proofs.line.low.Reads as low-reads
 
--- src/row.rt:71:18
 low-requires : tie.Need-low-requires
 low-requires c κs = search needs
 
--- src/row.rt:72:19
 high-requires : tie.Need-high-requires
 high-requires c κs = search needs
 
--- src/row.rt:63:5
 returns : tie.Need-returns
 returns c = call-is (c .before .before .args .kind) (c .before .before .args .function) _ _ (c .before .low .ensures) (c .high .ensures)
 
