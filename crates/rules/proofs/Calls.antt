@@ -1,12 +1,15 @@
 -- The public calls by what the table gets: what a refusal gives back, and what is left to do for an accepted table. Assumes nothing.
 use mathlib.Core.Path.{_≡_, refl, ap, _∙_}
+use mathlib.Core.Logic.{_≢_}
 use mathlib.Core.Bool.{Bool, true, false, cond, not, _||_}
 use mathlib.Core.List.{List}
 use Prim.Native.Nat.{ℕ, _≤_, _<_}
+use native.Mathlib.Omega.{arith}
+use lib.Dec.{ltb}
 use lib.ListN.{length}
 use borrow.Author.Tests.{lt-ltb, le-ltb}
 use Rattle.rules.specs.declared.refusal.Refusal.{Refusal}
-use Rattle.rules.specs.declared.refusal.Refusal.the-variants.{ShortOutput, ShortRoom, NotHardened}
+use Rattle.rules.specs.declared.refusal.Refusal.the-variants.{NoWholeRows, TooManyRows, WrongField, Misplaced, TooManyFunctions, TooManyParts, NoSuchFunction, ShortOutput, ShortRoom, NotHardened}
 use Rattle.rules.specs.declared.refusal.Verdict.{Verdict}
 use Rattle.rules.specs.declared.refusal.Verdict.the-variants.{Accepted, Refused}
 use Rattle.rules.specs.Refusal.{numberOf, refuseIf, andThen}
@@ -18,6 +21,23 @@ use Rattle.rules.specs.Line.{linesIn}
 use Rattle.rules.specs.Source.{sourceRun}
 use Rattle.rules.specs.Hardened.{strikeBy, hardenedRun}
 use Rattle.rules.specs.Calls.{over, Writing, writing, shortOutput, hardenCall, checkHardenedCall, readBackCall, Running, running, shortTrace, runSourceCall, shortCounters, countersAfter, HardenedRunning, hardenedVerdict, runHardenedCall}
+
+-- number 0 says that nothing was refused
+pub no-zero : (r : Refusal) → numberOf (Refused r) ≡ 0 → ⊥
+no-zero NoWholeRows e = omega arith
+no-zero TooManyRows e = omega arith
+no-zero WrongField e = omega arith
+no-zero Misplaced e = omega arith
+no-zero TooManyFunctions e = omega arith
+no-zero TooManyParts e = omega arith
+no-zero NoSuchFunction e = omega arith
+no-zero ShortOutput e = omega arith
+no-zero ShortRoom e = omega arith
+no-zero NotHardened e = omega arith
+
+pub accepted-of : (v : Verdict) → numberOf v ≡ 0 → v ≡ Accepted
+accepted-of Accepted e = refl
+accepted-of (Refused r) e = absurd (no-zero r e)
 
 pub harden-refused : (rows out : List ℕ) (r : Refusal) → verdictOf rows ≡ Refused r
     → hardenCall rows out ≡ record { wrote = record { number = numberOf (Refused r); length = 0 }; out = out }
@@ -44,6 +64,19 @@ pub read-back-accepted : (lines out : List ℕ) → isHardened lines ≡ true
 unfolding readBackCall
 read-back-accepted lines out e =
     ap (λ b. writing (andThen (refuseIf (not b) NotHardened) (shortOutput (sourceBytes lines) out)) (sourceBytes lines) out) e
+
+-- a hardened table meets nothing but 8
+pub read-back-number : (lines out : List ℕ) → isHardened lines ≡ true → (readBackCall lines out) .wrote .number ≢ 10
+unfolding writing
+read-back-number lines out h z = by (ltb (length out) (length (sourceBytes lines))) refl
+  where
+    by : (b : Bool) → ltb (length out) (length (sourceBytes lines)) ≡ b → ⊥
+    by true e =
+        let q = read-back-accepted lines out h ∙ ap (λ b. writing (refuseIf b ShortOutput) (sourceBytes lines) out) e in
+        omega (arith, z, ap (λ w. w .wrote .number) q)
+    by false e =
+        let q = read-back-accepted lines out h ∙ ap (λ b. writing (refuseIf b ShortOutput) (sourceBytes lines) out) e in
+        omega (arith, z, ap (λ w. w .wrote .number) q)
 
 -- an answer that is copied to the front of the output, or does not fit there
 pub write-short : (answer out : List ℕ) → length out < length answer
@@ -121,3 +154,16 @@ module _ (lines vs : List ℕ) (b k p : ℕ) (slots words : List ℕ) where
         words = countersAfter Accepted words;
       }
   run-hardened-accepted e h g = hardened-by (room-verdict e (le-ltb (length slots) b h) (le-ltb (length words) 1024 g))
+
+  -- a hardened table meets nothing but 9
+  pub run-hardened-number : isHardened lines ≡ true → (runHardenedCall lines vs b k p slots words) .run .ran .number ≢ 10
+  unfolding running
+  run-hardened-number h z = by (shortTrace b slots || shortCounters words) refl
+    where
+      by : (x : Bool) → shortTrace b slots || shortCounters words ≡ x → ⊥
+      by true e =
+          let q = hardened-by (room-verdict h refl refl ∙ ap (λ c. refuseIf c ShortRoom) e) in
+          omega (arith, z, ap (λ r. r .run .ran .number) q)
+      by false e =
+          let q = hardened-by (room-verdict h refl refl ∙ ap (λ c. refuseIf c ShortRoom) e) in
+          omega (arith, z, ap (λ r. r .run .ran .number) q)

@@ -32,6 +32,7 @@ pub mod ReadRow
 pub mod ReadBack
 pub mod Reading
 pub mod Calls
+pub mod TablePromise
 pub mod Demand3
 pub mod Promise
 pub mod Instance

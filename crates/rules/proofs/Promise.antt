@@ -6,11 +6,11 @@ use Prim.Native.Nat.{ℕ, _≤_, _<_}
 use native.Mathlib.Omega.{arith}
 use lib.ListN.{length, take, drop}
 use lib.Seq.{take-append-seam}
-use Rattle.rules.specs.declared.refusal.Refusal.{Refusal}
-use Rattle.rules.specs.declared.refusal.Refusal.the-variants.{NoWholeRows, TooManyRows, WrongField, Misplaced, TooManyFunctions, TooManyParts, NoSuchFunction, ShortOutput, ShortRoom, NotHardened}
+use Rattle.rules.specs.declared.refusal.Refusal.the-variants.{NotHardened}
 use Rattle.rules.specs.declared.refusal.Verdict.{Verdict}
 use Rattle.rules.specs.declared.refusal.Verdict.the-variants.{Accepted, Refused}
 use Rattle.rules.specs.Refusal.{numberOf, refuseIf, andThen}
+use Rattle.rules.specs.Bytes.{AreBytes}
 use Rattle.rules.specs.Line.{linesIn}
 use Rattle.rules.specs.ReadBack.{isHardened}
 use Rattle.rules.specs.State.{openFunctions}
@@ -19,31 +19,17 @@ use Rattle.rules.specs.Hardened.{Counters, none, strikeBy, hardenedRun}
 use Rattle.rules.specs.Match.{shown}
 use Rattle.rules.specs.Demands.{Struck, strikes, struckShown, caughtFrom, Demand3}
 use Rattle.rules.specs.Calls.{Running, running, HardenedRunning, hardenedVerdict, notHardened, runHardenedCall}
+use Rattle.rules.specs.Reading.{TenExactly}
 use Rattle.rules.specs.Promise.{seen, AsSource, stateAt, lastAt, beyondM, isWide, HardenedPromise}
-use Rattle.rules.proofs.Logic.{clash}
+use Rattle.rules.proofs.Calls.{no-zero, accepted-of, run-hardened-refused, run-hardened-number}
+use Rattle.rules.proofs.Reading.{ten-exactly}
 use Rattle.rules.proofs.Demand3.{demand-3}
 
 -- ---- number 0 says that the call was accepted, and so that the bytes are a hardened table
-no-zero : (r : Refusal) → numberOf (Refused r) ≡ 0 → ⊥
-no-zero NoWholeRows e = omega arith
-no-zero TooManyRows e = omega arith
-no-zero WrongField e = omega arith
-no-zero Misplaced e = omega arith
-no-zero TooManyFunctions e = omega arith
-no-zero TooManyParts e = omega arith
-no-zero NoSuchFunction e = omega arith
-no-zero ShortOutput e = omega arith
-no-zero ShortRoom e = omega arith
-no-zero NotHardened e = omega arith
-
 number-of : {C : Type 0} (v : Verdict) (a : Answer C) (vs slots : List ℕ) → (running v a vs slots) .ran .number ≡ numberOf v
 unfolding running
 number-of Accepted a vs slots = refl
 number-of (Refused r) a vs slots = refl
-
-accepted-of : (v : Verdict) → numberOf v ≡ 0 → v ≡ Accepted
-accepted-of Accepted e = refl
-accepted-of (Refused r) e = absurd (no-zero r e)
 
 hardened-of : (lines : List ℕ) (later : Verdict) (b : Bool) → isHardened lines ≡ b → andThen (notHardened lines) later ≡ Accepted → isHardened lines ≡ true
 hardened-of lines later true h e = h
@@ -109,12 +95,18 @@ module _ (lines vars : List ℕ) (b k p : ℕ) (slots words : List ℕ) where
   unfolding ran
   is-caught e n h w = seen-is (accepted e) ∙ demand e .jumped .caught n h w
 
-  kept : HardenedPromise lines vars b k p slots words got
+  ten : AreBytes lines → TenExactly lines (got .run .ran .number)
   unfolding got
-  kept = record { answers = refl; unstruck = as-source; beyond = is-beyond; caught = is-caught; demand-3 = demand }
+  ten w =
+      ten-exactly lines _ w (run-hardened-number lines vars b k p slots words)
+      (λ h. ap (λ x. x .run .ran .number) (run-hardened-refused lines vars b k p slots words h))
+
+  kept : AreBytes lines → HardenedPromise lines vars b k p slots words got
+  unfolding got
+  kept w = record { answers = refl; ten = ten w; unstruck = as-source; beyond = is-beyond; caught = is-caught; demand-3 = demand }
 
 -- whatever is what the call's definition gives keeps the promise
-pub promise : (lines vars : List ℕ) (b k p : ℕ) (slots words : List ℕ) (x : HardenedRunning) → x ≡ runHardenedCall lines vars b k p slots words
+pub promise : (lines vars : List ℕ) (b k p : ℕ) (slots words : List ℕ) (x : HardenedRunning) → AreBytes lines → x ≡ runHardenedCall lines vars b k p slots words
     → HardenedPromise lines vars b k p slots words x
 unfolding got
-promise lines vars b k p slots words x e = subst (HardenedPromise lines vars b k p slots words) (sym e) (kept lines vars b k p slots words)
+promise lines vars b k p slots words x w e = subst (HardenedPromise lines vars b k p slots words) (sym e) (kept lines vars b k p slots words w)

@@ -1,6 +1,7 @@
 -- Reading back: the hardened bytes of an accepted table are read back to its own bytes, and "is a hardened table" holds of exactly
 -- the bytes that some source table hardens to.
 use mathlib.Core.Path.{_≡_, refl, sym, ap, _∙_, subst}
+use mathlib.Core.Logic.{_≢_}
 use mathlib.Core.Bool.{Bool, true, false, cond, _&&_}
 use mathlib.Core.List.{List, [], _∷_, _++_}
 use Prim.Native.Nat.{ℕ, zero, suc, _+_, _*_, _≤_, _<_}
@@ -19,7 +20,7 @@ use Rattle.rules.specs.Check.{verdictOf}
 use Rattle.rules.specs.Line.{Line, doLine, tickLine, testLine, leaveLine, outLine, callLine, backLine, retLine, lineWidth, lineIn, linesFrom, linesIn, lineAt}
 use Rattle.rules.specs.Harden.{lineCount, lineOf, testOf, rowLines, harden, hardenedBytes}
 use Rattle.rules.specs.ReadBack.{unread, sourceBytes, isHardened}
-use Rattle.rules.specs.Reading.{ReadsBack, Recognises, OneSource}
+use Rattle.rules.specs.Reading.{ReadsBack, Recognises, OneSource, TenExactly, OnlySource}
 use Rattle.rules.proofs.Logic.{and-left, and-right, and-both, clash}
 use Rattle.rules.proofs.Accepted.{Proper, accepted-is, proper-bytes, proper}
 use Rattle.rules.proofs.Harden.{line-at}
@@ -51,7 +52,7 @@ hardened-source lines h = (
   same-is (hardenedBytes (sourceBytes lines)) lines (and-right (isAccepted (verdictOf (sourceBytes lines))) _ h),
 )
 
-source-hardened : (rows lines : List ℕ) → sourceBytes lines ≡ rows → verdictOf rows ≡ Accepted → hardenedBytes rows ≡ lines → isHardened lines ≡ true
+pub source-hardened : (rows lines : List ℕ) → sourceBytes lines ≡ rows → verdictOf rows ≡ Accepted → hardenedBytes rows ≡ lines → isHardened lines ≡ true
 unfolding isHardened
 source-hardened rows lines s v h =
     rw s (and-both (ap isAccepted v) (ap (λ x. same x lines) h ∙ same-refl lines))
@@ -240,3 +241,20 @@ recognises lines w = (
   },
   λ g. source-hardened (g .rows) lines (ap sourceBytes (sym (g .hardens)) ∙ reads-back (g .rows) (g .are-bytes) (g .accepted)) (g .accepted) (g .hardens),
 )
+
+-- ---- the number of a call that judges lines
+pub ten-exactly : (lines : List ℕ) (number : ℕ) → AreBytes lines → (isHardened lines ≡ true → number ≢ 10) → (isHardened lines ≡ false → number ≡ 10)
+    → TenExactly lines number
+ten-exactly lines number w other ten = by (isHardened lines) refl
+  where
+    by : (b : Bool) → isHardened lines ≡ b → TenExactly lines number
+    by true h = record { none = λ e g. other h e; some = λ n. recognises lines w .0 h }
+    by false h = record { none = λ e g. clash (sym h ∙ recognises lines w .1 g) refl; some = λ n. absurd (n (ten h)) }
+
+pub only-source : (lines : List ℕ) → isHardened lines ≡ true → OnlySource lines (sourceBytes lines)
+only-source lines h =
+    record {
+      accepted = (hardened-source lines h) .0;
+      hardens = (hardened-source lines h) .1;
+      only = λ other. sym (reads-back (other .rows) (other .are-bytes) (other .accepted)) ∙ ap sourceBytes (other .hardens);
+    }

@@ -23,8 +23,9 @@ pub mod Arithmetic
 pub mod Checks
 pub mod Match
 pub mod Demands
-pub mod Promise
 pub mod Reading
+pub mod TablePromise
+pub mod Promise
 pub mod Bounds
 pub mod Links
 pub mod Fault

@@ -10,6 +10,7 @@ use Rattle.rules.specs.Row.{tableOf}
 use Rattle.rules.specs.Line.{Line, linesIn}
 use Rattle.rules.specs.Function.{lastPlace}
 use Rattle.rules.specs.ReadBack.{sourceBytes}
+use Rattle.rules.specs.Reading.{TenExactly}
 use Rattle.rules.specs.State.{openFunctions}
 use Rattle.rules.specs.Run.{Answer, outcomeOf}
 use Rattle.rules.specs.Source.{sourceRun}
@@ -61,6 +62,7 @@ isWide lines vs k p =
 
 pub record HardenedPromise (lines vars : List ℕ) (budget k place : ℕ) (slots words : List ℕ) (got : HardenedRunning) : Type 0 where
   pub answers : got ≡ runHardenedCall lines vars budget k place slots words
+  pub ten : TenExactly lines (got .run .ran .number)
   pub unstruck : got .run .ran .number ≡ 0 → strikes (linesIn lines) vars budget k ≡ false → AsSource lines vars budget k place got
   pub beyond : got .run .ran .number ≡ 0 → strikes (linesIn lines) vars budget k ≡ true → lastAt lines vars k < place
       → seen got ≡ beyondM lines vars k

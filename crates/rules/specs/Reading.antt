@@ -1,6 +1,6 @@
 -- Demand 2 of reading back, as types. proofs/Reading.antt proves them.
 use Prim.Native.Nat.{ℕ}
-use mathlib.Core.Logic.{_↔_}
+use mathlib.Core.Logic.{_↔_, _≢_}
 use mathlib.Core.Path.{_≡_}
 use mathlib.Core.Bool.{true}
 use mathlib.Core.List.{List}
@@ -30,3 +30,14 @@ abbrev pub OneSource : Type 0
 OneSource =
     (rows others : List ℕ) → AreBytes rows → AreBytes others → verdictOf rows ≡ Accepted → verdictOf others ≡ Accepted
     → hardenedBytes rows ≡ hardenedBytes others → rows ≡ others
+
+-- "the reader refuses exactly what no source table hardens to": a call's number is 10 there, and nowhere else
+pub record TenExactly (lines : List ℕ) (number : ℕ) : Type 0 where
+  pub none : number ≡ 10 → Given lines → ⊥
+  pub some : number ≢ 10 → Given lines
+
+-- these rows are the one source table that hardens to the lines
+pub record OnlySource (lines rows : List ℕ) : Type 0 where
+  pub accepted : verdictOf rows ≡ Accepted
+  pub hardens : hardenedBytes rows ≡ lines
+  pub only : (other : Given lines) → other .rows ≡ rows
