@@ -4,7 +4,8 @@
  * and buffers, is proved (crates/finuraho/src/export.rt) to be what crates/rules/specs/Calls.antt and Fault.antt say. That this
  * header fits the library is not proved: tests/header/run tests it.
  *
- * `rt staticlib finuraho` makes target/staticlib/libfinuraho.a, the library to link. Of the C library it needs memcpy and memset.
+ * `rt staticlib finuraho` makes target/staticlib/libfinuraho.a, the library to link: into programs for x86-64 Linux. Of the C library
+ * it needs memcpy and memset. docs/FORMAT.md has rows, lines, limits and numbers on one page.
  *
  * What a caller must keep, in every call:
  *   - A pointer followed by a length is valid for that many elements, bytes or 16-bit words, until the call returns. With the
@@ -26,6 +27,10 @@
 #ifdef __cplusplus
 extern "C" {
 #endif
+
+/* The version of this header and of the library that it came with: 10,000 x major + 100 x minor + patch. */
+#define FINURAHO_VERSION 10000
+#define FINURAHO_VERSION_STRING "1.0.0"
 
 /* The number of a call: 0, or why it was turned away. After any number but 0 every lent buffer is as it was. */
 #define FINURAHO_ACCEPTED 0
@@ -57,6 +62,38 @@ extern "C" {
 #define FINURAHO_VARIABLES 16
 #define FINURAHO_COUNTER_WORDS 1024       /* words of 16 bits: 2,048 bytes */
 #define FINURAHO_MAX_BUDGET 65535         /* as many trace slots, 131,070 bytes, are enough for every run */
+
+/* A row's bytes are kind, op, p, q, n low, n high. Its kind: */
+#define FINURAHO_ROW_FUNCTION 0x01
+#define FINURAHO_ROW_DO 0x02
+#define FINURAHO_ROW_IF 0x03
+#define FINURAHO_ROW_ELSE 0x04
+#define FINURAHO_ROW_LOOP 0x05
+#define FINURAHO_ROW_END 0x06      /* of a function, an if or a loop */
+#define FINURAHO_ROW_BREAK 0x07
+#define FINURAHO_ROW_CONTINUE 0x08
+#define FINURAHO_ROW_CALL 0x09     /* n is the function's number */
+
+/* The op of a do. */
+#define FINURAHO_DO_NUMBER 0   /* vp = n */
+#define FINURAHO_DO_VARIABLE 1 /* vp = vq */
+#define FINURAHO_DO_ADD 2      /* vp = vp + vq */
+#define FINURAHO_DO_SUBTRACT 3 /* vp = vp - vq */
+
+/* The op of an if or a loop. */
+#define FINURAHO_TEST_EQUAL 0   /* vp = n */
+#define FINURAHO_TEST_DIFFERS 1 /* vp differs from n */
+#define FINURAHO_TEST_LESS 2    /* vp less than vq */
+
+/* A hardened line's bytes are kind, op, p, q, n (2), r, s, t, 0, e (2), a (2), b (2), c (2), go (2), low bytes first. Its kind: */
+#define FINURAHO_LINE_DO 0x21
+#define FINURAHO_LINE_TICK 0x22
+#define FINURAHO_LINE_TEST 0x23
+#define FINURAHO_LINE_LEAVE 0x24
+#define FINURAHO_LINE_OUT 0x25
+#define FINURAHO_LINE_CALL 0x26
+#define FINURAHO_LINE_BACK 0x27
+#define FINURAHO_LINE_RET 0x28
 
 /* The other limits of a table and of a run. */
 #define FINURAHO_MAX_FUNCTIONS 32  /* in a table */

@@ -7,12 +7,12 @@
 
 /* v0 = 2; while v0 differs from 0: v0 = v0 - v1. */
 static const uint8_t ROWS[] = {
-    0x01, 0, 0, 0, 0, 0, /* row 0: function opens */
-    0x02, 0, 0, 0, 2, 0, /* row 1: v0 = 2 */
-    0x05, 1, 0, 0, 0, 0, /* row 2: while v0 differs from 0 */
-    0x02, 3, 0, 1, 0, 0, /* row 3: v0 = v0 - v1 */
-    0x06, 0, 0, 0, 0, 0, /* row 4: end of loop */
-    0x06, 0, 0, 0, 0, 0, /* row 5: end of function */
+    FINURAHO_ROW_FUNCTION, 0, 0, 0, 0, 0,                 /* row 0 */
+    FINURAHO_ROW_DO, FINURAHO_DO_NUMBER, 0, 0, 2, 0,      /* row 1: v0 = 2 */
+    FINURAHO_ROW_LOOP, FINURAHO_TEST_DIFFERS, 0, 0, 0, 0, /* row 2: while v0 differs from 0 */
+    FINURAHO_ROW_DO, FINURAHO_DO_SUBTRACT, 0, 1, 0, 0,    /* row 3: v0 = v0 - v1 */
+    FINURAHO_ROW_END, 0, 0, 0, 0, 0,                      /* row 4: of the loop */
+    FINURAHO_ROW_END, 0, 0, 0, 0, 0,                      /* row 5: of the function */
 };
 
 static const uint16_t VALUES[FINURAHO_VARIABLES] = {0, 1};

@@ -4,9 +4,6 @@
 #include <stdio.h>
 #include <string.h>
 
-/* Kinds of rows (01, "The source table"). */
-enum { FUNCTION = 1, DO = 2, IF = 3, LOOP = 5, END = 6, CALL = 9 };
-
 #define BUDGET 20
 
 static uint8_t rows[FINURAHO_MAX_SOURCE_BYTES + FINURAHO_ROW_BYTES];
@@ -45,11 +42,11 @@ static void put_many(int count, uint8_t kind)
 static void put_example(void)
 {
     length = 0;
-    put(FUNCTION, 0, 0, 0, 0);
-    put(DO, 0, 0, 0, 2);
-    put(LOOP, 1, 0, 0, 0);
-    put(DO, 3, 0, 1, 0);
-    put_many(2, END);
+    put(FINURAHO_ROW_FUNCTION, 0, 0, 0, 0);
+    put(FINURAHO_ROW_DO, FINURAHO_DO_NUMBER, 0, 0, 2);
+    put(FINURAHO_ROW_LOOP, FINURAHO_TEST_DIFFERS, 0, 0, 0);
+    put(FINURAHO_ROW_DO, FINURAHO_DO_SUBTRACT, 0, 1, 0);
+    put_many(2, FINURAHO_ROW_END);
 }
 
 static size_t put_hardened(void)
@@ -63,9 +60,9 @@ static size_t put_hardened(void)
 static void put_dos(int count)
 {
     length = 0;
-    put(FUNCTION, 0, 0, 0, 0);
-    put_many(count, DO);
-    put(END, 0, 0, 0, 0);
+    put(FINURAHO_ROW_FUNCTION, 0, 0, 0, 0);
+    put_many(count, FINURAHO_ROW_DO);
+    put(FINURAHO_ROW_END, 0, 0, 0, 0);
 }
 
 static void too_many_rows(void)
@@ -87,9 +84,9 @@ static void wrong_or_misplaced(void)
     put_example();
     expect("a lone function row", finuraho_check(rows, FINURAHO_ROW_BYTES), FINURAHO_MISPLACED);
     length = 0;
-    put(FUNCTION, 0, 0, 0, 0);
-    put(CALL, 0, 0, 0, 1);
-    put(END, 0, 0, 0, 0);
+    put(FINURAHO_ROW_FUNCTION, 0, 0, 0, 0);
+    put(FINURAHO_ROW_CALL, 0, 0, 0, 1);
+    put(FINURAHO_ROW_END, 0, 0, 0, 0);
     expect("no such function", finuraho_check(rows, length), FINURAHO_NO_SUCH_FUNCTION);
 }
 
@@ -112,13 +109,13 @@ static void found_rows(void)
     rows[3 * FINURAHO_ROW_BYTES] = 0x0a;
     expect_fault("fault, no such kind", length, FINURAHO_WRONG_FIELD, 3);
     put_example();
-    put(DO, 0, 0, 0, 0);
+    put(FINURAHO_ROW_DO, 0, 0, 0, 0);
     expect_fault("fault, outside a function", length, FINURAHO_MISPLACED, 6);
     length = 0;
-    put(FUNCTION, 0, 0, 0, 0);
-    put(CALL, 0, 0, 0, 0);
-    put(CALL, 0, 0, 0, 1);
-    put(END, 0, 0, 0, 0);
+    put(FINURAHO_ROW_FUNCTION, 0, 0, 0, 0);
+    put(FINURAHO_ROW_CALL, 0, 0, 0, 0);
+    put(FINURAHO_ROW_CALL, 0, 0, 0, 1);
+    put(FINURAHO_ROW_END, 0, 0, 0, 0);
     expect_fault("fault, no such function", length, FINURAHO_NO_SUCH_FUNCTION, 2);
 }
 
@@ -127,8 +124,8 @@ static uint8_t check_functions(int count)
     int i;
     length = 0;
     for (i = 0; i < count; i++) {
-        put(FUNCTION, 0, 0, 0, 0);
-        put(END, 0, 0, 0, 0);
+        put(FINURAHO_ROW_FUNCTION, 0, 0, 0, 0);
+        put(FINURAHO_ROW_END, 0, 0, 0, 0);
     }
     return finuraho_check(rows, length);
 }
@@ -136,9 +133,9 @@ static uint8_t check_functions(int count)
 static uint8_t check_open(int count)
 {
     length = 0;
-    put(FUNCTION, 0, 0, 0, 0);
-    put_many(count, IF);
-    put_many(count + 1, END);
+    put(FINURAHO_ROW_FUNCTION, 0, 0, 0, 0);
+    put_many(count, FINURAHO_ROW_IF);
+    put_many(count + 1, FINURAHO_ROW_END);
     return finuraho_check(rows, length);
 }
 
@@ -147,12 +144,12 @@ static uint8_t check_regions(int count)
 {
     int i;
     length = 0;
-    put(FUNCTION, 0, 0, 0, 0);
+    put(FINURAHO_ROW_FUNCTION, 0, 0, 0, 0);
     for (i = 1; i < count; i++) {
-        put(IF, 0, 0, 0, 0);
-        put(END, 0, 0, 0, 0);
+        put(FINURAHO_ROW_IF, 0, 0, 0, 0);
+        put(FINURAHO_ROW_END, 0, 0, 0, 0);
     }
-    put(END, 0, 0, 0, 0);
+    put(FINURAHO_ROW_END, 0, 0, 0, 0);
     return finuraho_check(rows, length);
 }
 
@@ -188,12 +185,66 @@ static void outcomes(void)
     expect("(F)", run(lines_len, BUDGET, 0, 8).outcome, FINURAHO_BEYOND);
     expect("(G)", run(lines_len, 11, FINURAHO_NO_JUMP, 0).outcome, FINURAHO_BUDGET_SPENT);
     length = 0;
-    put(FUNCTION, 0, 0, 0, 0);
-    put(CALL, 0, 0, 0, 0);
-    put(END, 0, 0, 0, 0);
+    put(FINURAHO_ROW_FUNCTION, 0, 0, 0, 0);
+    put(FINURAHO_ROW_CALL, 0, 0, 0, 0);
+    put(FINURAHO_ROW_END, 0, 0, 0, 0);
     lines_len = put_hardened();
     expect("a 17th open", run(lines_len, BUDGET, FINURAHO_NO_JUMP, 0).outcome, FINURAHO_TOO_MANY_OPEN);
     expect("its step", run(lines_len, BUDGET, FINURAHO_NO_JUMP, 0).steps, FINURAHO_MAX_OPEN);
+}
+
+/* Every kind of row and every op: v0 = 3, v1 = v0 + v0 + v0 - v0; a loop whose if breaks, an if that calls. */
+static void put_each_kind(void)
+{
+    length = 0;
+    put(FINURAHO_ROW_FUNCTION, 0, 0, 0, 0);
+    put(FINURAHO_ROW_DO, FINURAHO_DO_NUMBER, 0, 0, 3);
+    put(FINURAHO_ROW_DO, FINURAHO_DO_VARIABLE, 1, 0, 0);
+    put(FINURAHO_ROW_DO, FINURAHO_DO_ADD, 1, 0, 0);
+    put(FINURAHO_ROW_DO, FINURAHO_DO_ADD, 1, 0, 0);
+    put(FINURAHO_ROW_DO, FINURAHO_DO_SUBTRACT, 1, 0, 0);
+    put(FINURAHO_ROW_LOOP, FINURAHO_TEST_LESS, 0, 1, 0);
+    put(FINURAHO_ROW_IF, FINURAHO_TEST_EQUAL, 0, 0, 3);
+    put(FINURAHO_ROW_BREAK, 0, 0, 0, 0);
+    put(FINURAHO_ROW_ELSE, 0, 0, 0, 0);
+    put(FINURAHO_ROW_CONTINUE, 0, 0, 0, 0);
+    put_many(2, FINURAHO_ROW_END);
+    put(FINURAHO_ROW_IF, FINURAHO_TEST_DIFFERS, 0, 0, 5);
+    put(FINURAHO_ROW_CALL, 0, 0, 0, 1);
+    put_many(2, FINURAHO_ROW_END);
+    put(FINURAHO_ROW_FUNCTION, 0, 0, 0, 0);
+    put(FINURAHO_ROW_END, 0, 0, 0, 0);
+}
+
+static const uint8_t EACH_KIND[] = {
+    FINURAHO_LINE_DO,   FINURAHO_LINE_TICK,  FINURAHO_LINE_DO,    FINURAHO_LINE_TICK, FINURAHO_LINE_DO,  FINURAHO_LINE_TICK,
+    FINURAHO_LINE_DO,   FINURAHO_LINE_TICK,  FINURAHO_LINE_DO,    FINURAHO_LINE_TICK, FINURAHO_LINE_TEST, FINURAHO_LINE_TEST,
+    FINURAHO_LINE_OUT,  FINURAHO_LINE_LEAVE, FINURAHO_LINE_OUT,   FINURAHO_LINE_LEAVE, FINURAHO_LINE_LEAVE, FINURAHO_LINE_TEST,
+    FINURAHO_LINE_CALL, FINURAHO_LINE_BACK,  FINURAHO_LINE_LEAVE, FINURAHO_LINE_RET,  FINURAHO_LINE_RET,
+};
+
+/* 13 steps: five dos, the loop's test, the if's, the break, the second if, the call, the callee's end, that if's end, the end. */
+static void kinds(void)
+{
+    size_t lines_len, line;
+    finuraho_ran ran;
+    put_each_kind();
+    lines_len = put_hardened();
+    expect("lines of each kind", lines_len, sizeof EACH_KIND * FINURAHO_LINE_BYTES);
+    for (line = 0; line < sizeof EACH_KIND; line++)
+        expect("kind of a line", lines[line * FINURAHO_LINE_BYTES], EACH_KIND[line]);
+    ran = finuraho_run_source(rows, length, values, BUDGET, trace, BUDGET);
+    expect("each op, outcome", ran.outcome, FINURAHO_FINISHED);
+    expect("each op, steps", ran.steps, 13);
+    expect("each op, v0", ran.variables[0], 3);
+    expect("each op, v1", ran.variables[1], 6);
+}
+
+static void versions(void)
+{
+    char spelt[20];
+    snprintf(spelt, sizeof spelt, "%d.%d.%d", FINURAHO_VERSION / 10000, FINURAHO_VERSION / 100 % 100, FINURAHO_VERSION % 100);
+    expect("the version's string", (size_t)strcmp(spelt, FINURAHO_VERSION_STRING), 0);
 }
 
 static void short_buffers(void)
@@ -253,6 +304,8 @@ int main(void)
     found_rows();
     too_many_parts();
     outcomes();
+    kinds();
+    versions();
     short_buffers();
     null_tables();
     null_outputs();
