@@ -1,8 +1,9 @@
 // The public calls for callers in C or Rust (include/finuraho.h): a slice is a pointer and then a length. Each promises what the call
 // of its name promises.
 ghost use mathlib.Core.Path.{_≡_};
-ghost use Rattle.rules.specs.Calls.{checkCall, hardenCall, checkHardenedCall, readBackCall, runSourceCall};
+ghost use Rattle.rules.specs.Calls.{checkCall, runSourceCall};
 ghost use Rattle.rules.specs.Fault.{faultCall};
+ghost use Rattle.rules.specs.TablePromise.{HardenPromise, CheckHardenedPromise, ReadBackPromise};
 ghost use Rattle.rules.specs.Promise.{HardenedPromise};
 ghost use Rattle.finuraho.specs.Given.{writes, runs, hardenedRuns};
 use rules::answer::Fault;
@@ -25,21 +26,21 @@ pub extern "C" fn finuraho_fault(rows: &[u8]) -> Fault
 
 #[no_mangle]
 pub extern "C" fn finuraho_harden(rows: &[u8], out: &mut [u8]) -> Wrote
-    ensures { λ r. ⌜ writes r (now (out .exit)) ≡ hardenCall (now (rows .entry)) (now (out .entry)) ⌝ }
+    ensures { λ r. ⌜ HardenPromise (now (rows .entry)) (now (out .entry)) (writes r (now (out .exit))) ⌝ }
 {
     crate::harden(rows, out)
 }
 
 #[no_mangle]
 pub extern "C" fn finuraho_check_hardened(lines: &[u8]) -> u8
-    ensures { λ r. ⌜ r ≡ checkHardenedCall (now (lines .entry)) ⌝ }
+    ensures { λ r. ⌜ CheckHardenedPromise (now (lines .entry)) r ⌝ }
 {
     crate::check_hardened(lines)
 }
 
 #[no_mangle]
 pub extern "C" fn finuraho_read_back(lines: &[u8], out: &mut [u8]) -> Wrote
-    ensures { λ r. ⌜ writes r (now (out .exit)) ≡ readBackCall (now (lines .entry)) (now (out .entry)) ⌝ }
+    ensures { λ r. ⌜ ReadBackPromise (now (lines .entry)) (now (out .entry)) (writes r (now (out .exit))) ⌝ }
 {
     crate::read_back(lines, out)
 }

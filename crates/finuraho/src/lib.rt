@@ -1,9 +1,10 @@
 // The public calls. Each promises one equation with its definition in rules/specs/Calls.antt or Fault.antt: number, lengths and every
-// lent buffer, for every input; none has a `requires`. A hardened run promises demand 3 besides, of the call's own bytes, values, budget
-// and jump (rules/specs/Promise.antt).
+// lent buffer, for every input; none has a `requires`. Beside it hardening and reading back promise demand 2 of the call's own bytes
+// (rules/specs/TablePromise.antt), and a hardened run demand 3 of its own bytes, values, budget and jump (rules/specs/Promise.antt).
 ghost use mathlib.Core.Path.{_≡_};
-ghost use Rattle.rules.specs.Calls.{checkCall, hardenCall, checkHardenedCall, readBackCall, runSourceCall, shortOutput, writing};
+ghost use Rattle.rules.specs.Calls.{checkCall, runSourceCall, shortOutput, writing};
 ghost use Rattle.rules.specs.Fault.{faultCall};
+ghost use Rattle.rules.specs.TablePromise.{HardenPromise, CheckHardenedPromise, ReadBackPromise};
 ghost use Rattle.rules.specs.Promise.{HardenedPromise};
 ghost use Rattle.finuraho.specs.Given.{writes, refusedWith, runs, hardenedRuns};
 
@@ -47,7 +48,7 @@ fn refused(r: Refusal) -> Wrote
 
 // The hardened table of a source table: 01's number and the length of the answer, which stands at the front of `out`.
 pub fn harden(rows: &[u8], out: &mut [u8]) -> Wrote
-    ensures { λ r. ⌜ writes r (now (out .exit)) ≡ hardenCall (now (rows .entry)) (now (out .entry)) ⌝ }
+    ensures { λ r. ⌜ HardenPromise (now (rows .entry)) (now (out .entry)) (writes r (now (out .exit))) ⌝ }
 {
     let mut ends = table::check::row_words();
     let mut elses = table::check::row_words();
@@ -60,7 +61,7 @@ pub fn harden(rows: &[u8], out: &mut [u8]) -> Wrote
 
 // The number that the bytes get as a hardened table: 0 where some source table hardens to them, else 10.
 pub fn check_hardened(lines: &[u8]) -> u8
-    ensures { λ r. ⌜ r ≡ checkHardenedCall (now (lines .entry)) ⌝ }
+    ensures { λ r. ⌜ CheckHardenedPromise (now (lines .entry)) r ⌝ }
 {
     if reader::is_hardened(lines) {
         return 0;
@@ -84,7 +85,7 @@ fn give(answer: &[u8], out: &mut [u8]) -> Wrote
 
 // The source table of a hardened one: 01's number and the length of the answer, which stands at the front of `out`.
 pub fn read_back(lines: &[u8], out: &mut [u8]) -> Wrote
-    ensures { λ r. ⌜ writes r (now (out .exit)) ≡ readBackCall (now (lines .entry)) (now (out .entry)) ⌝ }
+    ensures { λ r. ⌜ ReadBackPromise (now (lines .entry)) (now (out .entry)) (writes r (now (out .exit))) ⌝ }
 {
     let mut rows = reader::row_bytes();
     match reader::read(lines, &mut rows) {

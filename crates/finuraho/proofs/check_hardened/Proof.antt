@@ -1,7 +1,9 @@
 use mathlib.Core.Path.{ap, sym, _∙_, refl, subst}
 use denote.Ref.{now}
 use mathlib.Core.Bool.{true, false}
+use native.Mathlib.Omega.{arith}
 use Rattle.rules.proofs.Calls.{check-hardened}
+use Rattle.rules.proofs.TablePromise.{check-hardened-promise}
 use borrow.Author.Needs.{needs}
 use Rattle.finuraho.proofs.check_hardened.Statement.{statement}
 use Rattle.finuraho.proofs.check_hardened.Tie as tie
@@ -14,13 +16,19 @@ is-hardened-requires : tie.Need-is-hardened-requires
 is-hardened-requires c κs = search needs
 
 returns : tie.Need-returns
-returns c = sym (check-hardened (now (c .before .before .before .args .lines)) true (sym (c .before .is-hardened .ensures) ∙ c .if1 .taken))
+returns c =
+    let lines = now (c .before .before .before .args .lines) in
+    check-hardened-promise lines _ (record { each = λ i. omega (arith, c .before .before .shared-slice-known .given i) })
+    (sym (check-hardened lines true (sym (c .before .is-hardened .ensures) ∙ c .if1 .taken)))
 
 of-refusal-requires : tie.Need-of-refusal-requires
 of-refusal-requires c κs = search needs
 
 returns-2 : tie.Need-returns-2
-returns-2 c = c .of-refusal .ensures ∙ sym (check-hardened (now (c .before .before .before .before .args .lines)) false (sym (c .before .before .is-hardened .ensures) ∙ c .before .if1 .left))
+returns-2 c =
+    let lines = now (c .before .before .before .before .args .lines) in
+    check-hardened-promise lines _ (record { each = λ i. omega (arith, c .before .before .before .shared-slice-known .given i) })
+    (c .of-refusal .ensures ∙ sym (check-hardened lines false (sym (c .before .before .is-hardened .ensures) ∙ c .before .if1 .left)))
 
 pub check-hardened-spec : {M : Type 1} → statement M
 check-hardened-spec =

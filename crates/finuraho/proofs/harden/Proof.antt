@@ -1,6 +1,8 @@
 use denote.Ref.{now}
 use mathlib.Core.Path.{ap, sym, _∙_}
+use native.Mathlib.Omega.{arith}
 use Rattle.rules.proofs.Calls.{harden-refused, harden-accepted}
+use Rattle.rules.proofs.TablePromise.{harden-promise}
 use borrow.Author.Needs.{needs}
 use Rattle.finuraho.proofs.harden.Statement.{statement}
 use Rattle.finuraho.proofs.harden.Tie as tie
@@ -40,14 +42,19 @@ returns : tie.Need-returns
 returns c =
     let given = c .before .before .before .before .before .before .before .before .before .before .before .before .before .args in
     let checked = c .before .before .before .before .check .ensures in
-    ap (λ w. record { wrote = w; out = now (given .out) }) (c .refused .ensures)
-    ∙ sym (harden-refused (now (given .rows)) (now (given .out)) _ (sym (checked .verdict-is) ∙ c .before .before .r .given .1))
+    harden-promise (now (given .rows)) (now (given .out)) _ (record { each = λ i. omega (arith, c .before .before .before .before .before .before .before .before .before .before .before .before .shared-slice-known .given i) })
+    (ap (λ w. record { wrote = w; out = now (given .out) }) (c .refused .ensures)
+    ∙ sym (harden-refused (now (given .rows)) (now (given .out)) _ (sym (checked .verdict-is) ∙ c .before .before .r .given .1)))
 
 same-length : tie.Need-same-length
 same-length c = search needs
 
 returns-2 : tie.Need-returns-2
-returns-2 c = c .before .before .harden-linked .ensures ∙ sym (harden-accepted _ _ (sym (c .before .before .before .before .before .before .before .before .before .check .ensures .verdict-is) ∙ c .before .before .before .before .before .before .before .enum-told .given .1))
+returns-2 c =
+    let given = c .before .before .before .before .before .before .before .before .before .before .before .before .before .before .before .before .before .before .args in
+    harden-promise (now (given .rows)) (now (given .out)) _ (record { each = λ i. omega (arith, c .before .before .before .before .before .before .before .before .before .before .before .before .before .before .before .before .before .shared-slice-known .given i) })
+    (c .before .before .harden-linked .ensures
+    ∙ sym (harden-accepted _ _ (sym (c .before .before .before .before .before .before .before .before .before .check .ensures .verdict-is) ∙ c .before .before .before .before .before .before .before .enum-told .given .1)))
 
 pub harden-spec : {M : Type 1} → statement M
 harden-spec =

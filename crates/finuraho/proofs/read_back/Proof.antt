@@ -4,6 +4,7 @@ use native.Mathlib.Omega.{arith}
 use lib.Seq.{length-take-le}
 use Rattle.rules.specs.Calls.{writing, shortOutput}
 use Rattle.rules.proofs.Calls.{read-back-refused, read-back-accepted}
+use Rattle.rules.proofs.TablePromise.{read-back-promise}
 use Rattle.reader.specs.Found.{FoundIs}
 use borrow.Author.Needs.{needs}
 use Rattle.finuraho.proofs.read_back.Statement.{statement}
@@ -43,13 +44,24 @@ give-requires : tie.Need-give-requires
 give-requires c κs = search needs
 
 returns : tie.Need-returns
-returns c = ap (λ w. record { wrote = w; out = now (c .before .before .before .before .before .before .before .before .before .args .out) }) (c .refused .ensures) ∙ sym (read-back-refused (now (c .before .before .before .before .before .before .before .before .before .args .lines)) (now (c .before .before .before .before .before .before .before .before .before .args .out)) (subst (FoundIs (now (c .before .before .before .before .before .before .before .before .before .args .lines)) (c .before .before .before .before .read .last .1 .0)) (c .before .enum-told .given .1) (c .before .before .before .before .read .ensures)))
+returns c =
+    let lines = now (c .before .before .before .before .before .before .before .before .before .args .lines) in
+    let out = now (c .before .before .before .before .before .before .before .before .before .args .out) in
+    let found = subst (FoundIs lines (c .before .before .before .before .read .last .1 .0)) (c .before .enum-told .given .1) (c .before .before .before .before .read .ensures) in
+    read-back-promise lines out _ (record { each = λ i. omega (arith, c .before .before .before .before .before .before .before .before .shared-slice-known .given i) })
+    (ap (λ w. record { wrote = w; out = out }) (c .refused .ensures) ∙ sym (read-back-refused lines out found))
 
 same-length : tie.Need-same-length
 same-length c = search needs
 
 returns-2 : tie.Need-returns-2
-returns-2 c = c .before .before .give .ensures ∙ ap (λ x. writing (shortOutput x (now (c .before .before .before .before .before .before .before .before .before .before .before .before .before .before .args .out))) x (now (c .before .before .before .before .before .before .before .before .before .before .before .before .before .before .args .out))) ((subst (FoundIs (now (c .before .before .before .before .before .before .before .before .before .before .before .before .before .before .args .lines)) (c .before .before .before .before .before .before .before .before .before .read .last .1 .0)) (c .before .before .before .before .before .before .n .given .1) (c .before .before .before .before .before .before .before .before .before .read .ensures)) .front .front-is) ∙ sym (read-back-accepted (now (c .before .before .before .before .before .before .before .before .before .before .before .before .before .before .args .lines)) (now (c .before .before .before .before .before .before .before .before .before .before .before .before .before .before .args .out)) ((subst (FoundIs (now (c .before .before .before .before .before .before .before .before .before .before .before .before .before .before .args .lines)) (c .before .before .before .before .before .before .before .before .before .read .last .1 .0)) (c .before .before .before .before .before .before .n .given .1) (c .before .before .before .before .before .before .before .before .before .read .ensures)) .hardened))
+returns-2 c =
+    let lines = now (c .before .before .before .before .before .before .before .before .before .before .before .before .before .before .args .lines) in
+    let out = now (c .before .before .before .before .before .before .before .before .before .before .before .before .before .before .args .out) in
+    let found = subst (FoundIs lines (c .before .before .before .before .before .before .before .before .before .read .last .1 .0)) (c .before .before .before .before .before .before .n .given .1) (c .before .before .before .before .before .before .before .before .before .read .ensures) in
+    read-back-promise lines out _ (record { each = λ i. omega (arith, c .before .before .before .before .before .before .before .before .before .before .before .before .before .shared-slice-known .given i) })
+    (c .before .before .give .ensures ∙ ap (λ x. writing (shortOutput x out) x out) (found .front .front-is)
+    ∙ sym (read-back-accepted lines out (found .hardened)))
 
 pub read-back-spec : {M : Type 1} → statement M
 read-back-spec =

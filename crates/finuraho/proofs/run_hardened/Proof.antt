@@ -26,13 +26,22 @@ same-length-2 : tie.Need-same-length-2
 same-length-2 c = search needs
 
 returns : tie.Need-returns
-returns c = promise (now (c .before .before .before .before .before .before .before .before .before .before .before .before .args .lines)) (c .before .before .before .before .before .before .before .before .before .before .before .before .args .variables) (c .before .before .before .before .before .before .before .before .before .before .before .before .args .budget) (c .before .before .before .before .before .before .before .before .before .before .before .before .args .step) (c .before .before .before .before .before .before .before .before .before .before .before .before .args .place) (now (c .before .before .before .before .before .before .before .before .before .before .before .before .args .trace)) (now (c .before .before .before .before .before .before .before .before .before .before .before .before .args .counters)) _ (c .before .before .before .before .hardened-run .ensures)
+returns c =
+    let given = c .before .before .before .before .before .before .before .before .before .before .before .before .args in
+    promise (now (given .lines)) (given .variables) (given .budget) (given .step) (given .place) (now (given .trace)) (now (given .counters)) _
+    (record { each = λ i. omega (arith, c .before .before .before .before .before .before .before .before .before .before .before .shared-slice-known .given i) })
+    (c .before .before .before .before .hardened-run .ensures)
 
 refused-requires : tie.Need-refused-requires
 refused-requires c κs = search needs
 
 returns-2 : tie.Need-returns-2
-returns-2 c = promise (now (c .before .before .before .before .before .before .args .lines)) (c .before .before .before .before .before .before .args .variables) (c .before .before .before .before .before .before .args .budget) (c .before .before .before .before .before .before .args .step) (c .before .before .before .before .before .before .args .place) (now (c .before .before .before .before .before .before .args .trace)) (now (c .before .before .before .before .before .before .args .counters)) _ (ap (λ x. hardenedRuns x (now (c .before .before .before .before .before .before .args .trace)) (now (c .before .before .before .before .before .before .args .counters))) (c .refused .ensures) ∙ sym (run-hardened-refused (now (c .before .before .before .before .before .before .args .lines)) (c .before .before .before .before .before .before .args .variables) (c .before .before .before .before .before .before .args .budget) (c .before .before .before .before .before .before .args .step) (c .before .before .before .before .before .before .args .place) (now (c .before .before .before .before .before .before .args .trace)) (now (c .before .before .before .before .before .before .args .counters)) (sym (c .before .before .is-hardened .ensures) ∙ c .before .if1 .left)))
+returns-2 c =
+    let given = c .before .before .before .before .before .before .args in
+    promise (now (given .lines)) (given .variables) (given .budget) (given .step) (given .place) (now (given .trace)) (now (given .counters)) _
+    (record { each = λ i. omega (arith, c .before .before .before .before .before .shared-slice-known .given i) })
+    (ap (λ x. hardenedRuns x (now (given .trace)) (now (given .counters))) (c .refused .ensures)
+    ∙ sym (run-hardened-refused (now (given .lines)) (given .variables) (given .budget) (given .step) (given .place) (now (given .trace)) (now (given .counters)) (sym (c .before .before .is-hardened .ensures) ∙ c .before .if1 .left)))
 
 pub run-hardened-spec : {M : Type 1} → statement M
 run-hardened-spec =
