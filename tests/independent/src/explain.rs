@@ -1,49 +1,72 @@
 //! What the explaining program prints: `accepted`, or the number, the row and
-//! the words of 01 that apply to it.
+//! the words for it (docs/PROGRAMS.md, "explain").
 
 use std::io::{self, Read};
 
 use crate::fault::{self, Fault};
-use crate::row::{self, ROW_BYTES};
+use crate::field;
+use crate::printed::Printed;
+use crate::records;
+use crate::row::{self, Row, ROW_BYTES};
 use crate::table::LIMITS;
-use crate::text;
 
-/// The answer for this input.
-pub fn explain(input: impl Read) -> io::Result<String> {
-    // One row too many is enough to know that there are too many.
-    match text::records(input, ROW_BYTES, LIMITS.rows + 1)? {
-        None => Ok(text::unreadable()),
-        Some(rows) => Ok(line(&rows)),
-    }
+/// What `explain` prints for this input.
+pub fn explain(input: impl Read) -> io::Result<Printed> {
+    Ok(match records::read(input, ROW_BYTES)? {
+        Err(malformed) => Printed::unreadable(&malformed),
+        Ok(bytes) => Printed::out(answer(&bytes)),
+    })
 }
 
-fn line(rows: &[u8]) -> String {
-    let Fault { number, row } = fault::find(rows);
+fn answer(bytes: &[u8]) -> String {
+    let Fault { number, row } = fault::find(bytes);
     if number == 0 {
         return "accepted\n".to_string();
     }
-    let kind = rows.get(row * ROW_BYTES).copied();
-    format!("refused {number} at row {row}: {}\n", words(number, kind))
+    let rows: Vec<Row> = bytes.chunks(ROW_BYTES).map(Row::read).collect();
+    format!("refused {number} at row {row}: {}\n", words(number, &rows, row))
 }
 
-/// The words for a number and the kind byte of its row; there is none at the end
-/// of the table.
-fn words(number: u8, kind: Option<u8>) -> &'static str {
-    match (number, kind) {
-        (1, _) => "no rows",
-        (2, _) => "over 1,024 rows",
-        (3, Some(1..=9)) => "op, p, q or an unused field is wrong",
-        (3, _) => "unknown kind",
-        (4, None) => "something is left open at the end",
-        (4, Some(row::FUNCTION)) => "a function in a function",
-        (4, Some(row::ELSE)) => "else without an open then part",
-        (4, Some(row::BREAK)) => "break outside a loop",
-        (4, Some(row::CONTINUE)) => "continue outside a loop",
-        (4, _) => "outside a function",
-        (5, _) => "a 33rd function",
-        (6, Some(row::ELSE)) => "a 65th region",
-        (6, _) => "a 17th open if or loop, or a 65th region",
-        (7, _) => "call of a function that isn't there",
+/// The words for a number and the row that it is about.
+fn words(number: u8, rows: &[Row], at: usize) -> String {
+    let words = match number {
+        1 => "no rows",
+        2 => "over 1,024 rows",
+        3 => return field_words(rows[at]),
+        4 => place_words(rows.get(at)),
+        5 => "a 33rd function",
+        6 => limit_words(rows, at),
+        7 => "call of a function that isn't there",
         _ => unreachable!("a table meets 1 to 7"),
+    };
+    words.to_string()
+}
+
+fn field_words(row: Row) -> String {
+    match row.kind {
+        row::FUNCTION..=row::CALL => {
+            field::first_wrong(row).expect("a row that meets 3 has a wrong field").words()
+        }
+        _ => "unknown kind".to_string(),
+    }
+}
+
+/// There is no row at the end of the table.
+fn place_words(row: Option<&Row>) -> &'static str {
+    match row.map(|row| row.kind) {
+        None => "something is left open at the end",
+        Some(row::FUNCTION) => "a function in a function",
+        Some(row::ELSE) => "else without an open then part",
+        Some(row::BREAK) => "break outside a loop",
+        Some(row::CONTINUE) => "continue outside a loop",
+        Some(_) => "outside a function",
+    }
+}
+
+/// "an if or a loop with 16 open", "(also where it would be the 65th region too)"
+fn limit_words(rows: &[Row], at: usize) -> &'static str {
+    match rows[at].kind {
+        row::IF | row::LOOP if fault::open_at(rows, at) == LIMITS.open => "a 17th open if or loop",
+        _ => "a 65th region",
     }
 }

@@ -128,16 +128,24 @@ impl Around {
         }
     }
 
+    fn open(&self) -> usize {
+        self.openers.iter().filter(|kind| **kind != row::FUNCTION).count()
+    }
+
     /// "a 17th open if or loop, or a 65th region"
     fn overflows(&self, kind: u8) -> bool {
-        let open = self.openers.iter().filter(|kind| **kind != row::FUNCTION).count();
         let full = self.regions == LIMITS.regions;
         match kind {
-            row::IF | row::LOOP => open == LIMITS.open || full,
+            row::IF | row::LOOP => self.open() == LIMITS.open || full,
             row::ELSE => full,
             _ => false,
         }
     }
+}
+
+/// The ifs and loops that are open at a row.
+pub fn open_at(rows: &[Row], at: usize) -> usize {
+    Around::of(rows, at).open()
 }
 
 /// The opener is an if, and no else between it and the row is its own.

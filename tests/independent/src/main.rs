@@ -7,17 +7,18 @@ use std::os::unix::ffi::OsStrExt;
 use std::path::Path;
 use std::process::ExitCode;
 
+use independent::printed::{self, Printed};
+use independent::programs::Program;
 use independent::protocol::Test;
-use independent::run_text::{self, Printed};
-use independent::{explain, replay, replay_fault, replay_read, replay_run, run_cases, text, texts};
+use independent::{replay, replay_fault, replay_read, replay_run, run_cases, texts};
 
 const USAGE: &str = "usage:
   independent harden                            rows on stdin, lines on stdout
   independent readback                          lines on stdin, rows on stdout
   independent explain                           rows on stdin, number, row and words on stdout
-  independent texts SEED COUNT DIR              rows and lines for these three
+  independent texts SEED COUNT DIR              texts for these three, and their answers
   independent run WORDS                         a run of the table on stdin
-  independent run-cases SEED COUNT DIR          command lines and inputs for it
+  independent run-cases SEED COUNT DIR          command lines and inputs for it, and its answers
   independent replay SEED COUNT DIR             tests of check and harden
   independent replay-fault SEED COUNT DIR       tests of fault
   independent replay-read SEED COUNT DIR        tests of reading back
@@ -26,21 +27,55 @@ const USAGE: &str = "usage:
 
 fn main() -> ExitCode {
     let given: Vec<OsString> = env::args_os().skip(1).collect();
-    if given.first().is_some_and(|word| word == "run") {
-        return ended(run(&given[1..]));
+    let named = given.first().and_then(|word| Program::named(&word.to_string_lossy()));
+    let done = match named {
+        Some(program) => as_program(program, &given[1..]),
+        None => write_files(&given).map_err(|error| format!("independent: {error}")),
+    };
+    match done {
+        Ok(()) => ExitCode::SUCCESS,
+        Err(line) => {
+            eprintln!("{line}");
+            ExitCode::from(2)
+        }
     }
+}
+
+/// Does what the program does; what it says to a failed read or write is the
+/// error.
+fn as_program(program: Program, words: &[OsString]) -> Result<(), String> {
+    let words: Vec<Vec<u8>> = words.iter().map(|word| word.as_bytes().to_vec()).collect();
+    let printed = program
+        .printed(&words, io::stdin().lock())
+        .map_err(|error| printed::cannot_read(&error))?;
+    print(&printed).map_err(|error| printed::cannot_write(&error))
+}
+
+/// What is said beside an answer comes before it.
+fn print(printed: &Printed) -> io::Result<()> {
+    io::stderr().write_all(&printed.err).expect("standard error takes all");
+    let mut out = io::stdout().lock();
+    out.write_all(printed.out.as_bytes())?;
+    out.flush()
+}
+
+/// The commands that write files for the scripts.
+fn write_files(given: &[OsString]) -> io::Result<()> {
     let arguments: Vec<String> =
         given.iter().map(|word| word.to_string_lossy().into_owned()).collect();
     let words: Vec<&str> = arguments.iter().map(String::as_str).collect();
-    let done = match words[..] {
-        ["harden"] => text::harden(io::stdin().lock()).and_then(|text| print(&text)),
-        ["readback"] => text::read_back(io::stdin().lock()).and_then(|text| print(&text)),
-        ["explain"] => explain::explain(io::stdin().lock()).and_then(|text| print(&text)),
-        ["texts", seed, count, to] => write_texts(seed, count, to),
+    match words[..] {
+        ["texts", seed, count, to] => {
+            let (seed, count) = numbers(seed, count)?;
+            texts::write(&texts::all(seed, count), Path::new(to))
+        }
+        ["run-cases", seed, count, to] => {
+            let (seed, count) = numbers(seed, count)?;
+            run_cases::write(&run_cases::cases(seed, count), Path::new(to))
+        }
         ["replay-fault", seed, count, to] => {
             files(replay_fault::tests, seed, count, to, Vec::new())
         }
-        ["run-cases", seed, count, to] => run_files(seed, count, to),
         ["replay", seed, count, to] => files(replay::tests, seed, count, to, Vec::new()),
         ["replay-read", seed, count, to] => files(replay_read::tests, seed, count, to, Vec::new()),
         ["replay-bytes", to] => replay::write(&replay_read::every_byte(), Path::new(to)),
@@ -49,17 +84,6 @@ fn main() -> ExitCode {
             files(replay_run::tests, seed, count, to, replay_run::long_tests())
         }
         _ => Err(wrong_usage()),
-    };
-    ended(done)
-}
-
-fn ended(done: io::Result<()>) -> ExitCode {
-    match done {
-        Ok(()) => ExitCode::SUCCESS,
-        Err(error) => {
-            eprintln!("independent: {error}");
-            ExitCode::from(2)
-        }
     }
 }
 
@@ -67,33 +91,10 @@ fn wrong_usage() -> io::Error {
     io::Error::new(io::ErrorKind::InvalidInput, USAGE)
 }
 
-fn print(text: &str) -> io::Result<()> {
-    let mut out = io::stdout().lock();
-    out.write_all(text.as_bytes())?;
-    out.flush()
-}
-
-/// Writes the files of the command `texts`.
-fn write_texts(seed: &str, count: &str, to: &str) -> io::Result<()> {
+fn numbers(seed: &str, count: &str) -> io::Result<(u64, usize)> {
     let seed = seed.parse().map_err(|_| wrong_usage())?;
     let count = count.parse().map_err(|_| wrong_usage())?;
-    texts::write(seed, count, Path::new(to))
-}
-
-/// A run of the table on standard input. A wrong word is told on standard error.
-fn run(words: &[OsString]) -> io::Result<()> {
-    let words: Vec<Vec<u8>> = words.iter().map(|word| word.as_bytes().to_vec()).collect();
-    match run_text::run(&words, io::stdin().lock())? {
-        Printed::Out(text) => print(&text),
-        Printed::Wrong(line) => io::stderr().write_all(&line),
-    }
-}
-
-/// Writes the cases of `run-cases`.
-fn run_files(seed: &str, count: &str, to: &str) -> io::Result<()> {
-    let seed = seed.parse().map_err(|_| wrong_usage())?;
-    let count = count.parse().map_err(|_| wrong_usage())?;
-    run_cases::write(&run_cases::cases(seed, count), Path::new(to))
+    Ok((seed, count))
 }
 
 /// Writes the two files of a replay command.
@@ -104,8 +105,7 @@ fn files(
     to: &str,
     more: Vec<Test>,
 ) -> io::Result<()> {
-    let seed = seed.parse().map_err(|_| wrong_usage())?;
-    let count = count.parse().map_err(|_| wrong_usage())?;
+    let (seed, count) = numbers(seed, count)?;
     let mut tests = make(seed, count);
     tests.extend(more);
     replay::write(&tests, Path::new(to))

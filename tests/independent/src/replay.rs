@@ -6,6 +6,7 @@ use std::path::Path;
 
 use crate::damage;
 use crate::faults;
+use crate::faults_limits;
 use crate::limits;
 use crate::make;
 use crate::protocol::{self, Test};
@@ -82,7 +83,7 @@ fn random_table(rng: &mut Random) -> Vec<u8> {
     match rng.below(100) {
         0..=49 => make::any_table(rng),
         50..=80 => faulty(rng),
-        81..=84 => faults::no_callee(rng).0,
+        81..=84 => faults_limits::no_callee(rng).0,
         _ => faults::mutated(rng),
     }
 }

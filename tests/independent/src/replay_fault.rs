@@ -1,6 +1,7 @@
 //! The files of `independent replay-fault`: tests of `fault`.
 
 use crate::faults;
+use crate::faults_limits;
 use crate::limits;
 use crate::make;
 use crate::protocol::{self, Test};
@@ -41,7 +42,7 @@ fn any(rng: &mut Random) -> Vec<u8> {
     match rng.below(100) {
         0..=9 => make::any_table(rng),
         10..=49 => faults::any(rng).0,
-        50..=59 => faults::no_callee(rng).0,
+        50..=59 => faults_limits::no_callee(rng).0,
         60..=79 => faults::mutated(rng),
         _ => spoilt_again(rng),
     }

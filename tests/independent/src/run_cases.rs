@@ -1,4 +1,5 @@
-//! Command lines and inputs for the program that runs a table at the bench.
+//! Command lines and inputs for the program that runs a table at the bench, and
+//! what it prints for them.
 
 use std::fs;
 use std::io;
@@ -6,14 +7,19 @@ use std::path::Path;
 
 use crate::damage;
 use crate::faults;
+use crate::faults_limits;
 use crate::limits;
 use crate::line::LINE_BYTES;
 use crate::machine::{Variables, NO_JUMP};
+use crate::malformed_texts;
 use crate::program;
 use crate::random::Random;
 use crate::replay_run::{some_budget, some_strike};
 use crate::row::ROW_BYTES;
-use crate::text::hex;
+use crate::run_text;
+use crate::run_trace_cases;
+use crate::run_word_cases;
+use crate::text;
 
 /// The words behind the program's name, and its standard input.
 pub struct Case {
@@ -22,13 +28,17 @@ pub struct Case {
 }
 
 /// Writes each case as `DIR/N.words`, a zero byte behind each word, and
-/// `DIR/N.stdin`.
+/// `DIR/N.stdin`; what is printed for it as `DIR/expected/N.out` and `N.err`.
 pub fn write(cases: &[Case], to: &Path) -> io::Result<()> {
-    fs::create_dir_all(to)?;
+    let expected = to.join("expected");
+    fs::create_dir_all(&expected)?;
     for (number, case) in cases.iter().enumerate() {
         let words: Vec<u8> = case.words.iter().flat_map(|word| [word, &[0][..]].concat()).collect();
         fs::write(to.join(format!("{number}.words")), words)?;
         fs::write(to.join(format!("{number}.stdin")), &case.input)?;
+        let printed = run_text::run(&case.words, &case.input[..])?;
+        fs::write(expected.join(format!("{number}.out")), printed.out)?;
+        fs::write(expected.join(format!("{number}.err")), printed.err)?;
     }
     Ok(())
 }
@@ -40,29 +50,24 @@ pub fn cases(seed: u64, count: usize) -> Vec<Case> {
     cases.extend(limit_tables());
     cases.extend(turned_away());
     cases.extend(unreadable());
-    cases.extend(wrong_words());
-    cases.extend(right_words());
+    cases.extend(run_word_cases::all());
+    cases.extend(run_trace_cases::all());
     cases.extend((0..count).map(|_| random(&mut rng)));
     cases
 }
 
-/// Records of a width as lines of digits; a ragged rest is a shorter line.
-fn text(bytes: &[u8], width: usize) -> Vec<u8> {
-    bytes.chunks(width).flat_map(|record| (hex(record) + "\n").into_bytes()).collect()
-}
-
 /// A case from words that have no space in them.
-fn case(words: &str, input: &[u8]) -> Case {
+pub fn case(words: &str, input: &[u8]) -> Case {
     let words = words.split_whitespace().map(|word| word.as_bytes().to_vec()).collect();
     Case { words, input: input.to_vec() }
 }
 
-fn source(words: &str, rows: &[u8]) -> Case {
-    case(&format!("source {words}"), &text(rows, ROW_BYTES))
+pub fn source(words: &str, rows: &[u8]) -> Case {
+    case(&format!("source {words}"), text::lines(rows, ROW_BYTES).as_bytes())
 }
 
-fn hardened(words: &str, lines: &[u8]) -> Case {
-    case(&format!("hardened {words}"), &text(lines, LINE_BYTES))
+pub fn hardened(words: &str, lines: &[u8]) -> Case {
+    case(&format!("hardened {words}"), text::lines(lines, LINE_BYTES).as_bytes())
 }
 
 /// 01's cases, each with and without `show`: (C) is the jump that is caught, (D)
@@ -126,7 +131,7 @@ fn turned_away() -> Vec<Case> {
     for _ in 0..60 {
         cases.push(source("v1=1 budget=9", &faults::any(&mut rng).0));
     }
-    cases.push(source("", &faults::no_callee(&mut rng).0));
+    cases.push(source("", &faults_limits::no_callee(&mut rng).0));
     let lines = damage::hardened(&limits::worked_listing());
     for _ in 0..30 {
         cases.push(hardened("show budget=9", &damage::any(&mut rng, &lines)));
@@ -135,8 +140,9 @@ fn turned_away() -> Vec<Case> {
 }
 
 fn unreadable() -> Vec<Case> {
-    let rows = text(&limits::worked_listing(), ROW_BYTES);
-    let lines = text(&damage::hardened(&limits::worked_listing()), LINE_BYTES);
+    let rows = text::lines(&limits::worked_listing(), ROW_BYTES).into_bytes();
+    let lines = damage::hardened(&limits::worked_listing());
+    let lines = text::lines(&lines, LINE_BYTES).into_bytes();
     let mut cases = Vec::new();
     for words in ["source", "hardened", "source show", "hardened show jump=0:1"] {
         for input in [&rows[..], &lines, b"\n", b"x", b"0", b"show\n", b"010000000000\r\n"] {
@@ -146,129 +152,17 @@ fn unreadable() -> Vec<Case> {
         cases.push(case(words, &lines[..lines.len() - 2]));
         cases.push(case(words, &[&rows[..], b"\n"].concat()));
     }
+    cases.extend(bad_lines("source", &rows));
+    cases.extend(bad_lines("hardened", &lines));
     cases
 }
 
-/// Every way in which a word can be wrong, in both runs. The input must not
-/// matter.
-fn wrong_words() -> Vec<Case> {
-    let long = |length: usize| "7".repeat(length);
-    let mut cases = vec![Case { words: vec![], input: vec![] }];
-    let mut add = |words: &[&[u8]]| {
-        let words = words.iter().map(|word| word.to_vec()).collect();
-        cases.push(Case { words, input: b"010000000000\n060000000000\n".to_vec() });
-    };
-    for first in ["", "Source", "sources", "sourc", "harden", "hardened ", "show", "budget=20"] {
-        add(&[first.as_bytes()]);
-        add(&[first.as_bytes(), b"v16=1"]);
-    }
-    add(&[long(4096).as_bytes()]);
-    add(&[long(4097).as_bytes(), b"x"]);
-    add(&[b"a\nb\tc\x7f\x01\xff\xc3\xa9\"'"]);
-    for run in [&b"source"[..], b"hardened"] {
-        for word in WRONG {
-            add(&[run, word]);
-            add(&[run, b"show", b"v0=1", word, b"x=1"]);
-        }
-        for (one, other) in TWICE {
-            add(&[run, one, other]);
-            add(&[run, one, b"v9=3", other, b"v99=9"]);
-        }
-        for length in [4089, 4090, 5000] {
-            add(&[run, format!("budget={}", long(length)).as_bytes()]);
-        }
-    }
-    add(&[b"hardened", b"jump=4:6", b"jump=4:6"]);
-    add(&[b"hardened", b"jump=4:6", b"v1=1", b"jump=65535:0"]);
-    add(&[b"source", b"jump=4:6"]);
-    add(&[b"source", b"budget=1", b"jump="]);
-    cases
-}
-
-const WRONG: &[&[u8]] = &[
-    b"",
-    b" ",
-    b"shows",
-    b"Show",
-    b"show=1",
-    b"budget",
-    b"budget=",
-    b"budget=65536",
-    b"budget=70000",
-    b"budget=99999999999999999999999999",
-    b"budget=-1",
-    b"budget=+1",
-    b"budget=1 ",
-    b"budget= 1",
-    b"budget=0x10",
-    b"budget=1_000",
-    b"budget=1:2",
-    b"budget==1",
-    b"budget=1\n",
-    b"Budget=1",
-    b"=1",
-    b"v",
-    b"v=",
-    b"v=1",
-    b"v1",
-    b"v1=",
-    b"v1=65536",
-    b"v15=100000",
-    b"v0=x",
-    b"v3==3",
-    b"v16=1",
-    b"v16=x",
-    b"v01=1",
-    b"v00=1",
-    b"v010=1",
-    b"v100=1",
-    b"v99999=1",
-    b"v-1=1",
-    b"v1x=1",
-    b"V1=1",
-    b"vv=1",
-    b"v 1=1",
-    b"jump",
-    b"jump=",
-    b"jump=:",
-    b"jump=4",
-    b"jump=4:",
-    b"jump=:6",
-    b"jump=4:6:7",
-    b"jump=4,6",
-    b"jump=65536:0",
-    b"jump=0:65536",
-    b"jump=x:1",
-    b"jump=1:x",
-    b"jumps=1:1",
-    b"place=1",
-    b"v1=1\xff",
-    b"\xff\xfe",
-    b"a\nb",
-];
-
-const TWICE: &[(&[u8], &[u8])] = &[
-    (b"budget=20", b"budget=20"),
-    (b"budget=20", b"budget=21"),
-    (b"v1=1", b"v1=1"),
-    (b"v15=1", b"v15=0"),
-    (b"v0=0", b"v0=7"),
-    (b"show", b"show"),
-];
-
-/// Words that look odd and are right.
-fn right_words() -> Vec<Case> {
-    let rows = limits::worked_listing();
-    let lines = damage::hardened(&rows);
-    let all: String = (0..16).map(|k| format!("v{k}={} ", 4096 * k + 4095)).collect();
-    let zeros = format!("budget={}", "0".repeat(4089));
-    let mut cases = Vec::new();
-    for words in ["v1=00000001 budget=0000000000000000020", "v15=65535 v10=1 show", &all, &zeros] {
-        cases.push(source(words, &rows));
-        cases.push(hardened(words, &lines));
-    }
-    cases.push(hardened("jump=00004:006 v1=01 show", &lines));
-    cases
+/// Each malformed line behind the right ones.
+fn bad_lines(run: &str, right: &[u8]) -> Vec<Case> {
+    let first = right.split(|byte| *byte == b'\n').next().expect("a line");
+    let good = str::from_utf8(first).expect("digits");
+    let bad = malformed_texts::bad_lines(good);
+    bad.iter().map(|(_, line)| case(run, &[right, line, b"\n"].concat())).collect()
 }
 
 /// A random program with random values, budget and jump; now and then a damaged
@@ -279,9 +173,10 @@ fn random(rng: &mut Random) -> Case {
     let budget = some_budget(rng);
     let values = given(&program.variables);
     let show = if rng.percent(60) { "show" } else { "" };
-    let words = format!("{values} budget={budget} {show}");
+    let trace = if rng.percent(40) { "trace" } else { "" };
+    let words = format!("{values} budget={budget} {show} {trace}");
     if rng.percent(30) {
-        return source(&words, &program.rows);
+        return source(&shuffled(rng, &words), &program.rows);
     }
     let lines = damage::hardened(&program.rows);
     let how = some_strike(rng, &lines, &program.variables, budget);
@@ -290,7 +185,17 @@ fn random(rng: &mut Random) -> Case {
         k => format!("jump={k}:{}", how.place),
     };
     let lines = if rng.percent(5) { damage::any(rng, &lines) } else { lines };
-    hardened(&format!("{jump} {words}"), &lines)
+    hardened(&shuffled(rng, &format!("{jump} {words}")), &lines)
+}
+
+/// "the others may stand in any order"
+fn shuffled(rng: &mut Random, words: &str) -> String {
+    let mut left: Vec<&str> = words.split_whitespace().collect();
+    let mut shuffled = Vec::new();
+    while !left.is_empty() {
+        shuffled.push(left.swap_remove(rng.below(left.len())));
+    }
+    shuffled.join(" ")
 }
 
 /// The words for these first values; a 0 is left out.

@@ -1,49 +1,57 @@
-//! The text of the program that runs a table at the bench: `run source` and
-//! `run hardened`.
+//! What the program that runs a table at the bench prints: `run source` and `run
+//! hardened` (docs/PROGRAMS.md, "run").
 
 use std::fmt::Write;
 use std::io::{self, Read};
 
 use crate::hardened_run::{HardenedRun, Jump, Sight, What};
 use crate::line::{self, LINE_BYTES};
-use crate::machine::{Outcome, Variables, NO_JUMP};
-use crate::readback::{self, MOST_LINES};
+use crate::machine::{Outcome, Variables, MOST_OPEN_FUNCTIONS, NO_JUMP};
+use crate::printed::Printed;
+use crate::readback;
+use crate::records;
 use crate::refusal::Refusal;
 use crate::row::ROW_BYTES;
 use crate::run_words::{self, Asked};
 use crate::source_run::SourceRun;
-use crate::table::{self, LIMITS};
-use crate::text::{records, unreadable};
+use crate::table;
 
-/// What the program writes: to standard output, or for a wrong word to standard
-/// error.
-pub enum Printed {
-    Out(String),
-    Wrong(Vec<u8>),
-}
+/// "A trace of at most 20 rows stands on its line"; of a longer one so many stand
+/// on each.
+const TRACE_LINE: usize = 20;
 
 /// What the program writes for these words (its own name not among them) and
 /// this input.
 pub fn run(words: &[Vec<u8>], input: impl Read) -> io::Result<Printed> {
     match run_words::read(words) {
-        Ok(asked) => Ok(Printed::Out(text(&asked, input)?)),
-        Err(line) => Ok(Printed::Wrong(line)),
+        Ok(asked) => of_input(&asked, input),
+        Err(instead) => Ok(instead),
     }
 }
 
-fn text(asked: &Asked, input: impl Read) -> io::Result<String> {
-    let (width, keep) = match asked.hardened {
-        true => (LINE_BYTES, MOST_LINES + 1),
-        false => (ROW_BYTES, LIMITS.rows + 1),
-    };
-    let Some(bytes) = records(input, width, keep)? else {
-        return Ok(unreadable());
-    };
-    let ran = match asked.hardened {
-        true => hardened(asked, &bytes),
-        false => source(asked, &bytes),
-    };
-    Ok(ran.unwrap_or_else(|refusal| format!("refused {}\n", refusal.number())))
+fn of_input(asked: &Asked, input: impl Read) -> io::Result<Printed> {
+    let width = if asked.hardened { LINE_BYTES } else { ROW_BYTES };
+    Ok(match records::read(input, width)? {
+        Err(malformed) => Printed::unreadable(&malformed),
+        Ok(bytes) => of_table(asked, &bytes),
+    })
+}
+
+/// A table that is turned away is not run: nothing is told of its jump.
+fn of_table(asked: &Asked, bytes: &[u8]) -> Printed {
+    let ran = if asked.hardened { hardened(asked, bytes) } else { source(asked, bytes) };
+    match ran {
+        Ok(out) => Printed { out, err: told_before(asked).into() },
+        Err(refusal) => Printed::refused(refusal.number()),
+    }
+}
+
+/// "`jump=65535:P` is accepted and told on standard error, before the run"
+fn told_before(asked: &Asked) -> &'static str {
+    match asked.jump {
+        Some((NO_JUMP, _)) => "step 65535 is no jump: no budget holds it\n",
+        _ => "",
+    }
 }
 
 fn source(asked: &Asked, rows: &[u8]) -> Result<String, Refusal> {
@@ -58,16 +66,16 @@ fn source(asked: &Asked, rows: &[u8]) -> Result<String, Refusal> {
                 format!("step {step} function {} row {} {}", at.function, at.row, at.word),
             );
         }
+        text.push_str(&limit_met(outcome, None));
     }
-    text.push_str(&answer(outcome, run.steps, &run.trace, &run.variables));
+    text.push_str(&answer(asked, outcome, run.steps, &run.trace, &run.variables));
     Ok(text)
 }
 
 fn hardened(asked: &Asked, bytes: &[u8]) -> Result<String, Refusal> {
     readback::source_of(bytes)?;
     let lines = line::from_bytes(bytes);
-    let (k, place) = asked.jump;
-    let jump = (k != NO_JUMP).then_some(Jump { k, place });
+    let jump = asked.jump.filter(|(k, _)| *k != NO_JUMP).map(|(k, place)| Jump { k, place });
     let mut run = HardenedRun::new(&lines, asked.variables);
     let mut text = String::new();
     let outcome = run.run_seen(asked.budget, jump, &mut |step, sight| {
@@ -75,7 +83,10 @@ fn hardened(asked: &Asked, bytes: &[u8]) -> Result<String, Refusal> {
             line(&mut text, seen(step, &sight));
         }
     });
-    text.push_str(&answer(outcome, run.steps, &run.trace, &run.variables));
+    if asked.show {
+        text.push_str(&limit_met(outcome, Some(run.span().m)));
+    }
+    text.push_str(&answer(asked, outcome, run.steps, &run.trace, &run.variables));
     Ok(text)
 }
 
@@ -104,16 +115,48 @@ fn looked_at(what: &What) -> String {
     text
 }
 
-/// "A run answers outcome, steps, trace length and the variables."
-fn answer(outcome: Outcome, steps: u16, trace: &[u16], variables: &Variables) -> String {
+/// "Where the run ends because a limit was met, a line behind the steps says
+/// which". The last place is m of the running function; a source run has none.
+fn limit_met(outcome: Outcome, last_place: Option<usize>) -> String {
+    match (outcome, last_place) {
+        (Outcome::TooManyOpen, _) => format!("{MOST_OPEN_FUNCTIONS} functions are open\n"),
+        (Outcome::PlaceBeyond, Some(m)) => format!("the last place is {m}\n"),
+        _ => String::new(),
+    }
+}
+
+/// "An accepted run prints four lines": outcome, steps, trace, variables.
+fn answer(
+    asked: &Asked,
+    outcome: Outcome,
+    steps: u16,
+    trace: &[u16],
+    variables: &Variables,
+) -> String {
     let mut text = String::new();
     line(&mut text, format!("outcome {} {}", outcome.number(), outcome.words()));
     line(&mut text, format!("steps {steps}"));
-    line(&mut text, listed("trace", trace));
+    text.push_str(&traced(trace, asked.trace));
     line(&mut text, listed("variables", variables));
     text
 }
 
+/// The trace on its line, or its length, and with the word `trace` the rows too.
+fn traced(trace: &[u16], all: bool) -> String {
+    let mut text = String::new();
+    let rows = trace.len();
+    if rows <= TRACE_LINE {
+        line(&mut text, listed("trace", trace));
+    } else if all {
+        line(&mut text, format!("trace of {rows} rows"));
+        trace.chunks(TRACE_LINE).for_each(|some| line(&mut text, listed("", some)));
+    } else {
+        line(&mut text, format!("trace of {rows} rows, listed with the word trace"));
+    }
+    text
+}
+
+/// A name and the numbers, a space before each.
 fn listed(name: &str, numbers: &[u16]) -> String {
     numbers.iter().fold(name.to_string(), |text, number| text + &format!(" {number}"))
 }

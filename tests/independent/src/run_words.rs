@@ -1,6 +1,9 @@
-//! The command line of the program that runs a table at the bench.
+//! The command line of the program that runs a table at the bench
+//! (docs/PROGRAMS.md, "run").
 
-use crate::machine::{Variables, NO_JUMP};
+use crate::machine::Variables;
+use crate::printed::Printed;
+use crate::usage;
 
 /// The longest word that the program takes.
 pub const LONGEST_WORD: usize = 4096;
@@ -9,20 +12,22 @@ pub const LONGEST_WORD: usize = 4096;
 #[derive(Clone, Debug, PartialEq, Eq)]
 pub struct Asked {
     pub hardened: bool,
+    pub trace: bool,
     pub show: bool,
     pub budget: u16,
     /// the step and the place of a jump
-    pub jump: (u16, u16),
+    pub jump: Option<(u16, u16)>,
     pub variables: Variables,
 }
 
-/// What is asked, or the line to print for the first wrong word (bytes, since a
-/// word need not be text).
-pub fn read(words: &[Vec<u8>]) -> Result<Asked, Vec<u8>> {
+/// What is asked, or what is printed instead: the usage, or the line for the
+/// first wrong word.
+pub fn read(words: &[Vec<u8>]) -> Result<Asked, Printed> {
     let Some((first, rest)) = words.split_first() else {
-        return Err(MISSING.as_bytes().to_vec());
+        return Err(Printed::err(usage::RUN));
     };
     let hardened = match &first[..] {
+        help if usage::is_help(help) => return Err(Printed::out(usage::RUN)),
         _ if first.len() > LONGEST_WORD => return Err(wrong(first, TOO_LONG)),
         b"source" => false,
         b"hardened" => true,
@@ -35,25 +40,22 @@ pub fn read(words: &[Vec<u8>]) -> Result<Asked, Vec<u8>> {
     Ok(line.asked())
 }
 
-const MISSING: &str = "missing word: expected source or hardened, then any of \
-    budget=0..65535 (65535 if missing), v0..v15=0..65535 (0 if missing), show and, \
-    for hardened, jump=STEP:PLACE (none if missing)\n";
-
 const TOO_LONG: &str = "at most 4096 bytes";
 
 /// One line: control characters are shown as question marks, and no more of the
 /// word than its first 4,096 bytes.
-fn wrong(word: &[u8], expected: &str) -> Vec<u8> {
+fn wrong(word: &[u8], expected: &str) -> Printed {
     let shown = word.iter().take(LONGEST_WORD);
     let mut text = b"wrong word \"".to_vec();
     text.extend(shown.map(|byte| if byte.is_ascii_control() { b'?' } else { *byte }));
     text.extend(format!("\": expected {expected}\n").bytes());
-    text
+    Printed::err(text)
 }
 
 /// The words so far; nothing is given twice.
 struct Line {
     hardened: bool,
+    trace: Option<()>,
     show: Option<()>,
     budget: Option<u16>,
     jump: Option<(u16, u16)>,
@@ -62,16 +64,19 @@ struct Line {
 
 impl Line {
     fn new(hardened: bool) -> Line {
-        Line { hardened, show: None, budget: None, jump: None, variables: [None; 16] }
+        let variables = [None; 16];
+        Line { hardened, trace: None, show: None, budget: None, jump: None, variables }
     }
 
-    /// "missing: 65,535" for the budget, 0 for variables, no jump.
+    /// "Without budget= it is 65535, without v0= to v15= they are 0, without jump=
+    /// there is no jump."
     fn asked(&self) -> Asked {
         Asked {
             hardened: self.hardened,
+            trace: self.trace.is_some(),
             show: self.show.is_some(),
             budget: self.budget.unwrap_or(65_535),
-            jump: self.jump.unwrap_or((NO_JUMP, 0)),
+            jump: self.jump,
             variables: self.variables.map(|value| value.unwrap_or(0)),
         }
     }
@@ -83,8 +88,10 @@ impl Line {
         }
         // bytes that are no text make no right word either way
         let text = &*String::from_utf8_lossy(word);
-        if text == "show" {
-            return once(&mut self.show, (), "show");
+        match text {
+            "trace" => return once(&mut self.trace, (), text),
+            "show" => return once(&mut self.show, (), text),
+            _ => {}
         }
         let (key, value) = text.split_once('=').ok_or_else(|| self.any())?;
         match key {
@@ -114,7 +121,7 @@ impl Line {
     /// All that may stand behind the first word.
     fn any(&self) -> String {
         let jump = if self.hardened { ", jump=STEP:PLACE" } else { "" };
-        format!("budget=0..65535, v0..v15=0..65535{jump} or show")
+        format!("budget=0..65535, v0..v15=0..65535{jump}, trace or show")
     }
 }
 

@@ -154,3 +154,47 @@ pub fn cut_end(rng: &mut Random, rows: &mut Vec<Row>) {
     let keep = rng.between(last + 1, rows.len() - 1);
     rows.truncate(keep);
 }
+
+/// A place where no function is open: before, between or after the functions.
+pub fn between_functions(rng: &mut Random, rows: &[Row]) -> usize {
+    let starts = (0..rows.len()).filter(|i| rows[*i].kind == row::FUNCTION);
+    let places: Vec<usize> = starts.chain([rows.len()]).collect();
+    rng.pick(&places)
+}
+
+/// So many small functions.
+pub fn small_functions(rng: &mut Random, count: usize) -> Vec<Row> {
+    let shape = Shape { rows: 0, functions: count, depth: 2, eager: 0, weights: MIXED };
+    let mut maker = Maker::new(rng, shape);
+    for _ in 0..count {
+        let room = maker.rng.pick(&[0, 0, 0, 1, 2, 3]);
+        maker.function(room);
+    }
+    maker.rows
+}
+
+/// Sixteen ifs and loops, as many as may be open.
+pub fn sixteen_parts(rng: &mut Random) -> Vec<Part> {
+    (0..16).map(|_| rng.pick(&[Part::Then, Part::Else, Part::Loop])).collect()
+}
+
+/// A function with so many regions opened, nothing but its body still open. Ifs,
+/// elses and loops by chance.
+pub fn open_regions(rng: &mut Random, count: usize) -> Vec<Row> {
+    let mut rows = vec![Row::plain(row::FUNCTION)];
+    let mut made = 1;
+    while made < count {
+        let kind = rng.pick(&[row::IF, row::LOOP]);
+        rows.push(make::test_row(rng, kind));
+        made += 1;
+        if kind == row::IF && made < count && rng.percent(50) {
+            rows.push(Row::plain(row::ELSE));
+            made += 1;
+        }
+        if rng.percent(20) {
+            rows.push(make::do_row(rng));
+        }
+        rows.push(Row::plain(row::END));
+    }
+    rows
+}

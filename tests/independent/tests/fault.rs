@@ -4,7 +4,7 @@
 use independent::fault::{self, Fault};
 use independent::random::Random;
 use independent::row::{self, Row, ROW_BYTES};
-use independent::{check, explain, limits, make, replay_fault};
+use independent::{check, limits, make, replay_fault};
 
 fn plain(kinds: &[u8]) -> Vec<u8> {
     let rows: Vec<Row> = kinds.iter().map(|kind| Row::plain(*kind)).collect();
@@ -97,33 +97,4 @@ fn the_first_row_that_is_wrong() {
         }
     }
     assert!(met.iter().all(|count| *count > 100), "{met:?}");
-}
-
-fn explained(input: &str) -> String {
-    explain::explain(input.as_bytes()).unwrap()
-}
-
-#[test]
-fn words() {
-    assert_eq!(explained(""), "refused 1 at row 0: no rows\n");
-    assert_eq!(explained("010000000000\n060000000000"), "accepted\n");
-    assert_eq!(explained("010000000000\n06000000000\n"), "unreadable\n");
-    assert_eq!(
-        explained("010000000000\n"),
-        "refused 4 at row 1: something is left open at the end\n"
-    );
-    assert_eq!(explained("020000000000\n"), "refused 4 at row 0: outside a function\n");
-    assert_eq!(
-        explained("060000010000\n"),
-        "refused 3 at row 0: op, p, q or an unused field is wrong\n"
-    );
-    assert_eq!(explained("0a0000000000\n"), "refused 3 at row 0: unknown kind\n");
-    assert_eq!(
-        explained(&"ffffffffffff\n".repeat(2000)),
-        "refused 2 at row 1024: over 1,024 rows\n"
-    );
-    assert_eq!(
-        explained("010000000000\n090000000001\n060000000000"),
-        "refused 7 at row 1: call of a function that isn't there\n"
-    );
 }

@@ -2,27 +2,21 @@
 
 mod listing;
 
-use independent::run_text::{self, Printed};
+use independent::printed::Printed;
+use independent::run_text;
 use independent::{limits, text};
 use listing::{LINES, ROWS};
 
-fn printed(words: &str, input: &str) -> Printed {
-    let words: Vec<Vec<u8>> = words.split(' ').map(|word| word.as_bytes().to_vec()).collect();
-    run_text::run(&words, input.as_bytes()).unwrap()
-}
-
+/// What is printed for these words, with nothing on standard error.
 fn out(words: &str, input: &str) -> String {
-    match printed(words, input) {
-        Printed::Out(text) => text,
-        Printed::Wrong(line) => panic!("{}", String::from_utf8_lossy(&line)),
-    }
+    let words: Vec<Vec<u8>> = words.split(' ').map(|word| word.as_bytes().to_vec()).collect();
+    let Printed { out, err } = run_text::run(&words, input.as_bytes()).unwrap();
+    assert_eq!(String::from_utf8(err).unwrap(), "");
+    out
 }
 
-fn wrong(words: &str) -> String {
-    match printed(words, "not read") {
-        Printed::Out(text) => panic!("{text}"),
-        Printed::Wrong(line) => String::from_utf8(line).unwrap(),
-    }
+fn hardened(rows: &str) -> String {
+    text::harden(rows.as_bytes()).unwrap().out
 }
 
 /// Case (A), listed by hand.
@@ -84,6 +78,7 @@ variables 0 1 0 0 0 0 0 0 0 0 0 0 0 0 0 0
     assert_eq!(out("hardened show v1=1 jump=0:7", LINES), by_the_host);
     let beyond = "\
 jump to place 8
+the last place is 7
 outcome 4 the place is beyond m
 steps 0
 trace
@@ -111,9 +106,9 @@ steps 4
 trace
 variables 0 0 0 0 0 0 0 0 0 0 0 0 0 0 0 0
 ";
-    assert_eq!(out("hardened show", &text::harden(rows.as_bytes()).unwrap()), expected);
+    assert_eq!(out("hardened show", &hardened(rows)), expected);
     // its place m: only the host of the last open function looks at a counter
-    let early = out("hardened show jump=1:1", &text::harden(rows.as_bytes()).unwrap());
+    let early = out("hardened show jump=1:1", &hardened(rows));
     assert!(early.contains("\njump to place 1\nstep 1 function 1 place 1 end\nstep 2 "));
 }
 
@@ -122,10 +117,103 @@ fn without_show() {
     let expected = "outcome 0 budget spent\nsteps 11\ntrace 1 3 3\n\
         variables 0 1 0 0 0 0 0 0 0 0 0 0 0 0 0 0\n";
     assert_eq!(out("hardened budget=11 v1=1", LINES), expected);
-    let recursion: String =
-        limits::recursion().chunks(6).map(|row| text::hex(row) + "\n").collect();
+    let beyond = out("hardened v1=1 jump=0:8", LINES);
+    assert!(beyond.starts_with("outcome 4 the place is beyond m\nsteps 0\ntrace\n"), "{beyond}");
+}
+
+/// 16 functions are open, and a call comes: rows 1 to 3 sixteen times.
+#[test]
+fn too_many_open() {
+    let recursion = text::lines(&limits::recursion(), 6);
     let deep = out("source v0=16 v1=1", &recursion);
-    assert!(deep.starts_with("outcome 3 too many open functions\n"), "{deep}");
+    assert!(deep.starts_with("outcome 3 too many open functions\nsteps 48\ntrace 2 2 "), "{deep}");
+    let met =
+        "step 47 function 0 row 3 call\n16 functions are open\noutcome 3 too many open functions\n";
+    assert!(out("source v0=16 v1=1 show", &recursion).contains(met));
+    // hardened, each do has its tick: 16 times test, do, tick, call
+    let shown = out("hardened v0=16 v1=1 show", &hardened(&recursion));
+    let met = "\n16 functions are open\noutcome 3 too many open functions\nsteps 64\n";
+    assert!(shown.contains(met), "{shown}");
+    let last = shown.split(met).next().unwrap().lines().last().unwrap();
+    assert!(last.starts_with("step 63 function 0 place 3 call counter 1 holds "), "{last}");
+    // one function less: finished, and no such line
+    let shown = out("hardened v0=15 v1=1 show", &hardened(&recursion));
+    assert!(shown.contains("\noutcome 1 finished\n") && !shown.contains("are open"));
+}
+
+/// The running function's last place, which is not that of the first function.
+#[test]
+fn beyond_in_a_callee() {
+    // function 0: call, back, ret; function 1: ret
+    let rows = "010000000000\n090000000100\n060000000000\n010000000000\n060000000000\n";
+    let shown = out("hardened show jump=1:2", &hardened(rows));
+    let expected = "\
+step 0 function 0 place 0 call counter 0 holds 1
+jump to place 2
+the last place is 1
+outcome 4 the place is beyond m
+steps 1
+trace
+variables 0 0 0 0 0 0 0 0 0 0 0 0 0 0 0 0
+";
+    assert_eq!(shown, expected);
+    let shown = out("hardened show jump=2:65535", &hardened(rows));
+    assert!(shown.contains("\njump to place 65535\nthe last place is 3\noutcome 4 "), "{shown}");
+}
+
+/// A table of so many dos in a row: their rows are 1 and on.
+fn dos(count: usize) -> String {
+    "010000000000\n".to_string() + &"020000000500\n".repeat(count) + "060000000000\n"
+}
+
+/// Each kind of trace, between the steps and the variables.
+#[test]
+fn traces() {
+    let none = "variables 5 0 0 0 0 0 0 0 0 0 0 0 0 0 0 0\n";
+    let nineteen = "trace 1 2 3 4 5 6 7 8 9 10 11 12 13 14 15 16 17 18 19\n";
+    let twenty = "trace 1 2 3 4 5 6 7 8 9 10 11 12 13 14 15 16 17 18 19 20\n";
+    for words in ["source", "source trace", "source trace budget=65535"] {
+        assert_eq!(out(words, &dos(19)), format!("outcome 1 finished\nsteps 20\n{nineteen}{none}"));
+        assert_eq!(out(words, &dos(20)), format!("outcome 1 finished\nsteps 21\n{twenty}{none}"));
+    }
+    let told = "trace of 21 rows, listed with the word trace\n";
+    assert_eq!(out("source", &dos(21)), format!("outcome 1 finished\nsteps 22\n{told}{none}"));
+    let listed = "\
+trace of 21 rows
+ 1 2 3 4 5 6 7 8 9 10 11 12 13 14 15 16 17 18 19 20
+ 21
+";
+    assert_eq!(
+        out("source trace", &dos(21)),
+        format!("outcome 1 finished\nsteps 22\n{listed}{none}")
+    );
+    let listed = "\
+trace of 40 rows
+ 1 2 3 4 5 6 7 8 9 10 11 12 13 14 15 16 17 18 19 20
+ 21 22 23 24 25 26 27 28 29 30 31 32 33 34 35 36 37 38 39 40
+";
+    assert_eq!(
+        out("hardened trace", &hardened(&dos(40))),
+        format!("outcome 1 finished\nsteps 81\n{listed}{none}")
+    );
+}
+
+/// docs/PROGRAMS.md's own number: a loop over one do, 3 steps a round.
+#[test]
+fn a_run_that_never_ends() {
+    let endless = "010000000000\n050000000000\n020001000000\n060000000000\n060000000000\n";
+    let told = "outcome 0 budget spent\nsteps 65535\n\
+        trace of 21845 rows, listed with the word trace\n";
+    assert!(out("source", endless).starts_with(told));
+    let listed = out("source trace", endless);
+    let row = " 2 2 2 2 2 2 2 2 2 2 2 2 2 2 2 2 2 2 2 2";
+    let lines: Vec<&str> = listed.lines().collect();
+    // 21,845 is 1,092 lines of 20 and 5 more
+    assert_eq!(lines.len(), 3 + 1092 + 1 + 1);
+    assert_eq!(lines[2], "trace of 21845 rows");
+    assert!(lines[3..1095].iter().all(|line| *line == row));
+    assert_eq!(lines[1095], " 2 2 2 2 2");
+    assert!(lines[1096].starts_with("variables "));
 }
 
 #[test]
@@ -133,36 +221,13 @@ fn turned_away_and_unreadable() {
     assert_eq!(out("source", ""), "refused 1\n");
     assert_eq!(out("source show", "010000000000\n"), "refused 4\n");
     assert_eq!(out("hardened show jump=0:0", ""), "refused 10\n");
-    assert_eq!(out("hardened", ROWS), "unreadable\n");
-    assert_eq!(out("source", "\n"), "unreadable\n");
-}
-
-#[test]
-fn wrong_words() {
-    let list = "budget=0..65535, v0..v15=0..65535, jump=STEP:PLACE or show";
-    for word in ["v16=1", "x", "v01=1", "shows", "", "V1=1"] {
-        let expected = format!("wrong word \"{word}\": expected {list}\n");
-        assert_eq!(wrong(&format!("hardened {word}")), expected);
+    for (words, input, line) in [
+        ("hardened", ROWS, "line 1: 12 digits, not 40\n"),
+        ("source show", LINES, "line 1: more than 12 digits\n"),
+        ("source trace", "\n", "line 1: an empty line\n"),
+    ] {
+        let words: Vec<Vec<u8>> = words.split(' ').map(|word| word.as_bytes().to_vec()).collect();
+        let Printed { out, err } = run_text::run(&words, input.as_bytes()).unwrap();
+        assert_eq!((&out[..], &err[..]), ("unreadable\n", line.as_bytes()));
     }
-    let cases = [
-        ("start", "start", "source or hardened"),
-        ("source v16=1", "v16=1", "budget=0..65535, v0..v15=0..65535 or show"),
-        ("source budget=65536", "budget=65536", "budget=0..65535"),
-        ("source budget=", "budget=", "budget=0..65535"),
-        ("source v3=+1", "v3=+1", "v3=0..65535"),
-        ("hardened jump=4", "jump=4", "jump=STEP:PLACE, each 0..65535"),
-        ("source jump=4:6", "jump=4:6", "jump in a hardened run only"),
-        ("source budget=1 budget=2", "budget=2", "budget only once"),
-        ("hardened jump=1:1 jump=1:1", "jump=1:1", "jump only once"),
-        ("source v1=1 v1=1", "v1=1", "v1 only once"),
-        ("source show show", "show", "show only once"),
-        ("source a\nb", "a?b", "budget=0..65535, v0..v15=0..65535 or show"),
-    ];
-    for (words, word, expected) in cases {
-        assert_eq!(wrong(words), format!("wrong word \"{word}\": expected {expected}\n"));
-    }
-    let Printed::Wrong(line) = run_text::run(&[], &b""[..]).unwrap() else {
-        panic!("no first word");
-    };
-    assert!(line.starts_with(b"missing word: expected source or hardened, then any of budget"));
 }

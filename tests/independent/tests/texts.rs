@@ -4,15 +4,16 @@ mod listing;
 
 use std::io::Read;
 
+use independent::printed::Printed;
 use independent::{limits, text};
 use listing::{LINES, ROWS};
 
 fn hardened(input: &str) -> String {
-    text::harden(input.as_bytes()).unwrap()
+    text::harden(input.as_bytes()).unwrap().out
 }
 
 fn read_back(input: &str) -> String {
-    text::read_back(input.as_bytes()).unwrap()
+    text::read_back(input.as_bytes()).unwrap().out
 }
 
 #[test]
@@ -40,6 +41,15 @@ fn refusals() {
     assert_eq!(read_back(""), "refused 10\n");
     assert_eq!(read_back(&"28".repeat(20)), "refused 10\n");
     assert_eq!(read_back(&format!("{}\n", "28".repeat(20)).repeat(9000)), "refused 10\n");
+}
+
+/// Nothing is said beside an answer.
+#[test]
+fn standard_error_is_empty() {
+    assert_eq!(text::harden(ROWS.as_bytes()).unwrap(), Printed::out(LINES));
+    assert_eq!(text::harden(&b""[..]).unwrap(), Printed::out("refused 1\n"));
+    assert_eq!(text::read_back(LINES.as_bytes()).unwrap(), Printed::out(ROWS));
+    assert_eq!(text::read_back(&b""[..]).unwrap(), Printed::out("refused 10\n"));
 }
 
 #[test]
@@ -105,13 +115,12 @@ impl Read for Slow<'_> {
 
 #[test]
 fn however_the_input_comes() {
-    assert_eq!(text::harden(Slow(ROWS.as_bytes())).unwrap(), hardened(ROWS));
+    assert_eq!(text::harden(Slow(ROWS.as_bytes())).unwrap(), Printed::out(LINES));
 }
 
 #[test]
 fn the_largest_table() {
-    let rows: String =
-        limits::rows(1024).chunks(6).map(|row| format!("{}\n", text::hex(row))).collect();
+    let rows = text::lines(&limits::rows(1024), 6);
     let lines = hardened(&rows);
     assert_eq!(lines.lines().count(), 2045);
     assert_eq!(read_back(&lines), rows);
