@@ -23,11 +23,11 @@ shallow h = omega arith
 index-requires : tie.Need-index-requires
 index-requires c κs = search needs
 
-mul-wrong : tie.Need-mul-wrong
-mul-wrong c = search needs
+mul-held : tie.Need-mul-held
+mul-held c = search needs
 
-slice-read-wrong : tie.Need-slice-read-wrong
-slice-read-wrong c = search needs
+slice-read-held : tie.Need-slice-read-held
+slice-read-held c = search needs
 
 add-full : tie.Need-add-full
 add-full c = search needs
@@ -91,8 +91,8 @@ call-spec =
     tie.close
     (tie.spec
     index-requires
-    mul-wrong
-    slice-read-wrong
+    mul-held
+    slice-read-held
     add-full
     stay-requires
     returns

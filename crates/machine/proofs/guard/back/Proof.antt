@@ -10,11 +10,11 @@ use Rattle.machine.proofs.words.index.Reads as index-reads
 index-requires : tie.Need-index-requires
 index-requires c κs = search needs
 
-mul-if1 : tie.Need-mul-if1
-mul-if1 c = search needs
+mul-caller : tie.Need-mul-caller
+mul-caller c = search needs
 
-slice-read-if1 : tie.Need-slice-read-if1
-slice-read-if1 c = search needs
+slice-read-caller : tie.Need-slice-read-caller
+slice-read-caller c = search needs
 
 returns : tie.Need-returns
 unfolding backOf
@@ -30,8 +30,8 @@ mul-counters c = search needs
 slice-write-counters : tie.Need-slice-write-counters
 slice-write-counters c = search needs
 
-add-t9 : tie.Need-add-t9
-add-t9 c = search needs
+add-t10 : tie.Need-add-t10
+add-t10 c = search needs
 
 same-length : tie.Need-same-length
 same-length c = search needs
@@ -45,12 +45,12 @@ back-spec =
     tie.close
     (tie.spec
     index-requires
-    mul-if1
-    slice-read-if1
+    mul-caller
+    slice-read-caller
     returns
     returns-2
     mul-counters
     slice-write-counters
-    add-t9
+    add-t10
     same-length
     returns-3)

@@ -12,11 +12,11 @@ use Rattle.machine.proofs.words.index.Reads as index-reads
 index-requires : tie.Need-index-requires
 index-requires c κs = search needs
 
-mul-if1 : tie.Need-mul-if1
-mul-if1 c = search needs
+mul-child : tie.Need-mul-child
+mul-child c = search needs
 
-slice-read-if1 : tie.Need-slice-read-if1
-slice-read-if1 c = search needs
+slice-read-child : tie.Need-slice-read-child
+slice-read-child c = search needs
 
 returns : tie.Need-returns
 unfolding leaveOf
@@ -31,11 +31,11 @@ slice-write-counters c = search needs
 index-requires-2 : tie.Need-index-requires-2
 index-requires-2 c κs = search needs
 
-mul-if2 : tie.Need-mul-if2
-mul-if2 c = search needs
+mul-around : tie.Need-mul-around
+mul-around c = search needs
 
-slice-read-if2 : tie.Need-slice-read-if2
-slice-read-if2 c = simp length-set (omega arith)
+slice-read-around : tie.Need-slice-read-around
+slice-read-around c = simp length-set (omega arith)
 
 same-length : tie.Need-same-length
 same-length c = search needs
@@ -62,14 +62,14 @@ leave-spec =
     tie.close
     (tie.spec
     index-requires
-    mul-if1
-    slice-read-if1
+    mul-child
+    slice-read-child
     returns
     mul-counters
     slice-write-counters
     index-requires-2
-    mul-if2
-    slice-read-if2
+    mul-around
+    slice-read-around
     same-length
     returns-2
     mul-counters-2

@@ -12,11 +12,11 @@ use Rattle.machine.proofs.words.zero_part.Reads as zero-part-reads
 index-requires : tie.Need-index-requires
 index-requires c κs = search needs
 
-mul-if1 : tie.Need-mul-if1
-mul-if1 c = search needs
+mul-inner : tie.Need-mul-inner
+mul-inner c = search needs
 
-slice-read-if1 : tie.Need-slice-read-if1
-slice-read-if1 c = search needs
+slice-read-inner : tie.Need-slice-read-inner
+slice-read-inner c = search needs
 
 returns : tie.Need-returns
 unfolding outOf
@@ -52,8 +52,8 @@ out-spec =
     tie.close
     (tie.spec
     index-requires
-    mul-if1
-    slice-read-if1
+    mul-inner
+    slice-read-inner
     returns
     index-requires-2
     add-n

@@ -14,11 +14,11 @@ use Rattle.machine.proofs.words.put.Reads as put-reads
 index-requires : tie.Need-index-requires
 index-requires c κs = search needs
 
-mul-if1 : tie.Need-mul-if1
-mul-if1 c = search needs
+mul-outer : tie.Need-mul-outer
+mul-outer c = search needs
 
-slice-read-if1 : tie.Need-slice-read-if1
-slice-read-if1 c = search needs
+slice-read-outer : tie.Need-slice-read-outer
+slice-read-outer c = search needs
 
 returns : tie.Need-returns
 unfolding testOf
@@ -33,8 +33,8 @@ slice-write-counters c = search needs
 put-requires : tie.Need-put-requires
 put-requires c κs = search needs
 
-add-t15 : tie.Need-add-t15
-add-t15 c = search needs
+add-t16 : tie.Need-add-t16
+add-t16 c = search needs
 
 same-length : tie.Need-same-length
 same-length c = c .before .before .put .kept .0 ∙ simp length-set
@@ -56,13 +56,13 @@ test-spec =
     tie.close
     (tie.spec
     index-requires
-    mul-if1
-    slice-read-if1
+    mul-outer
+    slice-read-outer
     returns
     mul-counters
     slice-write-counters
     put-requires
-    add-t15
+    add-t16
     same-length
     returns-2
     put-requires-2

@@ -10,11 +10,11 @@ use Rattle.machine.proofs.words.index.Reads as index-reads
 index-requires : tie.Need-index-requires
 index-requires c κs = search needs
 
-mul-if1 : tie.Need-mul-if1
-mul-if1 c = search needs
+mul-held : tie.Need-mul-held
+mul-held c = search needs
 
-slice-read-if1 : tie.Need-slice-read-if1
-slice-read-if1 c = search needs
+slice-read-held : tie.Need-slice-read-held
+slice-read-held c = search needs
 
 returns : tie.Need-returns
 unfolding tickOf
@@ -26,8 +26,8 @@ mul-counters c = search needs
 slice-write-counters : tie.Need-slice-write-counters
 slice-write-counters c = search needs
 
-add-t8 : tie.Need-add-t8
-add-t8 c = search needs
+add-t9 : tie.Need-add-t9
+add-t9 c = search needs
 
 same-length : tie.Need-same-length
 same-length c = search needs
@@ -41,11 +41,11 @@ tick-spec =
     tie.close
     (tie.spec
     index-requires
-    mul-if1
-    slice-read-if1
+    mul-held
+    slice-read-held
     returns
     mul-counters
     slice-write-counters
-    add-t8
+    add-t9
     same-length
     returns-2)

@@ -11,11 +11,11 @@ use Rattle.machine.proofs.words.index.Reads as index-reads
 index-requires : tie.Need-index-requires
 index-requires c κs = search needs
 
-mul-if1 : tie.Need-mul-if1
-mul-if1 c = search needs
+mul-held : tie.Need-mul-held
+mul-held c = search needs
 
-slice-read-if1 : tie.Need-slice-read-if1
-slice-read-if1 c = search needs
+slice-read-held : tie.Need-slice-read-held
+slice-read-held c = search needs
 
 stay-requires : tie.Need-stay-requires
 stay-requires c κs = search needs
@@ -43,8 +43,8 @@ ret-spec =
     tie.close
     (tie.spec
     index-requires
-    mul-if1
-    slice-read-if1
+    mul-held
+    slice-read-held
     stay-requires
     returns
     mul-counters
