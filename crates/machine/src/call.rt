@@ -30,7 +30,8 @@ pub fn call(
 {
     let i = words::index(h.depth, l.r);
     let held = counters[i];
-    let wrong = held != l.e;
+    let e = l.e;
+    let wrong = held != e;
     let full = 16 <= h.depth + 1;
     if wrong {
         return machine::stay(Step::Alarm, h);

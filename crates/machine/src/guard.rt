@@ -13,7 +13,8 @@ pub fn tick(l: Fields, place: u16, depth: u16, counters: &mut [u16]) -> Step
 {
     let i = words::index(depth, l.r);
     let held = counters[i];
-    if held != l.e {
+    let e = l.e;
+    if held != e {
         return Step::Alarm;
     }
     counters[i] = l.a;
@@ -26,7 +27,8 @@ pub fn test(l: Fields, holds: bool, place: u16, depth: u16, counters: &mut [u16]
 {
     let i = words::index(depth, l.r);
     let outer = counters[i];
-    if outer != l.e {
+    let e = l.e;
+    if outer != e {
         return Step::Alarm;
     }
     counters[i] = l.a;
@@ -44,13 +46,15 @@ pub fn leave(l: Fields, depth: u16, counters: &mut [u16]) -> Step
 {
     let i = words::index(depth, l.r);
     let child = counters[i];
-    if child != l.e {
+    let e = l.e;
+    if child != e {
         return Step::Alarm;
     }
     counters[i] = 0;
     let j = words::index(depth, l.s);
     let around = counters[j];
-    if around != l.b {
+    let b = l.b;
+    if around != b {
         return Step::Alarm;
     }
     counters[j] = l.a;
@@ -63,7 +67,8 @@ pub fn out(l: Fields, depth: u16, counters: &mut [u16]) -> Step
 {
     let i = words::index(depth, l.r);
     let inner = counters[i];
-    if inner != l.e {
+    let e = l.e;
+    if inner != e {
         return Step::Alarm;
     }
     let from = words::index(depth, l.t);
@@ -80,10 +85,12 @@ pub fn back(l: Fields, last: u16, place: u16, depth: u16, counters: &mut [u16]) 
 {
     let i = words::index(depth, l.r);
     let caller = counters[i];
-    if caller != l.e {
+    let e = l.e;
+    if caller != e {
         return Step::Alarm;
     }
-    if last != l.b {
+    let b = l.b;
+    if last != b {
         return Step::Alarm;
     }
     counters[i] = l.a;

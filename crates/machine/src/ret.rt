@@ -45,7 +45,8 @@ pub fn ret(
 {
     let i = words::index(h.depth, 0);
     let held = counters[i];
-    if held != l.e {
+    let e = l.e;
+    if held != e {
         return machine::stay(Step::Alarm, h);
     }
     counters[i] = l.a;

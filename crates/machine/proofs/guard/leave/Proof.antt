@@ -20,7 +20,7 @@ slice-read-child c = search needs
 
 returns : tie.Need-returns
 unfolding leaveOf
-returns c = simp (← c .before .before .before .index .ensures .0, ne-eqb _ _ (c .if1 .taken))
+returns c = simp (← c .before .before .index .ensures .0, ne-eqb _ _ (c .if1 .taken))
 
 mul-counters : tie.Need-mul-counters
 mul-counters c = search needs
@@ -42,7 +42,7 @@ same-length c = search needs
 
 returns-2 : tie.Need-returns-2
 unfolding leaveOf
-returns-2 c = simp (← c .before .before .before .before .before .before .before .index .ensures .0, eq-eqb _ _ (c .before .before .before .before .if1 .left), ← c .before .before .before .index2 .ensures .0, ne-eqb _ _ (c .if2 .taken))
+returns-2 c = simp (← c .before .before .before .before .before .index .ensures .0, eq-eqb _ _ (c .before .before .before .if1 .left), ← c .before .before .index2 .ensures .0, ne-eqb _ _ (c .if2 .taken))
 
 mul-counters-2 : tie.Need-mul-counters-2
 mul-counters-2 c = search needs
@@ -55,7 +55,7 @@ same-length-2 c = search needs
 
 returns-3 : tie.Need-returns-3
 unfolding leaveOf
-returns-3 c = simp (← c .before .before .before .before .before .before .before .index .ensures .0, eq-eqb _ _ (c .before .before .before .before .if1 .left), ← c .before .before .before .index2 .ensures .0, eq-eqb _ _ (c .if2 .left))
+returns-3 c = simp (← c .before .before .before .before .before .index .ensures .0, eq-eqb _ _ (c .before .before .before .if1 .left), ← c .before .before .index2 .ensures .0, eq-eqb _ _ (c .if2 .left))
 
 pub leave-spec : {M : Type 1} → statement M
 leave-spec =

@@ -20,7 +20,7 @@ slice-read-inner c = search needs
 
 returns : tie.Need-returns
 unfolding outOf
-returns c = simp (← c .before .before .before .index .ensures .0, ne-eqb _ _ (c .if1 .taken))
+returns c = simp (← c .before .before .index .ensures .0, ne-eqb _ _ (c .if1 .taken))
 
 index-requires-2 : tie.Need-index-requires-2
 index-requires-2 c κs = search needs
@@ -45,7 +45,7 @@ same-length c = search needs
 
 returns-2 : tie.Need-returns-2
 unfolding outOf
-returns-2 c = simp (← c .before .before .before .before .before .before .before .before .before .before .before .before .before .before .index .ensures .0, eq-eqb _ _ (c .before .before .before .before .before .before .before .before .before .before .before .if1 .left), ← c .before .before .before .before .before .before .before .before .before .before .index2 .ensures .0, c .before .before .put .ensures, c .before .before .before .before .before .before .zero-part .ensures)
+returns-2 c = simp (← c .before .before .before .before .before .before .before .before .before .before .before .before .before .index .ensures .0, eq-eqb _ _ (c .before .before .before .before .before .before .before .before .before .before .before .if1 .left), ← c .before .before .before .before .before .before .before .before .before .before .index2 .ensures .0, c .before .before .put .ensures, c .before .before .before .before .before .before .zero-part .ensures)
 
 pub out-spec : {M : Type 1} → statement M
 out-spec =

@@ -22,7 +22,7 @@ slice-read-outer c = search needs
 
 returns : tie.Need-returns
 unfolding testOf
-returns c = simp (← c .before .before .before .index .ensures .0, ne-eqb _ _ (c .if1 .taken))
+returns c = simp (← c .before .before .index .ensures .0, ne-eqb _ _ (c .if1 .taken))
 
 mul-counters : tie.Need-mul-counters
 mul-counters c = search needs
@@ -33,14 +33,14 @@ slice-write-counters c = search needs
 put-requires : tie.Need-put-requires
 put-requires c κs = search needs
 
-add-t16 : tie.Need-add-t16
-add-t16 c = search needs
+add-t17 : tie.Need-add-t17
+add-t17 c = search needs
 
 same-length : tie.Need-same-length
 same-length c = c .before .before .put .kept .0 ∙ simp length-set
 
 returns-2 : tie.Need-returns-2
-returns-2 c = test-held _ _ _ _ _ _ _ (c .before .before .before .before .before .before .before .before .index .ensures .0) (c .before .before .before .before .before .if1 .left) (c .before .before .before .before .if2 .taken) (c .before .before .put .ensures)
+returns-2 c = test-held _ _ _ _ _ _ _ (c .before .before .before .before .before .before .before .index .ensures .0) (c .before .before .before .before .before .if1 .left) (c .before .before .before .before .if2 .taken) (c .before .before .put .ensures)
 
 put-requires-2 : tie.Need-put-requires-2
 put-requires-2 c κs = search needs
@@ -49,7 +49,7 @@ same-length-2 : tie.Need-same-length-2
 same-length-2 c = c .before .before .put2 .kept .0 ∙ simp length-set
 
 returns-3 : tie.Need-returns-3
-returns-3 c = test-failed _ _ _ _ _ _ _ (c .before .before .before .before .before .before .before .before .index .ensures .0) (c .before .before .before .before .before .if1 .left) (c .before .before .before .before .if2 .left) (c .before .before .put2 .ensures)
+returns-3 c = test-failed _ _ _ _ _ _ _ (c .before .before .before .before .before .before .before .index .ensures .0) (c .before .before .before .before .before .if1 .left) (c .before .before .before .before .if2 .left) (c .before .before .put2 .ensures)
 
 pub test-spec : {M : Type 1} → statement M
 test-spec =
@@ -62,7 +62,7 @@ test-spec =
     mul-counters
     slice-write-counters
     put-requires
-    add-t16
+    add-t17
     same-length
     returns-2
     put-requires-2

@@ -18,7 +18,7 @@ slice-read-held c = search needs
 
 returns : tie.Need-returns
 unfolding tickOf
-returns c = simp (← c .before .before .before .index .ensures .0, ne-eqb _ _ (c .if1 .taken))
+returns c = simp (← c .before .before .index .ensures .0, ne-eqb _ _ (c .if1 .taken))
 
 mul-counters : tie.Need-mul-counters
 mul-counters c = search needs
@@ -26,15 +26,15 @@ mul-counters c = search needs
 slice-write-counters : tie.Need-slice-write-counters
 slice-write-counters c = search needs
 
-add-t9 : tie.Need-add-t9
-add-t9 c = search needs
+add-t10 : tie.Need-add-t10
+add-t10 c = search needs
 
 same-length : tie.Need-same-length
 same-length c = search needs
 
 returns-2 : tie.Need-returns-2
 unfolding tickOf
-returns-2 c = simp (← c .before .before .before .index .ensures .0, eq-eqb _ _ (c .if1 .left))
+returns-2 c = simp (← c .before .before .index .ensures .0, eq-eqb _ _ (c .if1 .left))
 
 pub tick-spec : {M : Type 1} → statement M
 tick-spec =
@@ -46,6 +46,6 @@ tick-spec =
     returns
     mul-counters
     slice-write-counters
-    add-t9
+    add-t10
     same-length
     returns-2)

@@ -21,7 +21,7 @@ stay-requires : tie.Need-stay-requires
 stay-requires c κs = search needs
 
 returns : tie.Need-returns
-returns c = ret-alarm _ _ _ _ _ _ _ (c .before .before .before .before .index .ensures .0) _ (c .stay .ensures) (c .before .if1 .taken)
+returns c = ret-alarm _ _ _ _ _ _ _ (c .before .before .before .index .ensures .0) _ (c .stay .ensures) (c .before .if1 .taken)
 
 mul-counters : tie.Need-mul-counters
 mul-counters c = search needs
@@ -36,7 +36,7 @@ same-length : tie.Need-same-length
 same-length c = search needs
 
 returns-2 : tie.Need-returns-2
-returns-2 c = ret-returns _ _ _ _ _ _ _ (c .before .before .before .before .before .index .ensures .0) _ (c .before .before .if1 .left) (c .returned .ensures)
+returns-2 c = ret-returns _ _ _ _ _ _ _ (c .before .before .before .before .index .ensures .0) _ (c .before .before .if1 .left) (c .returned .ensures)
 
 pub ret-spec : {M : Type 1} → statement M
 ret-spec =
