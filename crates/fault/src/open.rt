@@ -6,6 +6,9 @@ ghost use Prim.Native.Nat.{_<_};
 ghost use Rattle.fault.specs.Standing.{loopsWithout, Sane};
 ghost use Rattle.fault.specs.Next.{PlainOk, JumpOk, EnterOk, NextOk};
 
+// The limit of regions in a function.
+const REGIONS: usize = 64;
+
 // The open parts and the loop bodies among them, the regions opened in the running function, and the functions opened.
 // Beside it goes a byte for each open part, the function's body first: the kind byte of the row that opened it.
 pub struct Standing {
@@ -72,7 +75,7 @@ fn enter(part: u8, loops: usize, s: Standing, parts: &mut [u8]) -> Next
     if s.depth > 16 {
         return Next::Faulty(Refusal::TooManyParts);
     }
-    if s.opened >= 64 {
+    if s.opened >= REGIONS {
         return Next::Faulty(Refusal::TooManyParts);
     }
     let inner = s.depth;
@@ -97,7 +100,7 @@ fn turn(s: Standing, parts: &mut [u8]) -> Next
     if parts[inner] != 3 {
         return Next::Faulty(Refusal::Misplaced);
     }
-    if s.opened >= 64 {
+    if s.opened >= REGIONS {
         return Next::Faulty(Refusal::TooManyParts);
     }
     parts[inner] = 4;

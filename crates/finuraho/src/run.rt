@@ -59,10 +59,12 @@ pub fn hardened_run(
     requires { ⌜ isHardened (now lines) ≡ true ⌝ }
     ensures { λ r. ⌜ hardenedRuns r (now (trace .exit)) (now (counters .exit)) ≡ runHardenedCall (now (lines .entry)) variables budget step place (now (trace .entry)) (now (counters .entry)) ⌝ }
 {
-    if trace.len() < budget as usize {
+    let slots = trace.len();
+    let words = counters.len();
+    if slots < budget as usize {
         return refused(Refusal::ShortRoom, variables);
     }
-    if counters.len() < 1024 {
+    if words < 1024 {
         return refused(Refusal::ShortRoom, variables);
     }
     machine::table::run_table(lines, variables, budget, step, place, trace, counters)

@@ -29,7 +29,9 @@ pub fn call(
     ensures { λ r. ⌜ shifted r (now (places .exit)) (now (functions .exit)) (now (counters .exit)) ≡ callOf l (now (owners .entry)) h (now (places .entry)) (now (functions .entry)) (now (counters .entry)) ⌝ }
 {
     let i = words::index(h.depth, l.r);
-    let wrong = counters[i] != l.e;
+    let held = counters[i];
+    let e = l.e;
+    let wrong = held != e;
     let full = 16 <= h.depth + 1;
     if wrong {
         return machine::stay(Step::Alarm, h);

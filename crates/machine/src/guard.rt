@@ -12,7 +12,9 @@ pub fn tick(l: Fields, place: u16, depth: u16, counters: &mut [u16]) -> Step
     ensures { λ r. ⌜ counted r (now (counters .exit)) ≡ tickOf l place depth (now (counters .entry)) ⌝ }
 {
     let i = words::index(depth, l.r);
-    if counters[i] != l.e {
+    let held = counters[i];
+    let e = l.e;
+    if held != e {
         return Step::Alarm;
     }
     counters[i] = l.a;
@@ -24,7 +26,9 @@ pub fn test(l: Fields, holds: bool, place: u16, depth: u16, counters: &mut [u16]
     ensures { λ r. ⌜ counted r (now (counters .exit)) ≡ testOf l holds place depth (now (counters .entry)) ⌝ }
 {
     let i = words::index(depth, l.r);
-    if counters[i] != l.e {
+    let outer = counters[i];
+    let e = l.e;
+    if outer != e {
         return Step::Alarm;
     }
     counters[i] = l.a;
@@ -41,12 +45,16 @@ pub fn leave(l: Fields, depth: u16, counters: &mut [u16]) -> Step
     ensures { λ r. ⌜ counted r (now (counters .exit)) ≡ leaveOf l depth (now (counters .entry)) ⌝ }
 {
     let i = words::index(depth, l.r);
-    if counters[i] != l.e {
+    let child = counters[i];
+    let e = l.e;
+    if child != e {
         return Step::Alarm;
     }
     counters[i] = 0;
     let j = words::index(depth, l.s);
-    if counters[j] != l.b {
+    let around = counters[j];
+    let b = l.b;
+    if around != b {
         return Step::Alarm;
     }
     counters[j] = l.a;
@@ -58,7 +66,9 @@ pub fn out(l: Fields, depth: u16, counters: &mut [u16]) -> Step
     ensures { λ r. ⌜ counted r (now (counters .exit)) ≡ outOf l depth (now (counters .entry)) ⌝ }
 {
     let i = words::index(depth, l.r);
-    if counters[i] != l.e {
+    let inner = counters[i];
+    let e = l.e;
+    if inner != e {
         return Step::Alarm;
     }
     let from = words::index(depth, l.t);
@@ -74,10 +84,13 @@ pub fn back(l: Fields, last: u16, place: u16, depth: u16, counters: &mut [u16]) 
     ensures { λ r. ⌜ counted r (now (counters .exit)) ≡ backOf l last place depth (now (counters .entry)) ⌝ }
 {
     let i = words::index(depth, l.r);
-    if counters[i] != l.e {
+    let caller = counters[i];
+    let e = l.e;
+    if caller != e {
         return Step::Alarm;
     }
-    if last != l.b {
+    let b = l.b;
+    if last != b {
         return Step::Alarm;
     }
     counters[i] = l.a;

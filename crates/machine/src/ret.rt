@@ -44,7 +44,9 @@ pub fn ret(
     ensures { λ r. ⌜ settled r (now (counters .exit)) ≡ retOf l home h (now (places .entry)) (now (functions .entry)) (now (counters .entry)) ⌝ }
 {
     let i = words::index(h.depth, 0);
-    if counters[i] != l.e {
+    let held = counters[i];
+    let e = l.e;
+    if held != e {
         return machine::stay(Step::Alarm, h);
     }
     counters[i] = l.a;

@@ -39,6 +39,7 @@ pub mod Instance
 pub mod Compute
 pub mod Cases
 pub mod Report
+pub mod Worked
 pub mod Refusals
 pub mod Arithmetic
 pub mod Checks

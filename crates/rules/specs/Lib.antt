@@ -18,6 +18,7 @@ pub mod Calls
 pub mod Listing
 pub mod Cases
 pub mod Report
+pub mod Worked
 pub mod Refusals
 pub mod Arithmetic
 pub mod Checks

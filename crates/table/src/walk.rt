@@ -11,6 +11,11 @@ ghost use lib.ListN.{length, set};
 ghost use Rattle.table.specs.First.{firstKind};
 ghost use Rattle.table.specs.Walked.{SeqOk, StepOk, RestOk, jumpStep};
 
+// The limits: ifs and loops that are open at one row, and regions in a function.
+const OPEN: usize = 16;
+
+const REGIONS: usize = 64;
+
 // How a sequence of constructs ended: refused, or at an end or else row. With it go the rows before that row and the regions opened
 // in the function so far.
 pub enum Seq {
@@ -159,10 +164,10 @@ fn if_part(
     requires { ⌜ (5 < length (now rows)) × (firstKind (now rows) ≡ Kind.If) ⌝ }
     ensures { λ r. ⌜ StepOk (now (rows .entry)) base depth opened «in_loop» (now (ends .entry)) (now (elses .entry)) (now (ends .exit)) (now (elses .exit)) r ⌝ }
 {
-    if depth >= 16 {
+    if depth >= OPEN {
         return Step::Faulty(Refusal::TooManyParts);
     }
-    if opened >= 64 {
+    if opened >= REGIONS {
         return Step::Faulty(Refusal::TooManyParts);
     }
     link(elses, base, 0);
@@ -215,7 +220,7 @@ fn else_part(
     requires { ⌜ 5 < length (now rows) ⌝ }
     ensures { λ r. ⌜ RestOk (now (rows .entry)) row base depth opened «in_loop» (now (ends .entry)) (now (elses .entry)) (now (ends .exit)) (now (elses .exit)) r ⌝ }
 {
-    if opened >= 64 {
+    if opened >= REGIONS {
         return Rest::Torn(Refusal::TooManyParts);
     }
     link(elses, base, row);
@@ -252,10 +257,10 @@ fn loop_part(
     requires { ⌜ (5 < length (now rows)) × (firstKind (now rows) ≡ Kind.Loop) ⌝ }
     ensures { λ r. ⌜ StepOk (now (rows .entry)) base depth opened «in_loop» (now (ends .entry)) (now (elses .entry)) (now (ends .exit)) (now (elses .exit)) r ⌝ }
 {
-    if depth >= 16 {
+    if depth >= OPEN {
         return Step::Faulty(Refusal::TooManyParts);
     }
-    if opened >= 64 {
+    if opened >= REGIONS {
         return Step::Faulty(Refusal::TooManyParts);
     }
     match sequence(

@@ -23,11 +23,11 @@ shallow h = omega arith
 index-requires : tie.Need-index-requires
 index-requires c κs = search needs
 
-mul-wrong : tie.Need-mul-wrong
-mul-wrong c = search needs
+mul-held : tie.Need-mul-held
+mul-held c = search needs
 
-slice-read-wrong : tie.Need-slice-read-wrong
-slice-read-wrong c = search needs
+slice-read-held : tie.Need-slice-read-held
+slice-read-held c = search needs
 
 add-full : tie.Need-add-full
 add-full c = search needs
@@ -36,13 +36,13 @@ stay-requires : tie.Need-stay-requires
 stay-requires c κs = search needs
 
 returns : tie.Need-returns
-returns c = call-alarm _ _ _ _ _ _ _ (c .before .before .before .before .before .index .ensures .0) _ (c .stay .ensures) (eqb-false _ _ (not-true _ (c .before .if1 .taken)))
+returns c = call-alarm _ _ _ _ _ _ _ (c .before .before .before .before .index .ensures .0) _ (c .stay .ensures) (eqb-false _ _ (not-true _ (c .before .if1 .taken)))
 
 stay-requires-2 : tie.Need-stay-requires-2
 stay-requires-2 c κs = search needs
 
 returns-2 : tie.Need-returns-2
-returns-2 c = call-deep _ _ _ _ _ _ _ (c .before .before .before .before .before .before .index .ensures .0) _ (c .stay2 .ensures) (eqb-true _ _ (not-false _ (c .before .before .if1 .left))) (leb-true _ _ (c .before .if2 .taken))
+returns-2 c = call-deep _ _ _ _ _ _ _ (c .before .before .before .before .before .index .ensures .0) _ (c .stay2 .ensures) (eqb-true _ _ (not-false _ (c .before .before .if1 .left))) (leb-true _ _ (c .before .if2 .taken))
 
 mul-counters : tie.Need-mul-counters
 mul-counters c = search needs
@@ -54,7 +54,7 @@ add-fresh : tie.Need-add-fresh
 add-fresh c = search needs
 
 fresh-requires : tie.Need-fresh-requires
-fresh-requires c κs = (leb-false _ _ (c .before .before .if2 .left), simp length-set (c .before .before .before .before .before .before .before .before .before .pre .2 .room))
+fresh-requires c κs = (leb-false _ _ (c .before .before .if2 .left), simp length-set (c .before .before .before .before .before .before .before .before .pre .2 .room))
 
 cast-d : tie.Need-cast-d
 cast-d c = search needs
@@ -84,15 +84,15 @@ same-length : tie.Need-same-length
 same-length c = c .before .before .before .before .before .before .before .fresh .kept .0 ∙ simp length-set
 
 returns-3 : tie.Need-returns-3
-returns-3 c = call-opens _ _ _ _ _ _ _ (c .before .before .before .before .before .before .before .before .before .before .before .before .before .before .before .index .ensures .0) _ _ _ (eqb-true _ _ (not-false _ (c .before .before .before .before .before .before .before .before .before .before .before .if1 .left))) (leb-false _ _ (c .before .before .before .before .before .before .before .before .before .before .if2 .left)) (c .before .before .index2 .ensures) (c .opened .ensures) (c .before .before .before .before .before .before .before .fresh .ensures)
+returns-3 c = call-opens _ _ _ _ _ _ _ (c .before .before .before .before .before .before .before .before .before .before .before .before .before .before .index .ensures .0) _ _ _ (eqb-true _ _ (not-false _ (c .before .before .before .before .before .before .before .before .before .before .before .if1 .left))) (leb-false _ _ (c .before .before .before .before .before .before .before .before .before .before .if2 .left)) (c .before .before .index2 .ensures) (c .opened .ensures) (c .before .before .before .before .before .before .before .fresh .ensures)
 
 pub call-spec : {M : Type 1} → statement M
 call-spec =
     tie.close
     (tie.spec
     index-requires
-    mul-wrong
-    slice-read-wrong
+    mul-held
+    slice-read-held
     add-full
     stay-requires
     returns

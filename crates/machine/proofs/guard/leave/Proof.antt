@@ -12,15 +12,15 @@ use Rattle.machine.proofs.words.index.Reads as index-reads
 index-requires : tie.Need-index-requires
 index-requires c κs = search needs
 
-mul-if1 : tie.Need-mul-if1
-mul-if1 c = search needs
+mul-child : tie.Need-mul-child
+mul-child c = search needs
 
-slice-read-if1 : tie.Need-slice-read-if1
-slice-read-if1 c = search needs
+slice-read-child : tie.Need-slice-read-child
+slice-read-child c = search needs
 
 returns : tie.Need-returns
 unfolding leaveOf
-returns c = simp (← c .before .before .before .index .ensures .0, ne-eqb _ _ (c .if1 .taken))
+returns c = simp (← c .before .before .index .ensures .0, ne-eqb _ _ (c .if1 .taken))
 
 mul-counters : tie.Need-mul-counters
 mul-counters c = search needs
@@ -31,18 +31,18 @@ slice-write-counters c = search needs
 index-requires-2 : tie.Need-index-requires-2
 index-requires-2 c κs = search needs
 
-mul-if2 : tie.Need-mul-if2
-mul-if2 c = search needs
+mul-around : tie.Need-mul-around
+mul-around c = search needs
 
-slice-read-if2 : tie.Need-slice-read-if2
-slice-read-if2 c = simp length-set (omega arith)
+slice-read-around : tie.Need-slice-read-around
+slice-read-around c = simp length-set (omega arith)
 
 same-length : tie.Need-same-length
 same-length c = search needs
 
 returns-2 : tie.Need-returns-2
 unfolding leaveOf
-returns-2 c = simp (← c .before .before .before .before .before .before .before .index .ensures .0, eq-eqb _ _ (c .before .before .before .before .if1 .left), ← c .before .before .before .index2 .ensures .0, ne-eqb _ _ (c .if2 .taken))
+returns-2 c = simp (← c .before .before .before .before .before .index .ensures .0, eq-eqb _ _ (c .before .before .before .if1 .left), ← c .before .before .index2 .ensures .0, ne-eqb _ _ (c .if2 .taken))
 
 mul-counters-2 : tie.Need-mul-counters-2
 mul-counters-2 c = search needs
@@ -55,21 +55,21 @@ same-length-2 c = search needs
 
 returns-3 : tie.Need-returns-3
 unfolding leaveOf
-returns-3 c = simp (← c .before .before .before .before .before .before .before .index .ensures .0, eq-eqb _ _ (c .before .before .before .before .if1 .left), ← c .before .before .before .index2 .ensures .0, eq-eqb _ _ (c .if2 .left))
+returns-3 c = simp (← c .before .before .before .before .before .index .ensures .0, eq-eqb _ _ (c .before .before .before .if1 .left), ← c .before .before .index2 .ensures .0, eq-eqb _ _ (c .if2 .left))
 
 pub leave-spec : {M : Type 1} → statement M
 leave-spec =
     tie.close
     (tie.spec
     index-requires
-    mul-if1
-    slice-read-if1
+    mul-child
+    slice-read-child
     returns
     mul-counters
     slice-write-counters
     index-requires-2
-    mul-if2
-    slice-read-if2
+    mul-around
+    slice-read-around
     same-length
     returns-2
     mul-counters-2

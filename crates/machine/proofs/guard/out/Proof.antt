@@ -12,15 +12,15 @@ use Rattle.machine.proofs.words.zero_part.Reads as zero-part-reads
 index-requires : tie.Need-index-requires
 index-requires c κs = search needs
 
-mul-if1 : tie.Need-mul-if1
-mul-if1 c = search needs
+mul-inner : tie.Need-mul-inner
+mul-inner c = search needs
 
-slice-read-if1 : tie.Need-slice-read-if1
-slice-read-if1 c = search needs
+slice-read-inner : tie.Need-slice-read-inner
+slice-read-inner c = search needs
 
 returns : tie.Need-returns
 unfolding outOf
-returns c = simp (← c .before .before .before .index .ensures .0, ne-eqb _ _ (c .if1 .taken))
+returns c = simp (← c .before .before .index .ensures .0, ne-eqb _ _ (c .if1 .taken))
 
 index-requires-2 : tie.Need-index-requires-2
 index-requires-2 c κs = search needs
@@ -45,15 +45,15 @@ same-length c = search needs
 
 returns-2 : tie.Need-returns-2
 unfolding outOf
-returns-2 c = simp (← c .before .before .before .before .before .before .before .before .before .before .before .before .before .before .index .ensures .0, eq-eqb _ _ (c .before .before .before .before .before .before .before .before .before .before .before .if1 .left), ← c .before .before .before .before .before .before .before .before .before .before .index2 .ensures .0, c .before .before .put .ensures, c .before .before .before .before .before .before .zero-part .ensures)
+returns-2 c = simp (← c .before .before .before .before .before .before .before .before .before .before .before .before .before .index .ensures .0, eq-eqb _ _ (c .before .before .before .before .before .before .before .before .before .before .before .if1 .left), ← c .before .before .before .before .before .before .before .before .before .before .index2 .ensures .0, c .before .before .put .ensures, c .before .before .before .before .before .before .zero-part .ensures)
 
 pub out-spec : {M : Type 1} → statement M
 out-spec =
     tie.close
     (tie.spec
     index-requires
-    mul-if1
-    slice-read-if1
+    mul-inner
+    slice-read-inner
     returns
     index-requires-2
     add-n

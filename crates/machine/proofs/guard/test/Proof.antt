@@ -14,15 +14,15 @@ use Rattle.machine.proofs.words.put.Reads as put-reads
 index-requires : tie.Need-index-requires
 index-requires c κs = search needs
 
-mul-if1 : tie.Need-mul-if1
-mul-if1 c = search needs
+mul-outer : tie.Need-mul-outer
+mul-outer c = search needs
 
-slice-read-if1 : tie.Need-slice-read-if1
-slice-read-if1 c = search needs
+slice-read-outer : tie.Need-slice-read-outer
+slice-read-outer c = search needs
 
 returns : tie.Need-returns
 unfolding testOf
-returns c = simp (← c .before .before .before .index .ensures .0, ne-eqb _ _ (c .if1 .taken))
+returns c = simp (← c .before .before .index .ensures .0, ne-eqb _ _ (c .if1 .taken))
 
 mul-counters : tie.Need-mul-counters
 mul-counters c = search needs
@@ -33,14 +33,14 @@ slice-write-counters c = search needs
 put-requires : tie.Need-put-requires
 put-requires c κs = search needs
 
-add-t15 : tie.Need-add-t15
-add-t15 c = search needs
+add-t17 : tie.Need-add-t17
+add-t17 c = search needs
 
 same-length : tie.Need-same-length
 same-length c = c .before .before .put .kept .0 ∙ simp length-set
 
 returns-2 : tie.Need-returns-2
-returns-2 c = test-held _ _ _ _ _ _ _ (c .before .before .before .before .before .before .before .before .index .ensures .0) (c .before .before .before .before .before .if1 .left) (c .before .before .before .before .if2 .taken) (c .before .before .put .ensures)
+returns-2 c = test-held _ _ _ _ _ _ _ (c .before .before .before .before .before .before .before .index .ensures .0) (c .before .before .before .before .before .if1 .left) (c .before .before .before .before .if2 .taken) (c .before .before .put .ensures)
 
 put-requires-2 : tie.Need-put-requires-2
 put-requires-2 c κs = search needs
@@ -49,20 +49,20 @@ same-length-2 : tie.Need-same-length-2
 same-length-2 c = c .before .before .put2 .kept .0 ∙ simp length-set
 
 returns-3 : tie.Need-returns-3
-returns-3 c = test-failed _ _ _ _ _ _ _ (c .before .before .before .before .before .before .before .before .index .ensures .0) (c .before .before .before .before .before .if1 .left) (c .before .before .before .before .if2 .left) (c .before .before .put2 .ensures)
+returns-3 c = test-failed _ _ _ _ _ _ _ (c .before .before .before .before .before .before .before .index .ensures .0) (c .before .before .before .before .before .if1 .left) (c .before .before .before .before .if2 .left) (c .before .before .put2 .ensures)
 
 pub test-spec : {M : Type 1} → statement M
 test-spec =
     tie.close
     (tie.spec
     index-requires
-    mul-if1
-    slice-read-if1
+    mul-outer
+    slice-read-outer
     returns
     mul-counters
     slice-write-counters
     put-requires
-    add-t15
+    add-t17
     same-length
     returns-2
     put-requires-2

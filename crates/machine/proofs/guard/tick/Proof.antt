@@ -10,15 +10,15 @@ use Rattle.machine.proofs.words.index.Reads as index-reads
 index-requires : tie.Need-index-requires
 index-requires c κs = search needs
 
-mul-if1 : tie.Need-mul-if1
-mul-if1 c = search needs
+mul-held : tie.Need-mul-held
+mul-held c = search needs
 
-slice-read-if1 : tie.Need-slice-read-if1
-slice-read-if1 c = search needs
+slice-read-held : tie.Need-slice-read-held
+slice-read-held c = search needs
 
 returns : tie.Need-returns
 unfolding tickOf
-returns c = simp (← c .before .before .before .index .ensures .0, ne-eqb _ _ (c .if1 .taken))
+returns c = simp (← c .before .before .index .ensures .0, ne-eqb _ _ (c .if1 .taken))
 
 mul-counters : tie.Need-mul-counters
 mul-counters c = search needs
@@ -26,26 +26,26 @@ mul-counters c = search needs
 slice-write-counters : tie.Need-slice-write-counters
 slice-write-counters c = search needs
 
-add-t8 : tie.Need-add-t8
-add-t8 c = search needs
+add-t10 : tie.Need-add-t10
+add-t10 c = search needs
 
 same-length : tie.Need-same-length
 same-length c = search needs
 
 returns-2 : tie.Need-returns-2
 unfolding tickOf
-returns-2 c = simp (← c .before .before .before .index .ensures .0, eq-eqb _ _ (c .if1 .left))
+returns-2 c = simp (← c .before .before .index .ensures .0, eq-eqb _ _ (c .if1 .left))
 
 pub tick-spec : {M : Type 1} → statement M
 tick-spec =
     tie.close
     (tie.spec
     index-requires
-    mul-if1
-    slice-read-if1
+    mul-held
+    slice-read-held
     returns
     mul-counters
     slice-write-counters
-    add-t8
+    add-t10
     same-length
     returns-2)

@@ -11,17 +11,17 @@ use Rattle.machine.proofs.words.index.Reads as index-reads
 index-requires : tie.Need-index-requires
 index-requires c κs = search needs
 
-mul-if1 : tie.Need-mul-if1
-mul-if1 c = search needs
+mul-held : tie.Need-mul-held
+mul-held c = search needs
 
-slice-read-if1 : tie.Need-slice-read-if1
-slice-read-if1 c = search needs
+slice-read-held : tie.Need-slice-read-held
+slice-read-held c = search needs
 
 stay-requires : tie.Need-stay-requires
 stay-requires c κs = search needs
 
 returns : tie.Need-returns
-returns c = ret-alarm _ _ _ _ _ _ _ (c .before .before .before .before .index .ensures .0) _ (c .stay .ensures) (c .before .if1 .taken)
+returns c = ret-alarm _ _ _ _ _ _ _ (c .before .before .before .index .ensures .0) _ (c .stay .ensures) (c .before .if1 .taken)
 
 mul-counters : tie.Need-mul-counters
 mul-counters c = search needs
@@ -36,15 +36,15 @@ same-length : tie.Need-same-length
 same-length c = search needs
 
 returns-2 : tie.Need-returns-2
-returns-2 c = ret-returns _ _ _ _ _ _ _ (c .before .before .before .before .before .index .ensures .0) _ (c .before .before .if1 .left) (c .returned .ensures)
+returns-2 c = ret-returns _ _ _ _ _ _ _ (c .before .before .before .before .index .ensures .0) _ (c .before .before .if1 .left) (c .returned .ensures)
 
 pub ret-spec : {M : Type 1} → statement M
 ret-spec =
     tie.close
     (tie.spec
     index-requires
-    mul-if1
-    slice-read-if1
+    mul-held
+    slice-read-held
     stay-requires
     returns
     mul-counters
