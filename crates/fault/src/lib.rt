@@ -9,7 +9,7 @@ pub mod pass;
 use pass::Passed;
 use rules::answer::Fault;
 use rules::refusal::Refusal;
-use table::number;
+use rules::number;
 use table::row::calls_beyond;
 
 fn found(r: Refusal, row: usize) -> Fault

@@ -16,7 +16,7 @@ use rules::answer::Ran;
 use rules::answer::Wrote;
 use rules::refusal::Refusal;
 use rules::refusal::Verdict;
-use table::number;
+use rules::number;
 
 // The number that the bytes get as a source table: 0 where hardening accepts them.
 pub fn check(rows: &[u8]) -> u8
