@@ -75,7 +75,18 @@ fn same_batch(
     requires { ⌜ (Ends (now rows) (now ends)) × (Elses (now rows) (now elses)) × (Heads (now rows) (now heads)) ⌝ }
     ensures { λ r. ⌜ r ≡ rowsSame (tableOf (now (rows .entry))) from count (now (lines .entry)) ⌝ }
 {
-    emit::emit_rows(rows, map, bases, values, ends, elses, heads, from, count, made);
+    emit::emit_rows(
+        rows,
+        map,
+        bases,
+        values,
+        ends,
+        elses,
+        heads,
+        from,
+        count,
+        made,
+    );
     let first = Line::WIDTH * row::index(spot::line_of(rows, map, from));
     let past = Line::WIDTH * row::index(spot::line_of(rows, map, from + count));
     let size = past - first;
@@ -102,7 +113,19 @@ fn same_rows(
     let mut from = 0;
     while from < n {
         let count = batch(from, n);
-        if !same_batch(rows, map, bases, values, ends, elses, heads, from, count, &mut made, lines) {
+        if !same_batch(
+            rows,
+            map,
+            bases,
+            values,
+            ends,
+            elses,
+            heads,
+            from,
+            count,
+            &mut made,
+            lines,
+        ) {
             return false;
         }
         from += count;

@@ -101,7 +101,17 @@ pub fn emit_rows(
     while k < count {
         let i = from + k;
         let at = Line::WIDTH * (row::index(spot::line_of(rows, map, i)) - first);
-        emit(rows, map, bases, values, ends, elses, heads, i, &mut out[at..]);
+        emit(
+            rows,
+            map,
+            bases,
+            values,
+            ends,
+            elses,
+            heads,
+            i,
+            &mut out[at..],
+        );
         k += 1;
     }
 }

@@ -5,6 +5,7 @@ use lib.Seq.{length-take-le}
 use Rattle.rules.specs.Calls.{writing, shortOutput}
 use Rattle.rules.proofs.Calls.{read-back-refused, read-back-accepted}
 use Rattle.reader.specs.Found.{FoundIs}
+use Rattle.reader.proofs.Finds.{none-told, some-told}
 use borrow.Author.Needs.{needs}
 use Rattle.finuraho.proofs.read_back.Statement.{statement}
 use Rattle.finuraho.proofs.read_back.Tie as tie
@@ -34,22 +35,22 @@ enum-known-n : tie.Need-enum-known-n
 enum-known-n c = search needs
 
 array-share-prefix-rows : tie.Need-array-share-prefix-rows
-array-share-prefix-rows c = omega (arith, (subst (FoundIs (now (c .before .before .before .before .before .before .before .before .before .args .lines)) (c .before .before .before .before .read .last .1 .0)) (c .before .n .given .1) (c .before .before .before .before .read .ensures)) .front .room)
+array-share-prefix-rows c = omega (arith, (subst (FoundIs (now (c .before .before .before .before .before .before .before .before .before .args .lines)) (c .before .before .before .before .read .last .1 .0)) (c .before .n .given .1) (c .before .before .before .before .read .ensures)) .front refl .room)
 
 slice-aggregate-give : tie.Need-slice-aggregate-give
-slice-aggregate-give c = sym (length-take-le _ _ (omega (arith, (subst (FoundIs (now (c .before .before .before .before .before .before .before .before .before .before .args .lines)) (c .before .before .before .before .before .read .last .1 .0)) (c .before .before .n .given .1) (c .before .before .before .before .before .read .ensures)) .front .room)))
+slice-aggregate-give c = sym (length-take-le _ _ (omega (arith, (subst (FoundIs (now (c .before .before .before .before .before .before .before .before .before .before .args .lines)) (c .before .before .before .before .before .read .last .1 .0)) (c .before .before .n .given .1) (c .before .before .before .before .before .read .ensures)) .front refl .room)))
 
 give-requires : tie.Need-give-requires
 give-requires c κs = search needs
 
 returns : tie.Need-returns
-returns c = ap (λ w. record { wrote = w; out = now (c .before .before .before .before .before .before .before .before .before .args .out) }) (c .refused .ensures) ∙ sym (read-back-refused (now (c .before .before .before .before .before .before .before .before .before .args .lines)) (now (c .before .before .before .before .before .before .before .before .before .args .out)) (subst (FoundIs (now (c .before .before .before .before .before .before .before .before .before .args .lines)) (c .before .before .before .before .read .last .1 .0)) (c .before .enum-told .given .1) (c .before .before .before .before .read .ensures)))
+returns c = ap (λ w. record { wrote = w; out = now (c .before .before .before .before .before .before .before .before .before .args .out) }) (c .refused .ensures) ∙ sym (read-back-refused (now (c .before .before .before .before .before .before .before .before .before .args .lines)) (now (c .before .before .before .before .before .before .before .before .before .args .out)) (sym (none-told (now (c .before .before .before .before .before .before .before .before .before .args .lines)) ((subst (FoundIs (now (c .before .before .before .before .before .before .before .before .before .args .lines)) (c .before .before .before .before .read .last .1 .0)) (c .before .enum-told .given .1) (c .before .before .before .before .read .ensures)) .number-is))))
 
 same-length : tie.Need-same-length
 same-length c = search needs
 
 returns-2 : tie.Need-returns-2
-returns-2 c = c .before .before .give .ensures ∙ ap (λ x. writing (shortOutput x (now (c .before .before .before .before .before .before .before .before .before .before .before .before .before .before .args .out))) x (now (c .before .before .before .before .before .before .before .before .before .before .before .before .before .before .args .out))) ((subst (FoundIs (now (c .before .before .before .before .before .before .before .before .before .before .before .before .before .before .args .lines)) (c .before .before .before .before .before .before .before .before .before .read .last .1 .0)) (c .before .before .before .before .before .before .n .given .1) (c .before .before .before .before .before .before .before .before .before .read .ensures)) .front .front-is) ∙ sym (read-back-accepted (now (c .before .before .before .before .before .before .before .before .before .before .before .before .before .before .args .lines)) (now (c .before .before .before .before .before .before .before .before .before .before .before .before .before .before .args .out)) ((subst (FoundIs (now (c .before .before .before .before .before .before .before .before .before .before .before .before .before .before .args .lines)) (c .before .before .before .before .before .before .before .before .before .read .last .1 .0)) (c .before .before .before .before .before .before .n .given .1) (c .before .before .before .before .before .before .before .before .before .read .ensures)) .hardened))
+returns-2 c = c .before .before .give .ensures ∙ ap (λ x. writing (shortOutput x (now (c .before .before .before .before .before .before .before .before .before .before .before .before .before .before .args .out))) x (now (c .before .before .before .before .before .before .before .before .before .before .before .before .before .before .args .out))) ((subst (FoundIs (now (c .before .before .before .before .before .before .before .before .before .before .before .before .before .before .args .lines)) (c .before .before .before .before .before .before .before .before .before .read .last .1 .0)) (c .before .before .before .before .before .before .n .given .1) (c .before .before .before .before .before .before .before .before .before .read .ensures)) .front refl .front-is) ∙ sym (read-back-accepted (now (c .before .before .before .before .before .before .before .before .before .before .before .before .before .before .args .lines)) (now (c .before .before .before .before .before .before .before .before .before .before .before .before .before .before .args .out)) (sym (some-told (now (c .before .before .before .before .before .before .before .before .before .before .before .before .before .before .args .lines)) ((subst (FoundIs (now (c .before .before .before .before .before .before .before .before .before .before .before .before .before .before .args .lines)) (c .before .before .before .before .before .before .before .before .before .read .last .1 .0)) (c .before .before .before .before .before .before .n .given .1) (c .before .before .before .before .before .before .before .before .before .read .ensures)) .number-is))))
 
 pub read-back-spec : {M : Type 1} → statement M
 read-back-spec =
