@@ -101,6 +101,15 @@ extern "C" {
 #define FINURAHO_MAX_REGIONS 64    /* in a function, its body among them */
 #define FINURAHO_MAX_OPEN 16       /* functions open in a run, the first among them */
 
+/* The bytes of stack that each call takes at most, whatever it is given. They are measured (tests/stack/run) and not proved. */
+#define FINURAHO_STACK_CHECK 10000
+#define FINURAHO_STACK_FAULT 1000
+#define FINURAHO_STACK_HARDEN 24000
+#define FINURAHO_STACK_CHECK_HARDENED 36000
+#define FINURAHO_STACK_READ_BACK 36000
+#define FINURAHO_STACK_RUN_SOURCE 25000
+#define FINURAHO_STACK_RUN_HARDENED 36000
+
 /* The step number that means no jump, whatever the place. */
 #define FINURAHO_NO_JUMP 65535
 

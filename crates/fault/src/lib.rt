@@ -8,8 +8,8 @@ pub mod pass;
 
 use pass::Passed;
 use rules::answer::Fault;
+use rules::number;
 use rules::refusal::Refusal;
-use table::number;
 use table::row::calls_beyond;
 
 fn found(r: Refusal, row: usize) -> Fault

@@ -15,9 +15,9 @@ use reader::Found;
 use rules::answer::Fault;
 use rules::answer::Ran;
 use rules::answer::Wrote;
+use rules::number;
 use rules::refusal::Refusal;
 use rules::refusal::Verdict;
-use table::number;
 
 // The number that the bytes get as a source table: 0 where hardening accepts them.
 pub fn check(rows: &[u8]) -> u8

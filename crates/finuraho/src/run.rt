@@ -10,8 +10,8 @@ ghost use Rattle.rules.specs.Links.{Links};
 ghost use Rattle.rules.specs.Calls.{runSourceCall, runHardenedCall};
 ghost use Rattle.finuraho.specs.Given.{refusedRunWith, runs, hardenedRuns};
 use rules::answer::Ran;
+use rules::number;
 use rules::refusal::Refusal;
-use table::number;
 
 // "Returned: number, zeros, variables as given."
 pub fn refused(r: Refusal, variables: [u16; 16]) -> Ran

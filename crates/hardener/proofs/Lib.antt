@@ -3,3 +3,4 @@ pub mod RowLines
 pub mod Leaves
 pub mod Calls
 pub mod Emits
+pub mod Compares

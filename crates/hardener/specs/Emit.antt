@@ -1,13 +1,14 @@
--- What is written for each row: its lines, one at a time, and the buffer after the lines of some rows.
-use Prim.Native.Nat.{ℕ, suc, _*_, _/_, _≤_, _<_}
+-- What is written for a row, and for some rows: their lines, at the front of a buffer.
+use Prim.Native.Nat.{ℕ, zero, suc, _+_, _*_, _/_, _≤_}
 use mathlib.Core.Path.{_≡_}
 use mathlib.Core.Bool.{true, false}
-use mathlib.Core.List.{List, _++_}
-use lib.ListN.{length, drop}
+use mathlib.Core.List.{List, [], _++_}
+use lib.ListN.{length}
 use Rattle.rules.specs.Row.{Table, tableOf, kindAt}
 use Rattle.rules.specs.Scan.{openAt, bodyRegion, elseOf}
 use Rattle.rules.specs.Line.{Line, lineAt, linesBytes}
-use Rattle.rules.specs.Harden.{lineCount, lineOf, testOf, linesOf, hardenTo}
+use Rattle.rules.specs.Harden.{lineCount, lineOf, testOf, linesOf}
+use Rattle.rules.specs.Calls.{over}
 use Rattle.layout.specs.Spot.{Grows}
 
 -- line ph of row i
@@ -27,19 +28,22 @@ pub record TurnsAt (bs : List ℕ) (i x : ℕ) : Type 0 where
   pub grows : Grows bs x
   pub same-body : bodyRegion (openAt (tableOf bs) x) ≡ bodyRegion (openAt (tableOf bs) i)
 
--- row i makes so many lines
-pub record Makes (bs : List ℕ) (i count : ℕ) : Type 0 where
-  pub row : i < length bs / 6
-  pub are : lineCount (kindAt (tableOf bs) i) ≡ count
+-- the bytes of the lines of row i; of d rows from row i on
+unfoldable pub rowBytes : Table → (i : ℕ) → List ℕ
+rowBytes t i = linesBytes (linesOf t i)
 
--- the buffer holds all lines
-pub record Room (bs out : List ℕ) : Type 0 where
-  pub enough : 20 * lineOf (tableOf bs) (length bs / 6) ≤ length out
+unfoldable pub rowsBytes : Table → (i d : ℕ) → List ℕ
+rowsBytes t i zero = []
+rowsBytes t i (suc d) = rowsBytes t i d ++ rowBytes t (i + d)
 
--- a buffer that held this, with the lines of the rows before row i at its front
-unfoldable pub writtenTo : Table → (i : ℕ) → (held : List ℕ) → List ℕ
-writtenTo t i held = linesBytes (hardenTo t i) ++ drop (20 * lineOf t i) held
+-- the buffer holds the lines of row i; of d rows from row i on
+pub record Holds (bs : List ℕ) (i : ℕ) (out : List ℕ) : Type 0 where
+  pub enough : 20 * lineCount (kindAt (tableOf bs) i) ≤ length out
 
--- the lines of row i are written behind those before it, whatever the buffer held
+pub record Room (bs : List ℕ) (i d : ℕ) (out : List ℕ) : Type 0 where
+  pub rows : i + d ≤ length bs / 6
+  pub enough : 20 * lineOf (tableOf bs) (i + d) ≤ 20 * lineOf (tableOf bs) i + length out
+
+-- the lines of row i are at the front of the buffer, and behind them what it held
 pub record Emitted (bs : List ℕ) (i : ℕ) (out out′ : List ℕ) : Type 0 where
-  pub on : (held : List ℕ) → out ≡ writtenTo (tableOf bs) i held → out′ ≡ writtenTo (tableOf bs) (suc i) held
+  pub is : out′ ≡ over (rowBytes (tableOf bs) i) out

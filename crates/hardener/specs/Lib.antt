@@ -1,3 +1,4 @@
 pub mod Line
 pub mod Emit
+pub mod Compare
 pub mod Answer

@@ -1,4 +1,4 @@
-// Hardening an accepted table whose links are known.
+// Hardening an accepted table whose links are known, and telling whether it hardens to given bytes.
 ghost use mathlib.Core.Path.{_≡_};
 ghost use Rattle.rules.specs.declared.refusal.Verdict.the-variants.{Accepted};
 ghost use Rattle.rules.specs.Row.{tableOf};
@@ -11,13 +11,13 @@ use crate::line::Line;
 use layout::row;
 use layout::spot;
 use rules::answer::Wrote;
+use rules::number;
+use rules::refusal::Refusal;
 
+pub mod compare;
 pub mod emit;
 pub mod line;
 pub mod lines;
-
-// The number of an output that is shorter than the answer.
-const SHORT_OUTPUT: u8 = 8;
 
 // Writes the hardened table to the front of out, where it fits there, and nothing where it does not.
 pub fn harden_linked(
@@ -35,14 +35,15 @@ pub fn harden_linked(
     let mut bases = [0u16; 1025];
     let mut values = [0u16; 1024];
     layout::lay_out(rows, &mut map, &mut bases, &mut values);
-    let lines = row::index(spot::line_of(rows, &map, rows.len() / row::WIDTH));
+    let n = rows.len() / row::WIDTH;
+    let lines = row::index(spot::line_of(rows, &map, n));
     let length = Line::WIDTH * lines;
     if out.len() < length {
         return Wrote {
-            number: SHORT_OUTPUT,
+            number: number::of_refusal(Refusal::ShortOutput),
             length: 0,
         };
     }
-    emit::emit_all(rows, &map, &bases, &values, ends, elses, heads, out);
+    emit::emit_rows(rows, &map, &bases, &values, ends, elses, heads, 0, n, out);
     Wrote { number: 0, length }
 }

@@ -133,40 +133,43 @@ took-all {bs} {took = took} {i = i} d q h = let x : i ≡ length bs / 6 = omega 
 pub ruleset spendings = (spend-start, spend-again, spend-all, took-all)
 
 -- ---- the running sum
-pub record Summing (spent : List ℕ) (count : ℕ) (bases₀ bases : List ℕ) (total g : ℕ) : Type 0 where
+pub record Summing (words₀ : List ℕ) (count : ℕ) (words : List ℕ) (total g : ℕ) : Type 0 where
   pub le : g ≤ count
-  pub same : length bases ≡ length bases₀
-  pub total-is : total ≡ sums spent g
-  pub is : Summed spent bases g
+  pub same : length words ≡ length words₀
+  pub total-is : total ≡ sums words₀ g
+  pub is : Summed words₀ words g
+  pub rest : (k : ℕ) → g ≤ k → getD words k 0 ≡ getD words₀ k 0
 
-pub sum-start : {spent bases : List ℕ} {count : ℕ} → Summing spent count bases bases 1 0
+pub sum-start : {words : List ℕ} {count : ℕ} → Summing words count words 1 0
 unfolding sums
-sum-start = record { le = omega arith; same = refl; total-is = refl; is = record { each = λ g h. absurd (not-suc-le-zero h) } }
+sum-start =
+    record { le = omega arith; same = refl; total-is = refl; is = record { each = λ g h. absurd (not-suc-le-zero h) }; rest = λ k h. refl }
 
-sum-next : (spent : List ℕ) (total g : ℕ) → total ≡ sums spent g → total + getD spent g 0 + 1 ≡ sums spent (suc g)
+sum-next : {words₀ words : List ℕ} {count total g : ℕ} → Summing words₀ count words total g → total + getD words g 0 + 1 ≡ sums words₀ (suc g)
 unfolding sums
-sum-next spent total g e = omega arith
+sum-next {words₀} {words} {count} {total} {g} p = omega (arith, p .total-is, p .rest g (le-refl g))
 
-pub sum-fits : {spent bases₀ bases : List ℕ} {count total g : ℕ} → Summing spent count bases₀ bases total g → g < count
-    → ((k : ℕ) → k ≤ count → sums spent k < 65536) → total + getD spent g 0 + 1 < 65536
-sum-fits {spent} {count = count} {total} {g} p h f = omega (arith, sum-next spent total g (p .total-is), f (suc g) h)
+pub sum-fits : {words₀ words : List ℕ} {count total g : ℕ} → Summing words₀ count words total g → g < count
+    → ((k : ℕ) → k ≤ count → sums words₀ k < 65536) → total + getD words g 0 + 1 < 65536
+sum-fits {g = g} p h f = omega (arith, sum-next p, f (suc g) h)
 
-pub sum-more : {spent bases₀ bases : List ℕ} {count total g : ℕ} → Summing spent count bases₀ bases total g → g < count → count ≤ length bases₀
-    → Summing spent count bases₀ (set bases g total) (total + getD spent g 0 + 1) (g + 1)
-sum-more {spent} {bases₀} {bases} {count} {total} {g} p h r =
+pub sum-more : {words₀ words : List ℕ} {count total g : ℕ} → Summing words₀ count words total g → g < count → count ≤ length words₀
+    → Summing words₀ count (set words g total) (total + getD words g 0 + 1) (g + 1)
+sum-more {words₀} {words} {count} {total} {g} p h r =
     record {
       le = omega arith;
-      same = length-set bases g total ∙ p .same;
-      total-is = sum-next spent total g (p .total-is) ∙ ap (sums spent) (sym (add-one g));
+      same = length-set words g total ∙ p .same;
+      total-is = sum-next p ∙ ap (sums words₀) (sym (add-one g));
       is = record { each = λ k x. by k (eq-or-lt-of-le (subst (λ z. k < z) (add-one g) x)) };
+      rest = λ k x. getD-set-other words g k total 0 (omega arith) ∙ p .rest k (omega arith);
     }
   where
-    by : (k : ℕ) → (suc k ≡ suc g) ⊎ (suc k < suc g) → getD (set bases g total) k 0 ≡ sums spent k
-    by k (inl x) = let y : k ≡ g = omega arith in rw y (getD-set-same bases g total 0 (omega (arith, p .same)) ∙ p .total-is)
-    by k (inr x) = getD-set-other bases g k total 0 (omega arith) ∙ p .is .each k (omega arith)
+    by : (k : ℕ) → (suc k ≡ suc g) ⊎ (suc k < suc g) → getD (set words g total) k 0 ≡ sums words₀ k
+    by k (inl x) = let y : k ≡ g = omega arith in rw y (getD-set-same words g total 0 (omega (arith, p .same)) ∙ p .total-is)
+    by k (inr x) = getD-set-other words g k total 0 (omega arith) ∙ p .is .each k (omega arith)
 
-pub sum-all : {spent bases₀ bases : List ℕ} {count total g : ℕ} → Summing spent count bases₀ bases total g → count ≤ g → Summed spent bases count
-sum-all {spent} {bases₀} {bases} {count} {total} {g} p h = let x : g ≡ count = omega (arith, p .le) in subst (Summed spent bases) x (p .is)
+pub sum-all : {words₀ words : List ℕ} {count total g : ℕ} → Summing words₀ count words total g → count ≤ g → Summed words₀ words count
+sum-all {words₀} {words} {count} {total} {g} p h = let x : g ≡ count = omega (arith, p .le) in subst (Summed words₀ words) x (p .is)
 
 pub ruleset summings = (sum-start, sum-more, sum-all)
 
@@ -184,11 +187,11 @@ pub sums-fit : {bs spent : List ℕ} {count : ℕ} {end : Place} → Stands bs (
 sums-fit {bs} s p q g h = omega (arith, sums-are p g, base-bound (tableOf bs) g, table-length bs, s .opened-low, s .few-rows)
 
 pub bases-all : {bs spent bases : List ℕ} {count : ℕ} {end : Place} → Stands bs (length bs / 6) end → Spent bs spent (length bs / 6) → count ≡ end .opened
-    → Summed spent bases (count + 1) → 1025 ≤ length bases → Based bs bases
+    → Summed spent bases (count + 1) → length bases ≡ length spent → Based bs bases
 unfolding placeOf
-bases-all {bs} {end = end} s p q u r =
+bases-all {bs} {end = end} s p q u l =
     let o : end .opened ≡ regions (tableOf bs) (length bs / 6) = ap (λ x. x .opened) (s .is) in
-    record { room = r; each = λ g h. u .each g (omega arith) ∙ sums-are p g }
+    record { room = omega (arith, p .room); each = λ g h. u .each g (omega arith) ∙ sums-are p g }
 
 -- ---- the values
 region-in : (bs : List ℕ) (i : ℕ) → i ≤ length bs / 6 → regionOf (openAt (tableOf bs) i) ≤ regions (tableOf bs) (length bs / 6)

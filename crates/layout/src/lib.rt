@@ -5,20 +5,21 @@ ghost use lib.ListN.{length};
 ghost use Rattle.rules.specs.declared.refusal.Verdict.the-variants.{Accepted};
 ghost use Rattle.rules.specs.Check.{verdictOf};
 ghost use Rattle.layout.specs.Layout.{Laid};
+ghost use Rattle.layout.specs.Number.{Spent};
 
 pub mod number;
 pub mod place;
 pub mod row;
 pub mod spot;
 
-// Lays a table out: the map of its rows' places, the bases of its regions, the values of its rows.
+// Lays a table out: the map of its rows' places, the bases of its regions, the values of its rows. The words that become the bases
+// must be 0 before: what the rows take is added up in them.
 pub fn lay_out(rows: &[u8], map: &mut [u16], bases: &mut [u16], values: &mut [u16])
     requires { ⌜ verdictOf (now rows) ≡ Accepted ⌝ }
-    requires { ⌜ (6150 ≤ length (now map)) × (1025 ≤ length (now bases)) × (1024 ≤ length (now values)) ⌝ }
+    requires { ⌜ (6150 ≤ length (now map)) × (Spent (now rows) (now bases) 0) × (1024 ≤ length (now values)) ⌝ }
     ensures { λ _. ⌜ Laid (now (rows .entry)) (now (map .exit)) (now (bases .exit)) (now (values .exit)) ⌝ }
 {
-    let mut spent = [0u16; 1025];
-    number::survey_and_spend(rows, map, &mut spent, values);
-    number::region_bases(rows, map, &spent, bases);
+    number::survey_and_spend(rows, map, bases, values);
+    number::region_bases(rows, map, bases);
     number::row_values(rows, map, bases, values);
 }

@@ -68,30 +68,30 @@ pub fn survey_and_spend(rows: &[u8], map: &mut [u16], spent: &mut [u16], took: &
     place::keep(map, n, here);
 }
 
-// A running sum of 1 and the sizes: a region's size is 1 and what its rows take.
-fn sum(spent: &[u16], bases: &mut [u16], count: usize)
-    requires { ⌜ (count ≤ length (now spent)) × (count ≤ length (now bases)) ⌝ }
-    requires { ⌜ ((g : ℕ) → g ≤ count → sums (now spent) g < 65536) ⌝ }
-    ensures { λ _. ⌜ Summed (now (spent .entry)) (now (bases .exit)) count ⌝ }
+// A running sum of 1 and the sizes: a region's size is 1 and what its rows take. Each word becomes the sum before it.
+fn sum(words: &mut [u16], count: usize)
+    requires { ⌜ (count ≤ length (now words)) × ((g : ℕ) → g ≤ count → sums (now words) g < 65536) ⌝ }
+    ensures { λ _. ⌜ Summed (now (words .entry)) (now (words .exit)) count ⌝ }
 {
     let mut total: u16 = 1;
     let mut g = 0;
     while g < count {
-        bases[g] = total;
-        total = total + spent[g] + 1;
+        let took = words[g];
+        words[g] = total;
+        total = total + took + 1;
         g += 1;
     }
 }
 
-// The bases of all regions, where it is known what all rows take: word g is the base of region g.
-pub fn region_bases(rows: &[u8], map: &[u16], spent: &[u16], bases: &mut [u16])
-    requires { ⌜ (Surveyed (now rows) (now map)) × (Spent (now rows) (now spent) (length (now rows) / 6)) × (1025 ≤ length (now bases)) ⌝ }
-    ensures { λ _. ⌜ Based (now (rows .entry)) (now (bases .exit)) ⌝ }
+// The bases of all regions: word g, which was what all rows took in region g, becomes the base of region g.
+pub fn region_bases(rows: &[u8], map: &[u16], words: &mut [u16])
+    requires { ⌜ (Surveyed (now rows) (now map)) × (Spent (now rows) (now words) (length (now rows) / 6)) ⌝ }
+    ensures { λ _. ⌜ Based (now (rows .entry)) (now (words .exit)) ⌝ }
 {
     let n = rows.len() / row::WIDTH;
     let end = place::stand(rows, map, n);
     let count = row::index(end.opened) + 1;
-    sum(spent, bases, count);
+    sum(words, count);
 }
 
 // The value of row i: the base of its region and what the rows before it took there.

@@ -11,6 +11,7 @@ use Rattle.rules.specs.Refusal.{isAccepted}
 use Rattle.rules.specs.Check.{verdictOf}
 use Rattle.rules.specs.Harden.{harden, hardenedBytes}
 use Rattle.rules.specs.ReadBack.{sourceBytes, isHardened}
+use Rattle.rules.specs.Calls.{checkHardenedCall}
 use Rattle.rules.proofs.Accepted.{proper, proper-bytes, table-length, whole-rows}
 use Rattle.rules.proofs.Encode.{lines-bytes-length}
 use Rattle.rules.proofs.Reading.{hardened-source, recognises}
@@ -53,9 +54,38 @@ pub judged : (lines rows : List ℕ) {b : Bool} → b ≡ isAccepted (verdictOf 
 unfolding isHardened
 judged lines rows e q = ap (λ x. isAccepted (verdictOf x) && same (hardenedBytes x) lines) q ∙ sym e
 
+-- what the answer's number says
+pub none-number : (lines : List ℕ) → isHardened lines ≡ false → _≡_ {A = ℕ} 10 (checkHardenedCall lines)
+none-number lines e = sym (rw e)
+
+pub some-number : (lines : List ℕ) → isHardened lines ≡ true → _≡_ {A = ℕ} 0 (checkHardenedCall lines)
+some-number lines e = sym (rw e)
+
+pub none-told : (lines : List ℕ) → 10 ≡ checkHardenedCall lines → false ≡ isHardened lines
+none-told lines e = by (isHardened lines) refl
+  where
+    by : (b : Bool) → isHardened lines ≡ b → false ≡ isHardened lines
+    by true q = absurd (let z : ⊥ = omega (arith, some-number lines q) in z)
+    by false q = sym q
+
+pub some-told : (lines : List ℕ) → 0 ≡ checkHardenedCall lines → true ≡ isHardened lines
+some-told lines e = by (isHardened lines) refl
+  where
+    by : (b : Bool) → isHardened lines ≡ b → true ≡ isHardened lines
+    by true q = sym q
+    by false q = absurd (let z : ⊥ = omega (arith, none-number lines q) in z)
+
+pub none-found : (lines rows : List ℕ) → isHardened lines ≡ false → length rows ≡ 6156 → FoundIs lines rows NotHardened
+none-found lines rows e l =
+    record { number-is = none-number lines e; front = λ q. absurd (let z : ⊥ = omega arith in z); left-open = l }
+
 -- what was judged of the rows holds of the lines that they were read from
-pub found : (lines rows : List ℕ) {n : ℕ} (r : Found) → Fronted lines rows n → JudgedIs lines (take n rows) r → FoundIs lines rows r
-found lines rows NotHardened f h = h (sym (f .front-is))
-found lines rows {n} (Source m) f h =
+pub found : (lines rows : List ℕ) {n : ℕ} (r : Found) → Fronted lines rows n → JudgedIs lines (take n rows) r → length rows ≡ 6156 → FoundIs lines rows r
+found lines rows NotHardened f h l = none-found lines rows (h (sym (f .front-is))) l
+found lines rows {n} (Source m) f h l =
     let q : n ≡ m = omega (arith, h .0, ap length (f .front-is), f .count-is) in
-    record { hardened = h .1 (sym (f .front-is)); front = subst (Fronted lines rows) q f }
+    record {
+      number-is = some-number lines (h .1 (sym (f .front-is)));
+      front = λ x. subst (Fronted lines rows) q f;
+      left-open = l;
+    }

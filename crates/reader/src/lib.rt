@@ -1,8 +1,10 @@
 // Reading a hardened table back: the rows of a candidate, and whether they are a table that hardens to the same bytes.
 ghost use mathlib.Core.Path.{_≡_};
-ghost use Prim.Native.Nat.{_≤_};
 ghost use lib.ListN.{length};
 ghost use Rattle.rules.specs.ReadBack.{isHardened};
+ghost use Rattle.rules.specs.Calls.{zeros};
+ghost use Rattle.reader.specs.Functions.{Short};
+ghost use Rattle.reader.specs.Candidate.{CandidateIs};
 ghost use Rattle.reader.specs.Found.{JudgedIs, FoundIs};
 use crate::candidate::Candidate;
 
@@ -27,11 +29,33 @@ fn line_words() -> [u16; 2049] {
 }
 
 // Room for the largest table, and for two rows more.
-pub fn row_bytes() -> [u8; 6156] {
+pub fn row_bytes() -> [u8; 6156]
+    ensures { λ r. ⌜ r ≡ zeros 6156 ⌝ }
+{
     [0; 6156]
 }
 
-// Puts the source table of a hardened one at the front of `rows`. What `rows` holds where there is none is left open.
+// The rows that the lines are read back to. A function of its own, so that the words of the lines are gone when the rows are judged.
+fn candidate_of(lines: &[u8], rows: &mut [u8]) -> Candidate
+    requires { ⌜ (Short (now lines)) × (length (now rows) ≡ 6156) ⌝ }
+    ensures { λ r. ⌜ CandidateIs (now (lines .entry)) (now (rows .exit)) r ⌝ }
+{
+    let mut owners = line_words();
+    functions::number_lines(lines, &mut owners);
+    candidate::read_rows(lines, &owners, rows)
+}
+
+// The candidate is given; what it was read from is not looked at again.
+fn judge(lines: &[u8], rows: &[u8]) -> Found
+    ensures { λ r. ⌜ JudgedIs (now (lines .entry)) (now (rows .entry)) r ⌝ }
+{
+    if compare::hardens_to(rows, lines) {
+        return Found::Source(rows.len());
+    }
+    Found::NotHardened
+}
+
+// Puts the source table of a hardened one at the front of `rows`.
 pub fn read(lines: &[u8], rows: &mut [u8]) -> Found
     requires { ⌜ length (now rows) ≡ 6156 ⌝ }
     ensures { λ r. ⌜ FoundIs (now (lines .entry)) (now (rows .exit)) r ⌝ }
@@ -39,23 +63,10 @@ pub fn read(lines: &[u8], rows: &mut [u8]) -> Found
     if lines.len() > LONGEST {
         return Found::NotHardened;
     }
-    let mut owners = line_words();
-    functions::number_lines(lines, &mut owners);
-    match candidate::read_rows(lines, &owners, rows) {
+    match candidate_of(lines, rows) {
         Candidate::TooLong => Found::NotHardened,
         Candidate::Bytes(n) => judge(lines, &rows[..n]),
     }
-}
-
-// The candidate is given; what it was read from is not looked at again.
-fn judge(lines: &[u8], rows: &[u8]) -> Found
-    requires { ⌜ length (now lines) ≤ 40960 ⌝ }
-    ensures { λ r. ⌜ JudgedIs (now (lines .entry)) (now (rows .entry)) r ⌝ }
-{
-    if compare::hardens_to(rows, lines) {
-        return Found::Source(rows.len());
-    }
-    Found::NotHardened
 }
 
 // Only tells whether the bytes are a hardened table.

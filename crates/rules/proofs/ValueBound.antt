@@ -101,7 +101,7 @@ unfolding regions
 regions-bound t zero = le-refl _
 regions-bound t (suc i) = omega (arith, regions-bound t i, one-region (shapeOf (kindAt t i)) (regions t i))
 
-two-lines : (k : Kind) → lineCount k ≤ 2
+pub two-lines : (k : Kind) → lineCount k ≤ 2
 two-lines Function = omega arith
 two-lines Do = omega arith
 two-lines If = omega arith

@@ -15,6 +15,7 @@ ghost use Rattle.rules.specs.Row.{tableOf};
 ghost use Rattle.rules.specs.Scan.{functionCount};
 ghost use Rattle.rules.specs.Check.{callsVerdict};
 ghost use Rattle.rules.specs.Links.{Checked};
+ghost use Rattle.rules.specs.Calls.{zeros};
 ghost use Rattle.table.specs.First.{firstKind};
 ghost use Rattle.table.specs.Checking.{strayCause, OneOk, AllOk};
 
@@ -135,12 +136,16 @@ fn calls(rows: &[u8], count: usize) -> Verdict
 }
 
 // A word for each row, for its links.
-pub fn row_words() -> [u16; 1024] {
+pub fn row_words() -> [u16; 1024]
+    ensures { λ r. ⌜ r ≡ zeros 1024 ⌝ }
+{
     [0; 1024]
 }
 
 // A word for each function, for its row.
-pub fn function_words() -> [u16; 32] {
+pub fn function_words() -> [u16; 32]
+    ensures { λ r. ⌜ r ≡ zeros 32 ⌝ }
+{
     [0; 32]
 }
 

@@ -1,6 +1,5 @@
-// Checking a source table: its verdict and that verdict's number, and the links of an accepted one.
+// Checking a source table: its verdict, and the links of an accepted one.
 pub mod check;
 pub mod dos;
-pub mod number;
 pub mod row;
 pub mod walk;

@@ -6,7 +6,7 @@ use Rattle.finuraho.proofs.check.Tie as tie
 use Rattle.finuraho.proofs.check.Reads as reads
 use Rattle.finuraho.proofs.check.Lts as lts
 use Rattle.table.proofs.check.function_words.Reads as function-words-reads
-use Rattle.table.proofs.number.of_verdict.Reads as of-verdict-reads
+use Rattle.rules.proofs.number.of_verdict.Reads as of-verdict-reads
 use Rattle.table.proofs.check.row_words.Reads as row-words-reads
 use Rattle.table.proofs.check.check.Reads as check-reads
 

@@ -9,7 +9,7 @@ use Rattle.finuraho.proofs.check_hardened.Statement.{statement}
 use Rattle.finuraho.proofs.check_hardened.Tie as tie
 use Rattle.finuraho.proofs.check_hardened.Reads as reads
 use Rattle.finuraho.proofs.check_hardened.Lts as lts
-use Rattle.table.proofs.number.of_refusal.Reads as of-refusal-reads
+use Rattle.rules.proofs.number.of_refusal.Reads as of-refusal-reads
 use Rattle.reader.proofs.is_hardened.Reads as is-hardened-reads
 
 is-hardened-requires : tie.Need-is-hardened-requires

@@ -1,6 +1,5 @@
 -- `layout::lay_out` meets its contract. Assumes nothing.
 use native.Mathlib.Omega.{arith}
-use Rattle.layout.proofs.Numbers.{nothing-spent}
 use borrow.Author.Needs.{needs}
 use Rattle.layout.proofs.lay_out.Statement.{statement}
 use Rattle.layout.proofs.lay_out.Tie as tie
@@ -10,14 +9,8 @@ use Rattle.layout.proofs.number.region_bases.Reads as region-bases-read
 use Rattle.layout.proofs.number.row_values.Reads as row-values-reads
 use Rattle.layout.proofs.number.survey_and_spend.Reads as survey-and-spend-reads
 
-slice-aggregate-survey-and-spend : tie.Need-slice-aggregate-survey-and-spend
-slice-aggregate-survey-and-spend c = search needs
-
 survey-and-spend-requires : tie.Need-survey-and-spend-requires
-survey-and-spend-requires c κs = search (nothing-spent, needs)
-
-slice-aggregate-region-bases : tie.Need-slice-aggregate-region-bases
-slice-aggregate-region-bases c = search needs
+survey-and-spend-requires c κs = search needs
 
 region-bases-requires : tie.Need-region-bases-requires
 region-bases-requires c κs = search needs
@@ -41,9 +34,7 @@ pub lay-out-spec : {M : Type 1} → statement M
 lay-out-spec =
     tie.close
     (tie.spec
-    slice-aggregate-survey-and-spend
     survey-and-spend-requires
-    slice-aggregate-region-bases
     region-bases-requires
     row-values-requires
     same-length

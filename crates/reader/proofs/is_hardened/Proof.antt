@@ -2,6 +2,7 @@ use mathlib.Core.Path.{ap, sym, _∙_, refl, subst}
 use denote.Ref.{now}
 use native.Mathlib.Omega.{arith}
 use Rattle.reader.specs.Found.{FoundIs}
+use Rattle.reader.proofs.Finds.{none-told, some-told}
 use borrow.Author.Needs.{needs}
 use Rattle.reader.proofs.is_hardened.Statement.{statement}
 use Rattle.reader.proofs.is_hardened.Tie as tie
@@ -26,10 +27,10 @@ enum-told-2 : tie.Need-enum-told-2
 enum-told-2 c = search needs
 
 returns : tie.Need-returns
-returns c = sym (subst (FoundIs (now (c .before .before .before .before .before .before .before .args .lines)) _) (c .enum-told .given .1) (c .before .before .before .read .ensures))
+returns c = none-told (now (c .before .before .before .before .before .before .before .args .lines)) ((subst (FoundIs (now (c .before .before .before .before .before .before .before .args .lines)) _) (c .enum-told .given .1) (c .before .before .before .read .ensures)) .number-is)
 
 returns-2 : tie.Need-returns-2
-returns-2 c = sym ((subst (FoundIs (now (c .before .before .before .before .before .before .before .args .lines)) _) (c .enum-told2 .given .1) (c .before .before .before .read .ensures)) .hardened)
+returns-2 c = some-told (now (c .before .before .before .before .before .before .before .args .lines)) ((subst (FoundIs (now (c .before .before .before .before .before .before .before .args .lines)) _) (c .enum-told2 .given .1) (c .before .before .before .read .ensures)) .number-is)
 
 pub is-hardened-spec : {M : Type 1} → statement M
 is-hardened-spec =

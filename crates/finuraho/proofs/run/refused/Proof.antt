@@ -4,7 +4,7 @@ use Rattle.finuraho.proofs.run.refused.Statement.{statement}
 use Rattle.finuraho.proofs.run.refused.Tie as tie
 use Rattle.finuraho.proofs.run.refused.Reads as reads
 use Rattle.finuraho.proofs.run.refused.Lts as lts
-use Rattle.table.proofs.number.of_refusal.Reads as of-refusal-reads
+use Rattle.rules.proofs.number.of_refusal.Reads as of-refusal-reads
 
 of-refusal-requires : tie.Need-of-refusal-requires
 of-refusal-requires c κs = search needs

@@ -1,6 +1,6 @@
 use native.Mathlib.Omega.{arith}
-use Rattle.layout.proofs.Numbers.{sums-fit, bases-all}
 use borrow.Author.Needs.{needs}
+use Rattle.layout.proofs.Numbers.{sums-fit, bases-all}
 use Rattle.layout.proofs.number.region_bases.Statement.{statement}
 use Rattle.layout.proofs.number.region_bases.Tie as tie
 use Rattle.layout.proofs.number.region_bases.Reads as reads
@@ -19,13 +19,13 @@ add-count : tie.Need-add-count
 add-count c = search needs
 
 sum-requires : tie.Need-sum-requires
-sum-requires c κs = search (sums-fit, needs)
+sum-requires c κs = (search needs, sums-fit (c .before .before .stand .ensures) (c .before .before .before .before .before .before .pre .1) (c .before .index .ensures))
 
 same-length : tie.Need-same-length
 same-length c = search needs
 
 returns : tie.Need-returns
-returns c = bases-all (c .before .before .before .before .before .stand .ensures) (c .before .before .before .before .before .before .before .before .before .before .pre .1) (c .before .before .before .before .index .ensures) (c .before .before .sum .ensures) (omega arith)
+returns c = bases-all (c .before .before .before .before .before .stand .ensures) (c .before .before .before .before .before .before .before .before .before .pre .1) (c .before .before .before .before .index .ensures) (c .before .before .sum .ensures) (omega arith)
 
 pub region-bases-spec : {M : Type 1} → statement M
 region-bases-spec =

@@ -1,6 +1,6 @@
-use borrow.Author.Needs.{needs}
-use native.Mathlib.Omega.{arith}
 use Prim.Native.Nat.{_-_}
+use native.Mathlib.Omega.{arith}
+use borrow.Author.Needs.{needs}
 use Rattle.layout.proofs.Numbers.{Summing, sum-fits, summings}
 use Rattle.layout.proofs.number.sum.Statement.{statement}
 use Rattle.layout.proofs.number.sum.Tie as tie
@@ -8,25 +8,25 @@ use Rattle.layout.proofs.number.sum.Reads as reads
 use Rattle.layout.proofs.number.sum.Lts as lts
 
 abbrev Inv-loop : tie.InvT-loop
-Inv-loop spent bases₀ count total₀ g₀ bases total g = Summing spent count bases₀ bases total g
+Inv-loop words₀ count total₀ g₀ words total g = Summing words₀ count words total g
 
 abbrev μ-loop : tie.MeasureT-loop
-μ-loop spent bases₀ count total₀ g₀ bases total g = count - g
+μ-loop words₀ count total₀ g₀ words total g = count - g
 
 loop-holds : tie.Need-loop-holds Inv-loop μ-loop
 loop-holds c = search (summings, needs)
 
-mul-bases : tie.Need-mul-bases Inv-loop μ-loop
-mul-bases c = search (summings, needs)
+mul-took : tie.Need-mul-took Inv-loop μ-loop
+mul-took c = search (summings, needs)
 
-slice-write-bases : tie.Need-slice-write-bases Inv-loop μ-loop
-slice-write-bases c = search (summings, needs)
+slice-read-took : tie.Need-slice-read-took Inv-loop μ-loop
+slice-read-took c = search (summings, needs)
 
-mul-total : tie.Need-mul-total Inv-loop μ-loop
-mul-total c = search (summings, needs)
+mul-words : tie.Need-mul-words Inv-loop μ-loop
+mul-words c = search (summings, needs)
 
-shared-slice-read-total : tie.Need-shared-slice-read-total Inv-loop μ-loop
-shared-slice-read-total c = search (summings, needs)
+slice-write-words : tie.Need-slice-write-words Inv-loop μ-loop
+slice-write-words c = search (summings, needs)
 
 add-total : tie.Need-add-total Inv-loop μ-loop
 add-total c = omega (arith, sum-fits (c .before .before .loop .inv) (omega arith) (c .before .before .before .pre .1))
@@ -56,10 +56,10 @@ sum-spec =
     Inv-loop
     μ-loop
     loop-holds
-    mul-bases
-    slice-write-bases
-    mul-total
-    shared-slice-read-total
+    mul-took
+    slice-read-took
+    mul-words
+    slice-write-words
     add-total
     add-total-2
     add-g

@@ -10,7 +10,7 @@ use Rattle.reader.proofs.compare.hardens_to.Tie as tie
 use Rattle.reader.proofs.compare.hardens_to.Reads as reads
 use Rattle.reader.proofs.compare.hardens_to.Lts as lts
 use Rattle.table.proofs.check.function_words.Reads as function-words-reads
-use Rattle.reader.proofs.compare.hardens_linked.Reads as hardens-linked-reads
+use Rattle.hardener.proofs.compare.hardens_to_lines.Reads as hardens-to-lines-reads
 use Rattle.table.proofs.check.row_words.Reads as row-words-reads
 use Rattle.table.proofs.check.check.Reads as check-reads
 
@@ -32,14 +32,14 @@ enum-told c = search needs
 enum-told-2 : tie.Need-enum-told-2
 enum-told-2 c = search needs
 
-hardens-linked-requires : tie.Need-hardens-linked-requires
-hardens-linked-requires c κs = (sym (c .before .before .before .before .before .check .ensures .verdict-is) ∙ c .before .before .before .enum-told2 .given .1, c .before .before .before .before .before .check .ensures .links (c .before .before .before .enum-told2 .given .1), c .before .before .before .before .before .before .before .before .before .before .before .before .before .before .pre)
+hardens-to-lines-requires : tie.Need-hardens-to-lines-requires
+hardens-to-lines-requires c κs = (sym (c .before .before .before .before .before .check .ensures .verdict-is) ∙ c .before .before .before .enum-told2 .given .1, c .before .before .before .before .before .check .ensures .links (c .before .before .before .enum-told2 .given .1))
 
 returns : tie.Need-returns
 returns c = judged-refused (verdictOf (now (c .before .before .before .before .before .before .before .before .before .before .before .args .rows))) _ (ap isAccepted (sym (c .before .before .check .ensures .verdict-is) ∙ c .enum-told .given .1))
 
 returns-2 : tie.Need-returns-2
-returns-2 c = judged-accepted (verdictOf (now (c .before .before .before .before .before .before .before .before .before .before .before .before .before .before .before .args .rows))) (ap isAccepted (sym (c .before .before .before .before .before .before .check .ensures .verdict-is) ∙ c .before .before .before .before .enum-told2 .given .1)) (c .hardens-linked .ensures)
+returns-2 c = judged-accepted (verdictOf (now (c .before .before .before .before .before .before .before .before .before .before .before .before .before .before .before .args .rows))) (ap isAccepted (sym (c .before .before .before .before .before .before .check .ensures .verdict-is) ∙ c .before .before .before .before .enum-told2 .given .1)) (c .hardens-to-lines .ensures)
 
 pub hardens-to-spec : {M : Type 1} → statement M
 hardens-to-spec =
@@ -51,6 +51,6 @@ hardens-to-spec =
     check-requires
     enum-told
     enum-told-2
-    hardens-linked-requires
+    hardens-to-lines-requires
     returns
     returns-2)

@@ -1,12 +1,12 @@
-use Rattle.reader.proofs.Compares.{and-kept, and-lost}
+use Rattle.hardener.proofs.Compares.{and-kept, and-lost}
 use mathlib.Core.Path.{ap, sym, _∙_, refl}
 use borrow.Author.Needs.{needs}
 use lib.Dec.{eqb}
 use mathlib.Core.Bool.{_&&_}
-use Rattle.reader.proofs.compare.and_same.Statement.{statement}
-use Rattle.reader.proofs.compare.and_same.Tie as tie
-use Rattle.reader.proofs.compare.and_same.Reads as reads
-use Rattle.reader.proofs.compare.and_same.Lts as lts
+use Rattle.hardener.proofs.compare.and_same.Statement.{statement}
+use Rattle.hardener.proofs.compare.and_same.Tie as tie
+use Rattle.hardener.proofs.compare.and_same.Reads as reads
+use Rattle.hardener.proofs.compare.and_same.Lts as lts
 
 returns : tie.Need-returns
 returns c = and-kept (c .before .args .equal) (c .before .args .x) (c .before .args .y) (c .if1 .taken)

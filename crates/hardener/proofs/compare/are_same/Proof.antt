@@ -6,12 +6,12 @@ use Prim.Native.Nat.{_-_, _≤_}
 use lib.ListN.{length, take}
 use Rattle.rules.specs.Bytes.{same}
 use mathlib.Core.Path.{_≡_}
-use Rattle.reader.proofs.Compares.{same-none, same-next, same-all}
-use Rattle.reader.proofs.compare.are_same.Statement.{statement}
-use Rattle.reader.proofs.compare.are_same.Tie as tie
-use Rattle.reader.proofs.compare.are_same.Reads as reads
-use Rattle.reader.proofs.compare.are_same.Lts as lts
-use Rattle.reader.proofs.compare.and_same.Reads as and-same-reads
+use Rattle.hardener.proofs.Compares.{same-none, same-next, same-all}
+use Rattle.hardener.proofs.compare.are_same.Statement.{statement}
+use Rattle.hardener.proofs.compare.are_same.Tie as tie
+use Rattle.hardener.proofs.compare.are_same.Reads as reads
+use Rattle.hardener.proofs.compare.are_same.Lts as lts
+use Rattle.hardener.proofs.compare.and_same.Reads as and-same-reads
 
 abbrev Inv-loop : tie.InvT-loop
 Inv-loop xs ys equal₀ k₀ equal k = (k ≤ length xs) × (equal ≡ same (take k xs) (take k ys))

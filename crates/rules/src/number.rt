@@ -1,8 +1,8 @@
 // The numbers of 01, "What turns a call away".
 ghost use mathlib.Core.Path.{_≡_};
 ghost use Rattle.rules.specs.Refusal.{refusalNumber, numberOf};
-use rules::refusal::Refusal;
-use rules::refusal::Verdict;
+use crate::refusal::Refusal;
+use crate::refusal::Verdict;
 
 pub fn of_refusal(r: Refusal) -> u8
     ensures { λ n. ⌜ n ≡ refusalNumber r ⌝ }

@@ -1,0 +1,251 @@
+/* Runs each call of the header on a painted stack and sees how far down it is written, for small, large, deep and refused tables. No
+ * call may take more than the header says. */
+#define _XOPEN_SOURCE 700
+#include <finuraho.h>
+#include <stdio.h>
+#include <string.h>
+#include <ucontext.h>
+
+/* Kinds of rows (01, "The source table"). */
+enum { FUNCTION = 1, DO = 2, IF = 3, ELSE = 4, LOOP = 5, END = 6, BREAK = 7, CALL = 9 };
+
+#define BUDGET 5000
+
+/* Sixteen rows beyond the largest table, for one that is refused. */
+static uint8_t rows[FINURAHO_MAX_SOURCE_BYTES + 16 * FINURAHO_ROW_BYTES];
+static size_t length;
+static uint8_t lines[FINURAHO_MAX_HARDENED_BYTES];
+static size_t lines_length;
+static uint8_t out[FINURAHO_MAX_HARDENED_BYTES];
+static uint16_t trace[BUDGET];
+static uint16_t counters[FINURAHO_COUNTER_WORDS];
+static const uint16_t values[FINURAHO_VARIABLES] = {0, 1};
+
+/* ---- the calls */
+
+static void call_nothing(void)
+{
+}
+
+static void call_check(void)
+{
+    finuraho_check(rows, length);
+}
+
+static void call_fault(void)
+{
+    finuraho_fault(rows, length);
+}
+
+static void call_harden(void)
+{
+    finuraho_harden(rows, length, out, sizeof out);
+}
+
+static void call_check_hardened(void)
+{
+    finuraho_check_hardened(lines, lines_length);
+}
+
+static void call_read_back(void)
+{
+    finuraho_read_back(lines, lines_length, out, sizeof out);
+}
+
+static void call_run_source(void)
+{
+    finuraho_run_source(rows, length, values, BUDGET, trace, BUDGET);
+}
+
+static void call_run_hardened(void)
+{
+    finuraho_run_hardened(lines, lines_length, values, BUDGET, 40, 1, trace, BUDGET, counters, FINURAHO_COUNTER_WORDS);
+}
+
+struct measured {
+    const char *name;
+    void (*call)(void);
+    size_t allowed;
+    size_t most;
+};
+
+static struct measured calls[] = {
+    {"check", call_check, FINURAHO_STACK_CHECK, 0},
+    {"fault", call_fault, FINURAHO_STACK_FAULT, 0},
+    {"harden", call_harden, FINURAHO_STACK_HARDEN, 0},
+    {"check_hardened", call_check_hardened, FINURAHO_STACK_CHECK_HARDENED, 0},
+    {"read_back", call_read_back, FINURAHO_STACK_READ_BACK, 0},
+    {"run_source", call_run_source, FINURAHO_STACK_RUN_SOURCE, 0},
+    {"run_hardened", call_run_hardened, FINURAHO_STACK_RUN_HARDENED, 0},
+};
+
+#define CALLS (sizeof calls / sizeof calls[0])
+
+/* ---- the painted stack */
+
+#define STACK (256 * 1024)
+
+static uint8_t stack[STACK];
+static ucontext_t here, there;
+
+/* No two bytes near each other are alike, and the two paints differ everywhere: a byte that is written shows in one of them. */
+static uint8_t paint(size_t i, int which)
+{
+    return (uint8_t)(i * 151 + i / 256 + (which ? 101 : 0));
+}
+
+static size_t written(void (*call)(void), int which)
+{
+    size_t i;
+    for (i = 0; i < STACK; i++)
+        stack[i] = paint(i, which);
+    getcontext(&there);
+    there.uc_stack.ss_sp = stack;
+    there.uc_stack.ss_size = STACK;
+    there.uc_link = &here;
+    makecontext(&there, call, 0);
+    swapcontext(&here, &there);
+    for (i = 0; i < STACK && stack[i] == paint(i, which); i++)
+        ;
+    return STACK - i;
+}
+
+static size_t taken(void (*call)(void))
+{
+    size_t one = written(call, 0), other = written(call, 1);
+    return one > other ? one : other;
+}
+
+static void measure(void)
+{
+    size_t i, nothing = taken(call_nothing);
+    for (i = 0; i < CALLS; i++) {
+        size_t bytes = taken(calls[i].call) - nothing;
+        if (bytes > calls[i].most)
+            calls[i].most = bytes;
+    }
+}
+
+/* ---- the tables */
+
+static void put(uint8_t kind, uint8_t op, uint8_t p, uint8_t q, uint16_t n)
+{
+    const uint8_t row[FINURAHO_ROW_BYTES] = {kind, op, p, q, (uint8_t)(n % 256), (uint8_t)(n / 256)};
+    memcpy(rows + length, row, sizeof row);
+    length += sizeof row;
+}
+
+static void put_many(int count, uint8_t kind)
+{
+    int i;
+    for (i = 0; i < count; i++)
+        put(kind, 0, 0, 0, 0);
+}
+
+/* Measures the table that is there, then its hardening with one byte changed. */
+static void measure_table(void)
+{
+    finuraho_wrote wrote = finuraho_harden(rows, length, lines, sizeof lines);
+    lines_length = wrote.length;
+    measure();
+    if (lines_length == 0)
+        return;
+    lines[lines_length - 8]++;
+    measure();
+}
+
+static void tiny(void)
+{
+    length = 0;
+    put(FUNCTION, 0, 0, 0, 0);
+    put(END, 0, 0, 0, 0);
+    measure_table();
+}
+
+/* 01's example: v0 = 2, then v1 is taken away from it until it is 0. */
+static void example(void)
+{
+    length = 0;
+    put(FUNCTION, 0, 0, 0, 0);
+    put(DO, 0, 0, 0, 2);
+    put(LOOP, 1, 0, 0, 0);
+    put(DO, 3, 0, 1, 0);
+    put_many(2, END);
+    measure_table();
+}
+
+/* 1,024 rows in 32 functions, each of which calls the next. */
+static void mostly_dos(void)
+{
+    uint16_t function, i;
+    length = 0;
+    for (function = 0; function < FINURAHO_MAX_FUNCTIONS; function++) {
+        put(FUNCTION, 0, 0, 0, 0);
+        for (i = 0; i < 29; i++)
+            put(DO, 2, 0, 1, 0);
+        put(CALL, 0, 0, 0, (uint16_t)((function + 1) % FINURAHO_MAX_FUNCTIONS));
+        put(END, 0, 0, 0, 0);
+    }
+    measure_table();
+}
+
+/* Constructs inside each other to the limit, in every way: `ways` says whether the next is a loop, an if, or in an if's else part. */
+static void put_nest(const char *ways, int depth)
+{
+    int i, k = (int)strlen(ways);
+    for (i = 0; i < depth; i++) {
+        put(ways[i % k] == 'l' ? LOOP : IF, 1, 1, 0, 0);
+        if (ways[i % k] == 'e')
+            put(ELSE, 0, 0, 0, 0);
+    }
+    put(DO, 2, 0, 1, 0);
+    put_many(depth, END);
+}
+
+static const char *const WAYS[] = {"l", "i", "e", "le", "il", "iel"};
+
+static void nested(int depth)
+{
+    size_t way;
+    int function;
+    for (way = 0; way < sizeof WAYS / sizeof WAYS[0]; way++) {
+        length = 0;
+        for (function = 0; function < 20; function++) {
+            put(FUNCTION, 0, 0, 0, 0);
+            put_nest(WAYS[way], depth);
+            put(END, 0, 0, 0, 0);
+        }
+        measure_table();
+    }
+}
+
+/* A row too many at the end of a table, and a table of too many rows. */
+static void refused(void)
+{
+    mostly_dos();
+    length -= FINURAHO_ROW_BYTES;
+    put(BREAK, 0, 0, 0, 0);
+    measure_table();
+    put(END, 0, 0, 0, 0);
+    measure_table();
+    length = 0;
+    measure_table();
+}
+
+int main(void)
+{
+    size_t i;
+    int failed = 0;
+    tiny();
+    example();
+    mostly_dos();
+    nested(FINURAHO_MAX_CONSTRUCTS);
+    nested(FINURAHO_MAX_CONSTRUCTS + 1);
+    refused();
+    for (i = 0; i < CALLS; i++) {
+        int over = calls[i].most > calls[i].allowed;
+        printf("%s: %zu bytes of stack, at most %zu%s\n", calls[i].name, calls[i].most, calls[i].allowed, over ? ": TOO MANY" : "");
+        failed += over;
+    }
+    return failed != 0;
+}
