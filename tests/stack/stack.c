@@ -6,9 +6,6 @@
 #include <string.h>
 #include <ucontext.h>
 
-/* Kinds of rows (01, "The source table"). */
-enum { FUNCTION = 1, DO = 2, IF = 3, ELSE = 4, LOOP = 5, END = 6, BREAK = 7, CALL = 9 };
-
 #define BUDGET 5000
 
 /* Sixteen rows beyond the largest table, for one that is refused. */
@@ -157,8 +154,8 @@ static void measure_table(void)
 static void tiny(void)
 {
     length = 0;
-    put(FUNCTION, 0, 0, 0, 0);
-    put(END, 0, 0, 0, 0);
+    put(FINURAHO_ROW_FUNCTION, 0, 0, 0, 0);
+    put(FINURAHO_ROW_END, 0, 0, 0, 0);
     measure_table();
 }
 
@@ -166,11 +163,11 @@ static void tiny(void)
 static void example(void)
 {
     length = 0;
-    put(FUNCTION, 0, 0, 0, 0);
-    put(DO, 0, 0, 0, 2);
-    put(LOOP, 1, 0, 0, 0);
-    put(DO, 3, 0, 1, 0);
-    put_many(2, END);
+    put(FINURAHO_ROW_FUNCTION, 0, 0, 0, 0);
+    put(FINURAHO_ROW_DO, 0, 0, 0, 2);
+    put(FINURAHO_ROW_LOOP, 1, 0, 0, 0);
+    put(FINURAHO_ROW_DO, 3, 0, 1, 0);
+    put_many(2, FINURAHO_ROW_END);
     measure_table();
 }
 
@@ -180,11 +177,11 @@ static void mostly_dos(void)
     uint16_t function, i;
     length = 0;
     for (function = 0; function < FINURAHO_MAX_FUNCTIONS; function++) {
-        put(FUNCTION, 0, 0, 0, 0);
+        put(FINURAHO_ROW_FUNCTION, 0, 0, 0, 0);
         for (i = 0; i < 29; i++)
-            put(DO, 2, 0, 1, 0);
-        put(CALL, 0, 0, 0, (uint16_t)((function + 1) % FINURAHO_MAX_FUNCTIONS));
-        put(END, 0, 0, 0, 0);
+            put(FINURAHO_ROW_DO, 2, 0, 1, 0);
+        put(FINURAHO_ROW_CALL, 0, 0, 0, (uint16_t)((function + 1) % FINURAHO_MAX_FUNCTIONS));
+        put(FINURAHO_ROW_END, 0, 0, 0, 0);
     }
     measure_table();
 }
@@ -194,12 +191,12 @@ static void put_nest(const char *ways, int depth)
 {
     int i, k = (int)strlen(ways);
     for (i = 0; i < depth; i++) {
-        put(ways[i % k] == 'l' ? LOOP : IF, 1, 1, 0, 0);
+        put(ways[i % k] == 'l' ? FINURAHO_ROW_LOOP : FINURAHO_ROW_IF, 1, 1, 0, 0);
         if (ways[i % k] == 'e')
-            put(ELSE, 0, 0, 0, 0);
+            put(FINURAHO_ROW_ELSE, 0, 0, 0, 0);
     }
-    put(DO, 2, 0, 1, 0);
-    put_many(depth, END);
+    put(FINURAHO_ROW_DO, 2, 0, 1, 0);
+    put_many(depth, FINURAHO_ROW_END);
 }
 
 static const char *const WAYS[] = {"l", "i", "e", "le", "il", "iel"};
@@ -211,9 +208,9 @@ static void nested(int depth)
     for (way = 0; way < sizeof WAYS / sizeof WAYS[0]; way++) {
         length = 0;
         for (function = 0; function < 20; function++) {
-            put(FUNCTION, 0, 0, 0, 0);
+            put(FINURAHO_ROW_FUNCTION, 0, 0, 0, 0);
             put_nest(WAYS[way], depth);
-            put(END, 0, 0, 0, 0);
+            put(FINURAHO_ROW_END, 0, 0, 0, 0);
         }
         measure_table();
     }
@@ -224,9 +221,9 @@ static void refused(void)
 {
     mostly_dos();
     length -= FINURAHO_ROW_BYTES;
-    put(BREAK, 0, 0, 0, 0);
+    put(FINURAHO_ROW_BREAK, 0, 0, 0, 0);
     measure_table();
-    put(END, 0, 0, 0, 0);
+    put(FINURAHO_ROW_END, 0, 0, 0, 0);
     measure_table();
     length = 0;
     measure_table();
@@ -243,9 +240,10 @@ int main(void)
     nested(FINURAHO_MAX_CONSTRUCTS + 1);
     refused();
     for (i = 0; i < CALLS; i++) {
-        int over = calls[i].most > calls[i].allowed;
-        printf("%s: %zu bytes of stack, at most %zu%s\n", calls[i].name, calls[i].most, calls[i].allowed, over ? ": TOO MANY" : "");
-        failed += over;
+        /* A figure that is twice what was measured says nothing, and nor does a measurement that met nothing. */
+        int wrong = calls[i].most > calls[i].allowed || 2 * calls[i].most < calls[i].allowed;
+        printf("%s: %zu bytes of stack, at most %zu%s\n", calls[i].name, calls[i].most, calls[i].allowed, wrong ? ": WRONG" : "");
+        failed += wrong;
     }
     return failed != 0;
 }
