@@ -24,3 +24,17 @@ pub fn is(word: &[u8], name: &[u8]) -> bool {
     }
     skip(word, name) == word.len()
 }
+
+// Where the first such byte stands; the length where there is none.
+pub fn find(b: u8, text: &[u8]) -> usize
+    ensures { λ r. ⌜ Counts r (now (text .entry)) ⌝ }
+{
+    let mut i = 0;
+    while i < text.len() {
+        if text[i] == b {
+            return i;
+        }
+        i += 1;
+    }
+    i
+}

@@ -1,13 +1,13 @@
 // The command line: which run, and with what.
 ghost use mathlib.Core.Path.{_≡_};
 ghost use lib.ListN.{length};
-use crate::number::Number;
 use crate::word;
 use crate::word::Word;
 use crate::wrong::Expected;
+use console::number::Number;
 use console::word::is;
 
-// Each word but a variable's is given once at most.
+// A budget, a jump, `trace` and `show` are given once at most.
 pub struct Asked {
     pub hardened: bool,
     pub trace: bool,

@@ -15,7 +15,6 @@ mod arguments;
 mod hardened_steps;
 mod limit;
 mod line;
-mod number;
 mod row;
 mod source_steps;
 mod word;

@@ -1,8 +1,8 @@
 // What one word behind the first says.
-ghost use Rattle.io.specs.Counts.{Counts};
-use crate::number::Number;
-use crate::number::decimal;
 use crate::wrong::Expected;
+use console::number::Number;
+use console::number::decimal;
+use console::word::find;
 use console::word::is;
 use console::word::skip;
 
@@ -14,20 +14,6 @@ pub enum Word {
     Trace,
     Show,
     Wrong(Expected),
-}
-
-// Where the first such byte stands; the length where there is none.
-fn find(b: u8, text: &[u8]) -> usize
-    ensures { λ r. ⌜ Counts r (now (text .entry)) ⌝ }
-{
-    let mut i = 0;
-    while i < text.len() {
-        if text[i] == b {
-            return i;
-        }
-        i += 1;
-    }
-    i
 }
 
 pub fn read(word: &[u8]) -> Word {
