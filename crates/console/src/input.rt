@@ -3,13 +3,16 @@ ghost use mathlib.Core.Path.{_≡_};
 ghost use Prim.Native.Nat.{_≤_};
 ghost use lib.ListN.{length};
 ghost use Rattle.text.specs.Reading.{Sane};
+use crate::malformed;
+use crate::malformed::Seen;
+use crate::output;
 use text::read;
 use text::read::Reader;
 
-// What was read: how many bytes, or that some line is malformed. Bytes that the buffer does not hold are not counted.
+// What was read: how many bytes, where those that the buffer does not hold are not counted; or nothing to go on with, which was told.
 pub enum Read {
     Bytes(usize),
-    Unreadable,
+    Nothing,
 }
 
 // Rows of 12 digits. There is room for 1,025: one more than a table may have, so that a longer one still meets 2.
@@ -30,25 +33,33 @@ pub fn take_lines(chunk: &mut [u8], bytes: &mut [u8]) -> Read
 fn take(digits: usize, chunk: &mut [u8], bytes: &mut [u8]) -> Read
     requires { ⌜ digits ≤ 40 ⌝ }
 {
-    let r = read_all(digits, chunk, bytes);
+    let mut r = read::start();
+    let mut seen = malformed::start();
+    let mut reads: u64 = 0;
+    while reads < 18446744073709551615 {
+        let got = libc::read(0, chunk);
+        if got < 0 {
+            os::fail(b"cannot read standard input");
+            return Read::Nothing;
+        }
+        let n = io::count(got, chunk);
+        if n == 0 {
+            return ended(r, seen, digits);
+        }
+        r = read::feed(&chunk[..n], digits, r, bytes);
+        seen = malformed::look(&chunk[..n], digits, seen);
+        reads += 1;
+    }
+    ended(r, seen, digits)
+}
+
+// The input ends here.
+fn ended(r: Reader, seen: Seen, digits: usize) -> Read {
     if read::is_good(r, digits) {
         return Read::Bytes(r.length);
     }
-    Read::Unreadable
-}
-
-fn read_all(digits: usize, chunk: &mut [u8], bytes: &mut [u8]) -> Reader
-    requires { ⌜ digits ≤ 40 ⌝ }
-{
-    let mut r = read::start();
-    let mut reads: u64 = 0;
-    while reads < 18446744073709551615 {
-        let n = io::read_full(0, chunk);
-        if n == 0 {
-            return r;
-        }
-        r = read::feed(&chunk[..n], digits, r, bytes);
-        reads += 1;
+    if output::answer(b"unreadable\n") {
+        malformed::tell(seen, digits);
     }
-    r
+    Read::Nothing
 }

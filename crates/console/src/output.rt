@@ -1,4 +1,4 @@
-// The answers that are one line, and as much of a buffer as there is.
+// Writing an answer, and as much of a buffer as there is.
 ghost use mathlib.Core.Path.{_≡_};
 ghost use Prim.Native.Nat.{_≤_, min};
 ghost use lib.ListN.{length};
@@ -21,8 +21,19 @@ pub fn within(n: usize, buffer: &[u8]) -> usize
     least(n, buffer.len())
 }
 
-pub fn unreadable() {
-    io::write_all(1, b"unreadable\n");
+// Every answer goes this way: where it can't be written that is said, once, and the caller writes no more.
+pub fn answer(bytes: &[u8]) -> bool {
+    if io::write_all(1, bytes) {
+        return true;
+    }
+    os::fail(b"cannot write standard output");
+    false
+}
+
+// The first so many bytes of a buffer.
+pub fn answer_front(n: usize, buffer: &[u8]) -> bool {
+    let all = within(n, buffer);
+    answer(&buffer[..all])
 }
 
 // `refused N`
@@ -30,6 +41,5 @@ pub fn refused(number: u8, text: &mut [u8])
     requires { ⌜ 65536 ≡ length (now text) ⌝ }
 {
     let n = write::refusal(number, text);
-    let all = within(n, text);
-    io::write_all(1, &text[..all]);
+    answer_front(n, text);
 }

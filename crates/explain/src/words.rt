@@ -1,61 +1,48 @@
 // What is wrong, in the words of 01, "What turns a call away".
-
-// For a number and the kind byte of its row.
-pub fn put(number: u8, kind: u8) {
-    match number {
-        1 => none(),
-        2 => too_many_rows(),
-        3 => wrong(kind),
-        4 => misplaced(kind),
-        5 => too_many_functions(),
-        6 => too_many_parts(kind),
-        _ => no_such_function(),
-    }
-}
+use crate::fields;
+use crate::row;
+use crate::row::Row;
+use console::print;
+use rules::answer::Fault;
 
 // Whole lines make whole rows, so that there are none is the one way to meet 1.
-fn none() {
-    io::write_all(1, b"no rows");
-}
-
-fn too_many_rows() {
-    io::write_all(1, b"over 1,024 rows");
-}
-
-fn wrong(kind: u8) {
-    match kind {
-        1..=9 => io::write_all(1, b"op, p, q or an unused field is wrong"),
-        _ => io::write_all(1, b"unknown kind"),
+pub fn put(f: Fault, rows: &[u8], at: usize, text: &mut [u8; 65536]) -> usize {
+    let number = f.number;
+    let r = row::at(rows, f.row);
+    match number {
+        1 => print::word(b"no rows", at, text),
+        2 => print::word(b"over 1,024 rows", at, text),
+        3 => wrong(r, at, text),
+        4 => misplaced(r.kind, at, text),
+        5 => print::word(b"a 33rd function", at, text),
+        6 => too_many(r.kind, row::depth_at(rows, f.row), at, text),
+        _ => print::word(b"call of a function that isn't there", at, text),
     }
-    ;
+}
+
+fn wrong(r: Row, at: usize, text: &mut [u8; 65536]) -> usize {
+    match r.kind {
+        1..=9 => fields::put(r, at, text),
+        _ => print::word(b"unknown kind", at, text),
+    }
 }
 
 // Kind 0 is the end of the table.
-fn misplaced(kind: u8) {
+fn misplaced(kind: u8, at: usize, text: &mut [u8; 65536]) -> usize {
     match kind {
-        0 => io::write_all(1, b"something is left open at the end"),
-        1 => io::write_all(1, b"a function in a function"),
-        4 => io::write_all(1, b"else without an open then part"),
-        7 => io::write_all(1, b"break outside a loop"),
-        8 => io::write_all(1, b"continue outside a loop"),
-        _ => io::write_all(1, b"outside a function"),
+        0 => print::word(b"something is left open at the end", at, text),
+        1 => print::word(b"a function in a function", at, text),
+        4 => print::word(b"else without an open then part", at, text),
+        7 => print::word(b"break outside a loop", at, text),
+        8 => print::word(b"continue outside a loop", at, text),
+        _ => print::word(b"outside a function", at, text),
     }
-    ;
 }
 
-fn too_many_functions() {
-    io::write_all(1, b"a 33rd function");
-}
-
-// An else is no if or loop.
-fn too_many_parts(kind: u8) {
-    match kind {
-        4 => io::write_all(1, b"a 65th region"),
-        _ => io::write_all(1, b"a 17th open if or loop, or a 65th region"),
+// The function itself and 16 ifs and loops are open; an else opens none more.
+fn too_many(kind: u8, depth: usize, at: usize, text: &mut [u8; 65536]) -> usize {
+    if kind != 4 && depth == 17 {
+        return print::word(b"a 17th open if or loop", at, text);
     }
-    ;
-}
-
-fn no_such_function() {
-    io::write_all(1, b"call of a function that isn't there");
+    print::word(b"a 65th region", at, text)
 }

@@ -20,7 +20,7 @@ pub fn answer(read: Read, rows: &[u8], lines: &mut [u8], listing: &mut [u8])
             let all = output::within(n, rows);
             harden(&rows[..all], lines, listing);
         }
-        Read::Unreadable => output::unreadable(),
+        Read::Nothing => {}
     }
 }
 
@@ -36,6 +36,7 @@ fn harden(rows: &[u8], lines: &mut [u8], listing: &mut [u8])
     list(&lines[..all], listing);
 }
 
+// Output that can't be written ends the listing.
 fn list(lines: &[u8], listing: &mut [u8])
     requires { ⌜ 65536 ≡ length (now listing) ⌝ }
 {
@@ -45,15 +46,16 @@ fn list(lines: &[u8], listing: &mut [u8])
         let next = done + output::least(count - done, MANY);
         let from = WIDTH * done;
         let to = WIDTH * next;
-        some_lines(&lines[from..to], listing);
+        if !some_lines(&lines[from..to], listing) {
+            return;
+        }
         done = next;
     }
 }
 
-fn some_lines(lines: &[u8], listing: &mut [u8])
+fn some_lines(lines: &[u8], listing: &mut [u8]) -> bool
     requires { ⌜ (length (now lines) % 20 ≡ 0) × (length (now lines) ≤ 20000) × (65536 ≡ length (now listing)) ⌝ }
 {
     let n = write::listing(lines, WIDTH, listing);
-    let all = output::within(n, listing);
-    io::write_all(1, &listing[..all]);
+    output::answer_front(n, listing)
 }

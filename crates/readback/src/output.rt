@@ -19,7 +19,7 @@ pub fn answer(read: Read, lines: &[u8], rows: &mut [u8], listing: &mut [u8])
             let all = output::within(n, lines);
             read_back(&lines[..all], &mut rows[..LARGEST], listing);
         }
-        Read::Unreadable => output::unreadable(),
+        Read::Nothing => {}
     }
 }
 
@@ -41,6 +41,5 @@ fn list(rows: &[u8], count: usize, listing: &mut [u8])
 {
     let to = WIDTH * count;
     let n = write::listing(&rows[..to], WIDTH, listing);
-    let all = output::within(n, listing);
-    io::write_all(1, &listing[..all]);
+    output::answer_front(n, listing);
 }

@@ -1,15 +1,14 @@
-// What a run answers, as four lines.
-ghost use Prim.Native.Nat.{_≤_};
+// What a run answers, as four lines; a long trace takes more.
 ghost use Rattle.io.specs.Counts.{Counts};
-use crate::print;
 use console::output;
+use console::print;
 use rules::answer::Ran;
 
+// Numbers on a line.
+const MANY: usize = 20;
+
 // 01's words for an outcome.
-fn named(outcome: u8, at: usize, text: &mut [u8; 65536]) -> usize
-    requires { ⌜ at ≤ 65536 ⌝ }
-    ensures { λ r. ⌜ r ≤ 65536 ⌝ }
-{
+fn named(outcome: u8, at: usize, text: &mut [u8; 65536]) -> usize {
     match outcome {
         0 => print::word(b" budget spent\n", at, text),
         1 => print::word(b" finished\n", at, text),
@@ -19,18 +18,24 @@ fn named(outcome: u8, at: usize, text: &mut [u8; 65536]) -> usize
     }
 }
 
-// A space before each number, and the end of the line.
-fn list(words: &[u16], at: usize, text: &mut [u8; 65536]) -> usize
-    requires { ⌜ at ≤ 65536 ⌝ }
-    ensures { λ r. ⌜ r ≤ 65536 ⌝ }
-{
+// A space before each number, and the end of the last line.
+fn list(words: &[u16], at: usize, text: &mut [u8; 65536]) -> usize {
     let mut next = at;
     let mut i = 0;
     while i < words.len() {
+        next = begin_line(i, next, text);
         next = print::named(b" ", words[i], next, text);
         i += 1;
     }
     print::put(b'\n', next, text)
+}
+
+// The first number stands on a line that was begun already.
+fn begin_line(i: usize, at: usize, text: &mut [u8; 65536]) -> usize {
+    if 0 < i && i % MANY == 0 {
+        return print::put(b'\n', at, text);
+    }
+    at
 }
 
 // As many of the slots as the trace is long.
@@ -44,22 +49,36 @@ fn traced(r: Ran, trace: &[u16]) -> usize
     n
 }
 
-// The four lines, or `refused N`.
-pub fn tell(r: Ran, trace: &[u16], text: &mut [u8; 65536]) {
+// A trace that fits on its line stands there; a longer one is listed where that was asked.
+fn list_trace(rows: &[u16], whole: bool, at: usize, text: &mut [u8; 65536]) -> usize {
+    if rows.len() <= MANY {
+        let header = print::word(b"\ntrace", at, text);
+        return list(rows, header, text);
+    }
+    let header = print::word(b"\ntrace of ", at, text);
+    let length = print::number(rows.len() as u64, header, text);
+    if whole {
+        let begun = print::word(b" rows\n", length, text);
+        return list(rows, begun, text);
+    }
+    print::word(b" rows, listed with the word trace\n", length, text)
+}
+
+// The answer behind what the buffer holds already, or `refused N`. Behind steps there is never a refusal.
+pub fn tell(r: Ran, whole: bool, trace: &[u16], at: usize, text: &mut [u8; 65536]) {
     if r.number != 0 {
         output::refused(r.number, text);
         return;
     }
-    accepted(r, trace, text);
+    accepted(r, whole, trace, at, text);
 }
 
-fn accepted(r: Ran, trace: &[u16], text: &mut [u8; 65536]) {
-    let outcome = print::named(b"outcome ", r.outcome as u16, 0, text);
+fn accepted(r: Ran, whole: bool, trace: &[u16], at: usize, text: &mut [u8; 65536]) {
+    let outcome = print::named(b"outcome ", r.outcome as u16, at, text);
     let steps = print::named(b"steps ", r.steps, named(r.outcome, outcome, text), text);
-    let header = print::word(b"\ntrace", steps, text);
     let n = traced(r, trace);
-    let done = list(&trace[..n], header, text);
-    let variables = print::word(b"variables", done, text);
+    let listed = list_trace(&trace[..n], whole, steps, text);
+    let variables = print::word(b"variables", listed, text);
     let all = list(&r.variables, variables, text);
     print::flush(all, text);
 }

@@ -1,14 +1,16 @@
 // The command line: which run, and with what.
 ghost use mathlib.Core.Path.{_≡_};
 ghost use lib.ListN.{length};
-use crate::number::Number;
 use crate::word;
 use crate::word::Word;
 use crate::wrong::Expected;
+use console::number::Number;
+use console::word::is;
 
-// A budget, a jump and `show` are given once at most.
+// A budget, a jump, `trace` and `show` are given once at most.
 pub struct Asked {
     pub hardened: bool,
+    pub trace: bool,
     pub show: bool,
     pub budgeted: bool,
     pub struck: bool,
@@ -24,7 +26,6 @@ pub struct Fault {
 }
 
 pub enum Given {
-    Missing,
     Wrong(Fault),
     Right(Asked),
 }
@@ -39,17 +40,14 @@ pub enum Taken {
 pub fn read(buffer: &mut [u8], variables: &mut [u16; 16]) -> Given
     requires { ⌜ 4096 ≡ length (now buffer) ⌝ }
 {
-    if os::arg_count() < 2 {
-        return Given::Missing;
-    }
     let n = os::arg(1, buffer);
     if is_long() {
         return wrong(Expected::Shorter, 4096);
     }
-    if word::is(&buffer[..n], b"source") {
+    if is(&buffer[..n], b"source") {
         return read_rest(begun(false), buffer, variables);
     }
-    if word::is(&buffer[..n], b"hardened") {
+    if is(&buffer[..n], b"hardened") {
         return read_rest(begun(true), buffer, variables);
     }
     wrong(Expected::Run, n)
@@ -90,6 +88,7 @@ fn wrong(expected: Expected, length: usize) -> Given {
 fn begun(hardened: bool) -> Asked {
     Asked {
         hardened,
+        trace: false,
         show: false,
         budgeted: false,
         struck: false,
@@ -104,6 +103,7 @@ fn take(w: Word, a: Asked, variables: &mut [u16; 16], seen: &mut [u8; 16]) -> Ta
         Word::Budget(x) => take_budget(x, a),
         Word::Variable(k, v) => take_variable(k, v, a, variables, seen),
         Word::Jump(k, p) => take_jump(k, p, a),
+        Word::Trace => take_trace(a),
         Word::Show => take_show(a),
         Word::Wrong(e) => Taken::Wrong(fitting(e, a.hardened)),
     }
@@ -131,15 +131,10 @@ fn take_budget(x: u16, a: Asked) -> Taken {
     if a.budgeted {
         return Taken::Wrong(Expected::OneBudget);
     }
-    Taken::Right(Asked {
-        hardened: a.hardened,
-        show: a.show,
-        budgeted: true,
-        struck: a.struck,
-        budget: x,
-        step: a.step,
-        place: a.place,
-    })
+    let mut b = a;
+    b.budgeted = true;
+    b.budget = x;
+    Taken::Right(b)
 }
 
 fn take_jump(step: u16, place: u16, a: Asked) -> Taken {
@@ -149,30 +144,29 @@ fn take_jump(step: u16, place: u16, a: Asked) -> Taken {
     if a.struck {
         return Taken::Wrong(Expected::OneJump);
     }
-    Taken::Right(Asked {
-        hardened: a.hardened,
-        show: a.show,
-        budgeted: a.budgeted,
-        struck: true,
-        budget: a.budget,
-        step,
-        place,
-    })
+    let mut b = a;
+    b.struck = true;
+    b.step = step;
+    b.place = place;
+    Taken::Right(b)
+}
+
+fn take_trace(a: Asked) -> Taken {
+    if a.trace {
+        return Taken::Wrong(Expected::OneTrace);
+    }
+    let mut b = a;
+    b.trace = true;
+    Taken::Right(b)
 }
 
 fn take_show(a: Asked) -> Taken {
     if a.show {
         return Taken::Wrong(Expected::OneShow);
     }
-    Taken::Right(Asked {
-        hardened: a.hardened,
-        show: true,
-        budgeted: a.budgeted,
-        struck: a.struck,
-        budget: a.budget,
-        step: a.step,
-        place: a.place,
-    })
+    let mut b = a;
+    b.show = true;
+    Taken::Right(b)
 }
 
 // `seen` has a 1 for each variable that was given.

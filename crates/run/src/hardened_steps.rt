@@ -10,8 +10,8 @@ ghost use Rattle.machine.specs.Step.{mapOf};
 ghost use Rattle.machine.specs.Run.{partsIn, stoppedWith, runOf};
 ghost use Rattle.machine.specs.Stands.{Ready, Going};
 ghost use Rattle.machine.specs.Struck.{landOf, struckOf};
+use crate::limit;
 use crate::line;
-use crate::print;
 use machine::machine::Machine;
 use machine::machine::Stopped;
 use machine::machine::begun;
@@ -30,6 +30,7 @@ fn walk(
     budget: u16,
     counters: &mut [u16],
     trace: &mut [u16],
+    at: &mut usize,
     text: &mut [u8; 65536],
 ) -> Stopped
     requires { ⌜ (Ready (now lines) (mapOf (now starts) (now owners) home)) × (Going (linesIn (now lines)) budget (partsIn start (now counters) (now trace))) ⌝ }
@@ -37,20 +38,17 @@ fn walk(
 {
     let mut m = start;
     let mut left = budget;
-    let mut at = 0;
     while 0 < left {
         let h = m.hot;
-        at = line::list(lines, starts, h, counters, at, text);
+        *at = line::list(lines, starts, h, counters, *at, text);
         let x = run::step(lines, starts, owners, home, m, counters, trace);
         let s = x.step;
         let Step::Went(_) = s else {
-            print::flush(at, text);
             return x;
         };
         m = x.machine;
         left -= 1;
     }
-    print::flush(at, text);
     let h = m.hot;
     Stopped {
         step: Step::Went(h.place),
@@ -69,14 +67,13 @@ fn land_and_walk(
     place: u16,
     counters: &mut [u16],
     trace: &mut [u16],
+    at: &mut usize,
     text: &mut [u8; 65536],
 ) -> Stopped
     requires { ⌜ (Ready (now lines) (mapOf (now starts) (now owners) home)) × (Going (linesIn (now lines)) left (partsIn struck (now counters) (now trace))) ⌝ }
     ensures { λ r. ⌜ stoppedWith r (now (counters .exit)) (now (trace .exit)) ≡ landOf (now (lines .entry)) (mapOf (now (starts .entry)) (now (owners .entry)) home) left place (partsIn struck (now (counters .entry)) (now (trace .entry))) ⌝ }
 {
-    io::write_all(1, b"jump to place ");
-    io::print_decimal(1, place as u64);
-    io::write_all(1, b"\n");
+    *at = line::list_jump(place, *at, text);
     let x = land(
         lines,
         starts,
@@ -101,6 +98,7 @@ fn land_and_walk(
         left,
         counters,
         trace,
+        at,
         text,
     )
 }
@@ -117,6 +115,7 @@ fn walk_struck(
     place: u16,
     counters: &mut [u16],
     trace: &mut [u16],
+    at: &mut usize,
     text: &mut [u8; 65536],
 ) -> Stopped
     requires { ⌜ (Ready (now lines) (mapOf (now starts) (now owners) home)) × (Going (linesIn (now lines)) budget (partsIn start (now counters) (now trace))) × (step < budget) ⌝ }
@@ -131,6 +130,7 @@ fn walk_struck(
         step,
         counters,
         trace,
+        at,
         text,
     );
     let s = x.step;
@@ -148,6 +148,7 @@ fn walk_struck(
         place,
         counters,
         trace,
+        at,
         text,
     )
 }
@@ -163,6 +164,7 @@ fn strike(
     place: u16,
     counters: &mut [u16],
     trace: &mut [u16],
+    at: &mut usize,
     text: &mut [u8; 65536],
 ) -> Stopped
     requires { ⌜ (Ready (now lines) (mapOf (now starts) (now owners) home)) × (Going (linesIn (now lines)) budget (partsIn start (now counters) (now trace))) ⌝ }
@@ -178,6 +180,7 @@ fn strike(
             budget,
             counters,
             trace,
+            at,
             text,
         );
     }
@@ -192,6 +195,7 @@ fn strike(
         place,
         counters,
         trace,
+        at,
         text,
     )
 }
@@ -202,7 +206,7 @@ fn no_counters() -> [u16; 1024]
     [0; 1024]
 }
 
-// The steps of a hardened table's run. What it leaves in the trace is not looked at afterwards.
+// The steps of a hardened table's run, and how many bytes the buffer then holds. What it leaves in the trace is not looked at afterwards.
 fn list_accepted(
     lines: &[u8],
     variables: [u16; 16],
@@ -211,7 +215,7 @@ fn list_accepted(
     place: u16,
     trace: &mut [u16],
     text: &mut [u8; 65536],
-)
+) -> usize
     requires { ⌜ isHardened (now lines) ≡ true ⌝ }
     requires { ⌜ budget ≤ length (now trace) ⌝ }
 {
@@ -221,7 +225,8 @@ fn list_accepted(
     map::survey(lines, &mut starts, &mut owners);
     let home = map::home_of(lines, &starts, &owners);
     words::fresh(&mut counters, 0, 1);
-    strike(
+    let mut at = 0;
+    let x = strike(
         lines,
         &starts,
         &owners,
@@ -232,8 +237,11 @@ fn list_accepted(
         place,
         &mut counters,
         trace,
+        &mut at,
         text,
     );
+    let s = x.step;
+    limit::list(s, at, text)
 }
 
 // Nothing is listed where the lines are no hardened table.
@@ -245,10 +253,11 @@ pub fn list(
     place: u16,
     trace: &mut [u16],
     text: &mut [u8; 65536],
-)
+) -> usize
     requires { ⌜ budget ≤ length (now trace) ⌝ }
 {
     if reader::is_hardened(lines) {
-        list_accepted(lines, variables, budget, step, place, trace, text);
+        return list_accepted(lines, variables, budget, step, place, trace, text);
     }
+    0
 }

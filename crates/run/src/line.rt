@@ -1,9 +1,9 @@
 // A step of a hardened run as `show` lists it before it is made: the running function, its place, the kind of the line there, and
 // what each counter holds that the step looks at.
-ghost use Prim.Native.Nat.{_≤_, _<_};
+ghost use Prim.Native.Nat.{_<_};
 ghost use Rattle.machine.specs.Ready.{Room, LineHere};
 ghost use Rattle.run.specs.Listed.{Placed};
-use crate::print;
+use console::print;
 use machine::fields;
 use machine::fields::Fields;
 use machine::fields::LineKind;
@@ -12,8 +12,7 @@ use machine::words;
 
 // ` counter R holds V`
 fn counter(r: u8, depth: u16, counters: &[u16], at: usize, text: &mut [u8; 65536]) -> usize
-    requires { ⌜ (r < 64) × (Room depth (now counters)) × (at ≤ 65536) ⌝ }
-    ensures { λ n. ⌜ n ≤ 65536 ⌝ }
+    requires { ⌜ (r < 64) × (Room depth (now counters)) ⌝ }
 {
     let i = words::index(depth, r);
     let v = counters[i];
@@ -23,8 +22,7 @@ fn counter(r: u8, depth: u16, counters: &[u16], at: usize, text: &mut [u8; 65536
 
 // A line that looks at one counter.
 fn one(word: &[u8], r: u8, depth: u16, counters: &[u16], at: usize, text: &mut [u8; 65536]) -> usize
-    requires { ⌜ (r < 64) × (Room depth (now counters)) × (at ≤ 65536) ⌝ }
-    ensures { λ n. ⌜ n ≤ 65536 ⌝ }
+    requires { ⌜ (r < 64) × (Room depth (now counters)) ⌝ }
 {
     let named = print::word(word, at, text);
     let held = counter(r, depth, counters, named, text);
@@ -33,8 +31,7 @@ fn one(word: &[u8], r: u8, depth: u16, counters: &[u16], at: usize, text: &mut [
 
 // A leave looks at two.
 fn leave(l: Fields, depth: u16, counters: &[u16], at: usize, text: &mut [u8; 65536]) -> usize
-    requires { ⌜ (l .r < 64) × (l .s < 64) × (Room depth (now counters)) × (at ≤ 65536) ⌝ }
-    ensures { λ n. ⌜ n ≤ 65536 ⌝ }
+    requires { ⌜ (l .r < 64) × (l .s < 64) × (Room depth (now counters)) ⌝ }
 {
     let named = print::word(b" leave", at, text);
     let child = counter(l.r, depth, counters, named, text);
@@ -44,8 +41,7 @@ fn leave(l: Fields, depth: u16, counters: &[u16], at: usize, text: &mut [u8; 655
 
 // A back looks also at where the function that returned last ended.
 fn back(l: Fields, h: Hot, counters: &[u16], at: usize, text: &mut [u8; 65536]) -> usize
-    requires { ⌜ (l .r < 64) × (Room (h .depth) (now counters)) × (at ≤ 65536) ⌝ }
-    ensures { λ n. ⌜ n ≤ 65536 ⌝ }
+    requires { ⌜ (l .r < 64) × (Room (h .depth) (now counters)) ⌝ }
 {
     let named = print::word(b" back", at, text);
     let held = counter(l.r, h.depth, counters, named, text);
@@ -55,8 +51,7 @@ fn back(l: Fields, h: Hot, counters: &[u16], at: usize, text: &mut [u8; 65536]) 
 
 // The return from place m: the host looks at region 0's counter of a function 0 that is the only open one.
 fn end(h: Hot, counters: &[u16], at: usize, text: &mut [u8; 65536]) -> usize
-    requires { ⌜ (Room (h .depth) (now counters)) × (at ≤ 65536) ⌝ }
-    ensures { λ n. ⌜ n ≤ 65536 ⌝ }
+    requires { ⌜ Room (h .depth) (now counters) ⌝ }
 {
     if 0 < h.depth {
         return print::word(b" end\n", at, text);
@@ -66,8 +61,7 @@ fn end(h: Hot, counters: &[u16], at: usize, text: &mut [u8; 65536]) -> usize
 
 // A ret looks at region 0's.
 fn line(lines: &[u8], h: Hot, counters: &[u16], at: usize, text: &mut [u8; 65536]) -> usize
-    requires { ⌜ (LineHere (now lines) (h .place)) × (Room (h .depth) (now counters)) × (at ≤ 65536) ⌝ }
-    ensures { λ n. ⌜ n ≤ 65536 ⌝ }
+    requires { ⌜ (LineHere (now lines) (h .place)) × (Room (h .depth) (now counters)) ⌝ }
 {
     let d = h.depth;
     let kind = fields::kind_at(lines, h.place);
@@ -92,8 +86,7 @@ pub fn list(
     at: usize,
     text: &mut [u8; 65536],
 ) -> usize
-    requires { ⌜ (Placed (now lines) (now starts) h (now counters)) × (at ≤ 65536) ⌝ }
-    ensures { λ n. ⌜ n ≤ 65536 ⌝ }
+    requires { ⌜ Placed (now lines) (now starts) h (now counters) ⌝ }
 {
     let f = h.function as usize;
     let first = starts[f];
@@ -105,4 +98,10 @@ pub fn list(
         return end(h, counters, place, text);
     }
     line(lines, h, counters, place, text)
+}
+
+// The jump, before its step.
+pub fn list_jump(place: u16, at: usize, text: &mut [u8; 65536]) -> usize {
+    let named = print::named(b"jump to place ", place, at, text);
+    print::put(b'\n', named, text)
 }

@@ -1,20 +1,20 @@
 // Runs a table at the bench:
 //
-//     run source [budget=N] [v0=N .. v15=N] [show] < rows
-//     run hardened [budget=N] [v0=N .. v15=N] [jump=STEP:PLACE] [show] < lines
+//     run source [budget=N] [v0=N .. v15=N] [trace] [show] < rows
+//     run hardened [budget=N] [v0=N .. v15=N] [jump=STEP:PLACE] [trace] [show] < lines
 //
 // It prints outcome, steps, trace and variables, each on a line of its own, and with `show` each step before them; or `refused N`, or
 // `unreadable`, as the programs harden and readback do. A missing budget is 65,535, a missing variable 0. A wrong word is answered by
 // a line on standard error, and nothing is run. The input is read to its end in constant memory before anything is printed.
+// docs/PROGRAMS.md has every word of it.
 ghost use mathlib.Core.Path.{_≡_};
 ghost use lib.ListN.{length};
 
 mod answer;
 mod arguments;
 mod hardened_steps;
+mod limit;
 mod line;
-mod number;
-mod print;
 mod row;
 mod source_steps;
 mod word;
@@ -25,6 +25,7 @@ use arguments::Given;
 use console::input;
 use console::input::Read;
 use console::output;
+use console::start;
 
 // Slots for the longest trace.
 fn slots() -> [u16; 65535] {
@@ -32,10 +33,23 @@ fn slots() -> [u16; 65535] {
 }
 
 fn main() {
+    if os::arg_count() < 2 || start::asks_help() {
+        start::tell(
+            b"usage: run source [budget=N] [v0=N .. v15=N] [trace] [show] < rows
+       run hardened [budget=N] [v0=N .. v15=N] [jump=STEP:PLACE] [trace] [show] < lines
+N, STEP and PLACE are 0 to 65535. Without budget= it is 65535, without v0= to v15= they are 0, without jump= there is no jump.
+trace lists a trace of more than 20 rows, show lists each step.
+",
+        );
+        return;
+    }
+    take_words();
+}
+
+fn take_words() {
     let mut buffer = io::buffer();
     let mut variables = [0u16; 16];
     match arguments::read(&mut buffer, &mut variables) {
-        Given::Missing => wrong::missing(),
         Given::Wrong(f) => {
             let expected = f.expected;
             let n = output::within(f.length, &buffer);
@@ -43,8 +57,16 @@ fn main() {
         }
         Given::Right(a) => {
             let mut bytes = io::large_buffer();
+            tell_no_jump(a);
             run(a, variables, &mut buffer, &mut bytes);
         }
+    }
+}
+
+// No budget holds step 65,535, so that a jump before it is none.
+fn tell_no_jump(a: Asked) {
+    if a.struck && a.step == 65535 {
+        io::write_all(2, b"step 65535 is no jump: no budget holds it\n");
     }
 }
 
@@ -59,7 +81,7 @@ fn run(a: Asked, variables: [u16; 16], chunk: &mut [u8], bytes: &mut [u8])
                 let all = output::within(n, bytes);
                 hardened_run(a, &bytes[..all], variables, &mut trace, &mut text);
             }
-            Read::Unreadable => output::unreadable(),
+            Read::Nothing => {}
         }
         return;
     }
@@ -68,7 +90,7 @@ fn run(a: Asked, variables: [u16; 16], chunk: &mut [u8], bytes: &mut [u8])
             let all = output::within(n, bytes);
             source_run(a, &bytes[..all], variables, &mut trace, &mut text);
         }
-        Read::Unreadable => output::unreadable(),
+        Read::Nothing => {}
     }
 }
 
@@ -79,11 +101,12 @@ fn source_run(
     trace: &mut [u16; 65535],
     text: &mut [u8; 65536],
 ) {
+    let mut at = 0;
     if a.show {
-        source_steps::list(rows, variables, a.budget, trace, text);
+        at = source_steps::list(rows, variables, a.budget, trace, text);
     }
     let r = finuraho::run_source(rows, variables, a.budget, trace);
-    answer::tell(r, trace, text);
+    answer::tell(r, a.trace, trace, at, text);
 }
 
 fn hardened_run(
@@ -93,8 +116,9 @@ fn hardened_run(
     trace: &mut [u16; 65535],
     text: &mut [u8; 65536],
 ) {
+    let mut at = 0;
     if a.show {
-        hardened_steps::list(lines, variables, a.budget, a.step, a.place, trace, text);
+        at = hardened_steps::list(lines, variables, a.budget, a.step, a.place, trace, text);
     }
     let mut counters = [0u16; 1024];
     let r = finuraho::run_hardened(
@@ -106,5 +130,5 @@ fn hardened_run(
         trace,
         &mut counters,
     );
-    answer::tell(r, trace, text);
+    answer::tell(r, a.trace, trace, at, text);
 }

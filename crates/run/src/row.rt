@@ -1,15 +1,11 @@
 // A step of a source run as `show` lists it before it is made: the running function, the row, and the row's kind.
-ghost use Prim.Native.Nat.{_≤_};
 ghost use Rattle.layout.specs.Spot.{Inside};
-use crate::print;
+use console::print;
 use layout::row;
 use machine::machine::Hot;
 use rules::kind::Kind;
 
-fn word(kind: Kind, at: usize, text: &mut [u8; 65536]) -> usize
-    requires { ⌜ at ≤ 65536 ⌝ }
-    ensures { λ n. ⌜ n ≤ 65536 ⌝ }
-{
+fn word(kind: Kind, at: usize, text: &mut [u8; 65536]) -> usize {
     match kind {
         Kind::Function => print::word(b" function\n", at, text),
         Kind::Do => print::word(b" do\n", at, text),
@@ -25,8 +21,7 @@ fn word(kind: Kind, at: usize, text: &mut [u8; 65536]) -> usize
 }
 
 pub fn list(rows: &[u8], h: Hot, at: usize, text: &mut [u8; 65536]) -> usize
-    requires { ⌜ (Inside (now rows) (h .place)) × (at ≤ 65536) ⌝ }
-    ensures { λ n. ⌜ n ≤ 65536 ⌝ }
+    requires { ⌜ Inside (now rows) (h .place) ⌝ }
 {
     let kind = row::kind(rows, row::index(h.place));
     let step = print::named(b"step ", h.steps, at, text);

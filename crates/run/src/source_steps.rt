@@ -8,7 +8,7 @@ ghost use Rattle.rules.specs.Check.{verdictOf};
 ghost use Rattle.rules.specs.Links.{Links};
 ghost use Rattle.source.specs.Goes.{Known};
 ghost use Rattle.source.specs.Run.{partsIn, stoppedWith, Going, answerOf, runFrom};
-use crate::print;
+use crate::limit;
 use crate::row;
 use machine::machine::Machine;
 use machine::machine::Stopped;
@@ -23,6 +23,7 @@ fn walk(
     start: Machine,
     budget: u16,
     trace: &mut [u16],
+    at: &mut usize,
     text: &mut [u8; 65536],
 ) -> Stopped
     requires { ⌜ (Known (now rows) (now goes)) × (Going (now rows) budget (partsIn start (now trace))) ⌝ }
@@ -30,20 +31,17 @@ fn walk(
 {
     let mut m = start;
     let mut left = budget;
-    let mut at = 0;
     while 0 < left {
         let h = m.hot;
-        at = row::list(rows, h, at, text);
+        *at = row::list(rows, h, *at, text);
         let x = run::step(rows, goes, m, trace);
         let s = x.step;
         let Step::Went(_) = s else {
-            print::flush(at, text);
             return x;
         };
         m = x.machine;
         left -= 1;
     }
-    print::flush(at, text);
     let h = m.hot;
     Stopped {
         step: Step::Went(h.place),
@@ -51,7 +49,7 @@ fn walk(
     }
 }
 
-// The steps of an accepted table's run.
+// The steps of an accepted table's run, and how many bytes the buffer then holds.
 fn list_accepted(
     rows: &[u8],
     ends: &[u16; 1024],
@@ -61,14 +59,25 @@ fn list_accepted(
     budget: u16,
     trace: &mut [u16],
     text: &mut [u8; 65536],
-)
+) -> usize
     requires { ⌜ verdictOf (now rows) ≡ Accepted ⌝ }
     requires { ⌜ Links (tableOf (now rows)) (now ends) (now elses) (now heads) ⌝ }
     requires { ⌜ budget ≤ length (now trace) ⌝ }
 {
     let mut goes = [0u16; 1024];
     goes::find(rows, ends, elses, heads, &mut goes);
-    walk(rows, &goes, source::start(variables), budget, trace, text);
+    let mut at = 0;
+    let x = walk(
+        rows,
+        &goes,
+        source::start(variables),
+        budget,
+        trace,
+        &mut at,
+        text,
+    );
+    let s = x.step;
+    limit::list(s, at, text)
 }
 
 // Nothing is listed where the table is refused.
@@ -78,14 +87,14 @@ pub fn list(
     budget: u16,
     trace: &mut [u16],
     text: &mut [u8; 65536],
-)
+) -> usize
     requires { ⌜ budget ≤ length (now trace) ⌝ }
 {
     let mut ends = [0u16; 1024];
     let mut elses = [0u16; 1024];
     let mut heads = [0u16; 32];
     match table::check::check(rows, &mut ends, &mut elses, &mut heads) {
-        Verdict::Refused(_) => {}
+        Verdict::Refused(_) => 0,
         Verdict::Accepted => {
             list_accepted(rows, &ends, &elses, &heads, variables, budget, trace, text)
         }

@@ -1,57 +1,25 @@
 // What one word behind the first says.
-ghost use Rattle.io.specs.Counts.{Counts};
-use crate::number::Number;
-use crate::number::decimal;
 use crate::wrong::Expected;
+use console::number::Number;
+use console::number::decimal;
+use console::word::find;
+use console::word::is;
+use console::word::skip;
 
 pub enum Word {
     Budget(u16),
     // a variable's number, which may be too large, and its value
     Variable(u16, Number),
     Jump(u16, u16),
+    Trace,
     Show,
     Wrong(Expected),
 }
 
-// How many bytes the name has, where the word begins with it; else 0.
-fn skip(word: &[u8], name: &[u8]) -> usize
-    ensures { λ r. ⌜ Counts r (now (word .entry)) ⌝ }
-{
-    if word.len() < name.len() {
-        return 0;
-    }
-    let mut i = 0;
-    while i < name.len() {
-        if word[i] != name[i] {
-            return 0;
-        }
-        i += 1;
-    }
-    i
-}
-
-pub fn is(word: &[u8], name: &[u8]) -> bool {
-    if word.len() != name.len() {
-        return false;
-    }
-    skip(word, name) == word.len()
-}
-
-// Where the first such byte stands; the length where there is none.
-fn find(b: u8, text: &[u8]) -> usize
-    ensures { λ r. ⌜ Counts r (now (text .entry)) ⌝ }
-{
-    let mut i = 0;
-    while i < text.len() {
-        if text[i] == b {
-            return i;
-        }
-        i += 1;
-    }
-    i
-}
-
 pub fn read(word: &[u8]) -> Word {
+    if is(word, b"trace") {
+        return Word::Trace;
+    }
     if is(word, b"show") {
         return Word::Show;
     }

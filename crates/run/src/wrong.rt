@@ -16,17 +16,10 @@ pub enum Expected {
     OneBudget,
     OneVariable(u16),
     OneJump,
+    OneTrace,
     OneShow,
     // so many bytes at most
     Shorter,
-}
-
-// There is no first word. This is the whole usage.
-pub fn missing() {
-    io::write_all(
-        2,
-        b"missing word: expected source or hardened, then any of budget=0..65535 (65535 if missing), v0..v15=0..65535 (0 if missing), show and, for hardened, jump=STEP:PLACE (none if missing)\n",
-    );
 }
 
 pub fn say(word: &mut [u8], expected: Expected) {
@@ -57,9 +50,9 @@ fn shown(b: u8) -> u8 {
 fn expect(expected: Expected) {
     match expected {
         Expected::Run => say_word(b"source or hardened"),
-        Expected::Any => say_word(b"budget=0..65535, v0..v15=0..65535 or show"),
+        Expected::Any => say_word(b"budget=0..65535, v0..v15=0..65535, trace or show"),
         Expected::AnyOrJump => {
-            say_word(b"budget=0..65535, v0..v15=0..65535, jump=STEP:PLACE or show")
+            say_word(b"budget=0..65535, v0..v15=0..65535, jump=STEP:PLACE, trace or show")
         }
         Expected::Budget => say_word(b"budget=0..65535"),
         Expected::Variable(k) => variable(k, b"=0..65535"),
@@ -68,6 +61,7 @@ fn expect(expected: Expected) {
         Expected::OneBudget => say_word(b"budget only once"),
         Expected::OneVariable(k) => variable(k, b" only once"),
         Expected::OneJump => say_word(b"jump only once"),
+        Expected::OneTrace => say_word(b"trace only once"),
         Expected::OneShow => say_word(b"show only once"),
         Expected::Shorter => say_word(b"at most 4096 bytes"),
     }

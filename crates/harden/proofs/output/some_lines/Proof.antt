@@ -10,24 +10,14 @@ use Rattle.harden.proofs.output.some_lines.Statement.{statement}
 use Rattle.harden.proofs.output.some_lines.Tie as tie
 use Rattle.harden.proofs.output.some_lines.Reads as reads
 use Rattle.harden.proofs.output.some_lines.Lts as lts
-use Rattle.console.proofs.output.within.Reads as within-reads
-use Rattle.io.proofs.write_all.Reads as write-all-reads
+use Rattle.console.proofs.output.answer_front.Reads as answer-front-reads
 use Rattle.text.proofs.write.listing.Reads as listing-reads
 
 listing-requires : tie.Need-listing-requires
 listing-requires c κs = record { count = length (now (c .before .before .before .args .lines)) / 20; some-width = omega arith; narrow = omega arith; few = omega arith; whole = omega arith; room = omega arith }
 
-within-requires : tie.Need-within-requires
-within-requires c κs = search needs
-
-slice-reshare-prefix-write-all : tie.Need-slice-reshare-prefix-write-all
-slice-reshare-prefix-write-all c = search needs
-
-slice-aggregate-write-all : tie.Need-slice-aggregate-write-all
-slice-aggregate-write-all c = search needs
-
-write-all-requires : tie.Need-write-all-requires
-write-all-requires c κs = search needs
+answer-front-requires : tie.Need-answer-front-requires
+answer-front-requires c κs = search needs
 
 same-length : tie.Need-same-length
 same-length c = search needs
@@ -40,9 +30,6 @@ some-lines-spec =
     tie.close
     (tie.spec
     listing-requires
-    within-requires
-    slice-reshare-prefix-write-all
-    slice-aggregate-write-all
-    write-all-requires
+    answer-front-requires
     same-length
     returns)

@@ -6,7 +6,6 @@ use Rattle.readback.proofs.output.answer.Statement.{statement}
 use Rattle.readback.proofs.output.answer.Tie as tie
 use Rattle.readback.proofs.output.answer.Reads as reads
 use Rattle.readback.proofs.output.answer.Lts as lts
-use Rattle.console.proofs.output.unreadable.Reads as unreadable-reads
 use Rattle.console.proofs.output.within.Reads as within-reads
 use Rattle.readback.proofs.output.read_back.Reads as read-back-reads
 
@@ -31,9 +30,6 @@ read-back-requires c κs = (sym (length-take-le 6144 (c .before .before .before 
 enum-told : tie.Need-enum-told
 enum-told c = search needs
 
-unreadable-requires : tie.Need-unreadable-requires
-unreadable-requires c κs = search needs
-
 same-length : tie.Need-same-length
 same-length c = search needs
 
@@ -57,7 +53,6 @@ answer-spec =
     slice-aggregate-read-back-2
     read-back-requires
     enum-told
-    unreadable-requires
     same-length
     same-length-2
     returns

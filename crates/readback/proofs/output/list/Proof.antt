@@ -8,8 +8,7 @@ use Rattle.readback.proofs.output.list.Statement.{statement}
 use Rattle.readback.proofs.output.list.Tie as tie
 use Rattle.readback.proofs.output.list.Reads as reads
 use Rattle.readback.proofs.output.list.Lts as lts
-use Rattle.console.proofs.output.within.Reads as within-reads
-use Rattle.io.proofs.write_all.Reads as write-all-reads
+use Rattle.console.proofs.output.answer_front.Reads as answer-front-reads
 use Rattle.text.proofs.write.listing.Reads as listing-reads
 
 mul-to : tie.Need-mul-to
@@ -21,17 +20,8 @@ slice-aggregate-listing c = sym (length-take-le _ _ (omega arith))
 listing-requires : tie.Need-listing-requires
 listing-requires c κs = record { count = c .before .before .before .before .args .count; some-width = omega arith; narrow = omega arith; few = omega (arith, length-take-le (6 * c .before .before .before .before .args .count) (now (c .before .before .before .before .args .rows)) (omega arith)); whole = length-take-le (6 * c .before .before .before .before .args .count) (now (c .before .before .before .before .args .rows)) (omega arith); room = omega (arith, length-take-le (6 * c .before .before .before .before .args .count) (now (c .before .before .before .before .args .rows)) (omega arith)) }
 
-within-requires : tie.Need-within-requires
-within-requires c κs = search needs
-
-slice-reshare-prefix-write-all : tie.Need-slice-reshare-prefix-write-all
-slice-reshare-prefix-write-all c = search needs
-
-slice-aggregate-write-all : tie.Need-slice-aggregate-write-all
-slice-aggregate-write-all c = sym (length-take-le _ _ (omega arith))
-
-write-all-requires : tie.Need-write-all-requires
-write-all-requires c κs = search needs
+answer-front-requires : tie.Need-answer-front-requires
+answer-front-requires c κs = search needs
 
 same-length : tie.Need-same-length
 same-length c = search needs
@@ -46,9 +36,6 @@ list-spec =
     mul-to
     slice-aggregate-listing
     listing-requires
-    within-requires
-    slice-reshare-prefix-write-all
-    slice-aggregate-write-all
-    write-all-requires
+    answer-front-requires
     same-length
     returns)

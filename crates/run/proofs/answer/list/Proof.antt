@@ -6,17 +6,18 @@ use Rattle.run.proofs.answer.list.Statement.{statement}
 use Rattle.run.proofs.answer.list.Tie as tie
 use Rattle.run.proofs.answer.list.Reads as reads
 use Rattle.run.proofs.answer.list.Lts as lts
-use Rattle.run.proofs.print.named.Reads as named-reads
-use Rattle.run.proofs.print.put.Reads as put-reads
 
 abbrev Inv-loop : tie.InvT-loop
-Inv-loop words at text₀ next₀ i₀ t6 text next i = (i ≤ length words) × (next ≤ 65536)
+Inv-loop words at text₀ next₀ i₀ t6 text next i = i ≤ length words
 
 abbrev μ-loop : tie.MeasureT-loop
 μ-loop words at text₀ next₀ i₀ t6 text next i = length words - i
 
 loop-holds : tie.Need-loop-holds Inv-loop μ-loop
 loop-holds c = search needs
+
+begin-line-requires : tie.Need-begin-line-requires Inv-loop μ-loop
+begin-line-requires c κs = search needs
 
 slice-aggregate-named : tie.Need-slice-aggregate-named Inv-loop μ-loop
 slice-aggregate-named c = search needs
@@ -52,6 +53,7 @@ list-spec =
     Inv-loop
     μ-loop
     loop-holds
+    begin-line-requires
     slice-aggregate-named
     mul-named
     shared-slice-read-named

@@ -8,28 +8,14 @@ use Rattle.run.proofs.hardened_steps.land_and_walk.Statement.{statement
 use Rattle.run.proofs.hardened_steps.land_and_walk.Tie as tie
 use Rattle.run.proofs.hardened_steps.land_and_walk.Reads as reads
 use Rattle.run.proofs.hardened_steps.land_and_walk.Lts as lts
-use Rattle.io.proofs.print_decimal.Reads as print-decimal-reads
-use Rattle.io.proofs.write_all.Reads as write-all-reads
 use Rattle.machine.proofs.strike.land.Reads as land-reads
 use Rattle.run.proofs.hardened_steps.walk.Reads as walk-reads
 
-slice-aggregate-write-all : tie.Need-slice-aggregate-write-all
-slice-aggregate-write-all c = search needs
-
-write-all-requires : tie.Need-write-all-requires
-write-all-requires c κs = search needs
-
-print-decimal-requires : tie.Need-print-decimal-requires
-print-decimal-requires c κs = search needs
-
-slice-aggregate-write-all-2 : tie.Need-slice-aggregate-write-all-2
-slice-aggregate-write-all-2 c = search needs
-
-write-all-requires-2 : tie.Need-write-all-requires-2
-write-all-requires-2 c κs = search needs
+list-jump-requires : tie.Need-list-jump-requires
+list-jump-requires c κs = search needs
 
 land-requires : tie.Need-land-requires
-land-requires c κs = (c .before .before .before .before .before .before .before .before .before .before .pre .0, going-fewer _ _ 0 _ (c .before .before .before .before .before .before .before .before .before .before .pre .1) (omega arith))
+land-requires c κs = (c .before .before .before .before .before .before .before .before .pre .0, going-fewer _ _ 0 _ (c .before .before .before .before .before .before .before .before .pre .1) (omega arith))
 
 enum-told : tie.Need-enum-told
 enum-told c = search needs
@@ -44,7 +30,7 @@ returns : tie.Need-returns
 returns c = sym (lands-over _ _ _ _ _ _ (c .before .before .before .before .before .land .ensures) (not-went _ (c .match .keys2)))
 
 walk-requires : tie.Need-walk-requires
-walk-requires c κs = (c .before .before .before .before .before .before .before .before .before .before .before .before .before .before .before .before .before .before .before .before .pre .0, going-landed _ _ _ _ _ _ (c .before .before .before .before .before .before .before .before .before .land .ensures) (c .before .before .before .before .before .before .before .before .before .before .before .before .before .before .before .before .before .before .before .before .pre .0) (c .before .before .before .before .before .before .before .before .before .before .before .before .before .before .before .before .before .before .before .before .pre .1) _ (c .before .before .before .enum-told .given .1))
+walk-requires c κs = (c .before .before .before .before .before .before .before .before .before .before .before .before .before .before .before .before .before .before .before .pre .0, going-landed _ _ _ _ _ _ (c .before .before .before .before .before .before .before .before .before .before .land .ensures) (c .before .before .before .before .before .before .before .before .before .before .before .before .before .before .before .before .before .before .before .pre .0) (c .before .before .before .before .before .before .before .before .before .before .before .before .before .before .before .before .before .before .before .pre .1) _ (c .before .before .before .before .enum-told .given .1))
 
 same-length-3 : tie.Need-same-length-3
 same-length-3 c = search needs
@@ -53,17 +39,13 @@ same-length-4 : tie.Need-same-length-4
 same-length-4 c = search needs
 
 returns-2 : tie.Need-returns-2
-returns-2 c = c .before .before .before .before .walk .ensures ∙ sym (lands-rest _ _ _ _ _ _ (c .before .before .before .before .before .before .before .before .before .before .before .before .before .before .land .ensures) _ (c .before .before .before .before .before .before .before .before .enum-told .given .1))
+returns-2 c = c .before .before .before .before .walk .ensures ∙ sym (lands-rest _ _ _ _ _ _ (c .before .before .before .before .before .before .before .before .before .before .before .before .before .before .before .land .ensures) _ (c .before .before .before .before .before .before .before .before .before .enum-told .given .1))
 
 pub land-and-walk-spec : {M : Type 1} → statement M
 land-and-walk-spec =
     tie.close
     (tie.spec
-    slice-aggregate-write-all
-    write-all-requires
-    print-decimal-requires
-    slice-aggregate-write-all-2
-    write-all-requires-2
+    list-jump-requires
     land-requires
     enum-told
     same-length

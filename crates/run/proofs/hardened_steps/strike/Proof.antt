@@ -18,7 +18,7 @@ same-length-2 : tie.Need-same-length-2
 same-length-2 c = search needs
 
 returns : tie.Need-returns
-returns c = c .before .before .before .before .walk .ensures ∙ struck-none _ _ _ _ _ _ (c .before .before .before .before .before .before .before .before .if1 .taken)
+returns c = c .before .before .before .before .walk .ensures ∙ struck-none _ _ _ _ _ _ (c .before .before .before .before .before .before .before .before .before .if1 .taken)
 
 walk-struck-requires : tie.Need-walk-struck-requires
 walk-struck-requires c κs = search needs

@@ -10,7 +10,6 @@ use Rattle.machine.proofs.fields.kind_at.Reads as kind-at-reads
 use Rattle.run.proofs.line.back.Reads as back-reads
 use Rattle.run.proofs.line.leave.Reads as leave-reads
 use Rattle.run.proofs.line.one.Reads as one-reads
-use Rattle.run.proofs.print.word.Reads as word-reads
 
 kind-at-requires : tie.Need-kind-at-requires
 kind-at-requires c κs = search needs
@@ -34,7 +33,7 @@ slice-aggregate-one : tie.Need-slice-aggregate-one
 slice-aggregate-one c = search needs
 
 one-requires : tie.Need-one-requires
-one-requires c κs = ((fields-in _ _ (c .before .before .before .before .before .before .before .before .pre .0) Tick _ _ (c .before .before .before .before .before .kind-at .ensures) (c .before .before .enum-told2 .given .1) (c .before .before .before .before .fields-at .ensures)), c .before .before .before .before .before .before .before .before .pre .1, c .before .before .before .before .before .before .before .before .pre .2)
+one-requires c κs = ((fields-in _ _ (c .before .before .before .before .before .before .before .before .pre .0) Tick _ _ (c .before .before .before .before .before .kind-at .ensures) (c .before .before .enum-told2 .given .1) (c .before .before .before .before .fields-at .ensures)), c .before .before .before .before .before .before .before .before .pre .1)
 
 enum-told-3 : tie.Need-enum-told-3
 enum-told-3 c = search needs
@@ -43,13 +42,13 @@ slice-aggregate-one-2 : tie.Need-slice-aggregate-one-2
 slice-aggregate-one-2 c = search needs
 
 one-requires-2 : tie.Need-one-requires-2
-one-requires-2 c κs = ((fields-in _ _ (c .before .before .before .before .before .before .before .before .pre .0) Test _ _ (c .before .before .before .before .before .kind-at .ensures) (c .before .before .enum-told3 .given .1) (c .before .before .before .before .fields-at .ensures)) .1 .r-in, c .before .before .before .before .before .before .before .before .pre .1, c .before .before .before .before .before .before .before .before .pre .2)
+one-requires-2 c κs = ((fields-in _ _ (c .before .before .before .before .before .before .before .before .pre .0) Test _ _ (c .before .before .before .before .before .kind-at .ensures) (c .before .before .enum-told3 .given .1) (c .before .before .before .before .fields-at .ensures)) .1 .r-in, c .before .before .before .before .before .before .before .before .pre .1)
 
 enum-told-4 : tie.Need-enum-told-4
 enum-told-4 c = search needs
 
 leave-requires : tie.Need-leave-requires
-leave-requires c κs = ((fields-in _ _ (c .before .before .before .before .before .before .before .pre .0) Leave _ _ (c .before .before .before .before .kind-at .ensures) (c .before .enum-told4 .given .1) (c .before .before .before .fields-at .ensures)) .r-in, (fields-in _ _ (c .before .before .before .before .before .before .before .pre .0) Leave _ _ (c .before .before .before .before .kind-at .ensures) (c .before .enum-told4 .given .1) (c .before .before .before .fields-at .ensures)) .s-in, c .before .before .before .before .before .before .before .pre .1, c .before .before .before .before .before .before .before .pre .2)
+leave-requires c κs = ((fields-in _ _ (c .before .before .before .before .before .before .before .pre .0) Leave _ _ (c .before .before .before .before .kind-at .ensures) (c .before .enum-told4 .given .1) (c .before .before .before .fields-at .ensures)) .r-in, (fields-in _ _ (c .before .before .before .before .before .before .before .pre .0) Leave _ _ (c .before .before .before .before .kind-at .ensures) (c .before .enum-told4 .given .1) (c .before .before .before .fields-at .ensures)) .s-in, c .before .before .before .before .before .before .before .pre .1)
 
 enum-told-5 : tie.Need-enum-told-5
 enum-told-5 c = search needs
@@ -58,7 +57,7 @@ slice-aggregate-one-3 : tie.Need-slice-aggregate-one-3
 slice-aggregate-one-3 c = search needs
 
 one-requires-3 : tie.Need-one-requires-3
-one-requires-3 c κs = ((fields-in _ _ (c .before .before .before .before .before .before .before .before .pre .0) Out _ _ (c .before .before .before .before .before .kind-at .ensures) (c .before .before .enum-told5 .given .1) (c .before .before .before .before .fields-at .ensures)) .r-in, c .before .before .before .before .before .before .before .before .pre .1, c .before .before .before .before .before .before .before .before .pre .2)
+one-requires-3 c κs = ((fields-in _ _ (c .before .before .before .before .before .before .before .before .pre .0) Out _ _ (c .before .before .before .before .before .kind-at .ensures) (c .before .before .enum-told5 .given .1) (c .before .before .before .before .fields-at .ensures)) .r-in, c .before .before .before .before .before .before .before .before .pre .1)
 
 enum-told-6 : tie.Need-enum-told-6
 enum-told-6 c = search needs
@@ -67,13 +66,13 @@ slice-aggregate-one-4 : tie.Need-slice-aggregate-one-4
 slice-aggregate-one-4 c = search needs
 
 one-requires-4 : tie.Need-one-requires-4
-one-requires-4 c κs = ((fields-in _ _ (c .before .before .before .before .before .before .before .before .pre .0) Call _ _ (c .before .before .before .before .before .kind-at .ensures) (c .before .before .enum-told6 .given .1) (c .before .before .before .before .fields-at .ensures)) .r-in, c .before .before .before .before .before .before .before .before .pre .1, c .before .before .before .before .before .before .before .before .pre .2)
+one-requires-4 c κs = ((fields-in _ _ (c .before .before .before .before .before .before .before .before .pre .0) Call _ _ (c .before .before .before .before .before .kind-at .ensures) (c .before .before .enum-told6 .given .1) (c .before .before .before .before .fields-at .ensures)) .r-in, c .before .before .before .before .before .before .before .before .pre .1)
 
 enum-told-7 : tie.Need-enum-told-7
 enum-told-7 c = search needs
 
 back-requires : tie.Need-back-requires
-back-requires c κs = ((fields-in _ _ (c .before .before .before .before .before .before .before .pre .0) Back _ _ (c .before .before .before .before .kind-at .ensures) (c .before .enum-told7 .given .1) (c .before .before .before .fields-at .ensures)), c .before .before .before .before .before .before .before .pre .1, c .before .before .before .before .before .before .before .pre .2)
+back-requires c κs = ((fields-in _ _ (c .before .before .before .before .before .before .before .pre .0) Back _ _ (c .before .before .before .before .kind-at .ensures) (c .before .enum-told7 .given .1) (c .before .before .before .fields-at .ensures)), c .before .before .before .before .before .before .before .pre .1)
 
 enum-told-8 : tie.Need-enum-told-8
 enum-told-8 c = search needs

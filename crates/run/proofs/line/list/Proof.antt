@@ -5,7 +5,6 @@ use Rattle.run.proofs.line.list.Reads as reads
 use Rattle.run.proofs.line.list.Lts as lts
 use Rattle.run.proofs.line.end.Reads as end-reads
 use Rattle.run.proofs.line.line.Reads as line-reads
-use Rattle.run.proofs.print.named.Reads as named-reads
 
 cast-f : tie.Need-cast-f
 cast-f c = search needs
@@ -50,13 +49,13 @@ named-requires-3 : tie.Need-named-requires-3
 named-requires-3 c κs = search needs
 
 end-requires : tie.Need-end-requires
-end-requires c κs = (c .before .before .before .before .before .before .before .before .before .before .before .before .before .before .before .before .before .before .before .pre .0 .has-room, c .before .before .before .named3 .ensures)
+end-requires c κs = c .before .before .before .before .before .before .before .before .before .before .before .before .before .before .before .before .before .before .before .pre .has-room
 
 returns : tie.Need-returns
 returns c = search needs
 
 line-requires : tie.Need-line-requires
-line-requires c κs = (c .before .before .before .before .before .before .before .before .before .before .before .before .before .before .before .before .before .before .before .pre .0 .here (c .before .if1 .left), c .before .before .before .before .before .before .before .before .before .before .before .before .before .before .before .before .before .before .before .pre .0 .has-room, c .before .before .before .named3 .ensures)
+line-requires c κs = (c .before .before .before .before .before .before .before .before .before .before .before .before .before .before .before .before .before .before .before .pre .here (c .before .if1 .left), c .before .before .before .before .before .before .before .before .before .before .before .before .before .before .before .before .before .before .before .pre .has-room)
 
 returns-2 : tie.Need-returns-2
 returns-2 c = search needs

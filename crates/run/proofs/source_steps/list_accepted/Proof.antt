@@ -16,7 +16,10 @@ start-requires : tie.Need-start-requires
 start-requires c κs = search needs
 
 walk-requires : tie.Need-walk-requires
-walk-requires c κs = (c .before .before .before .before .find .ensures, starts (c .before .before .before .before .before .before .before .before .pre .0) (c .before .before .before .before .before .before .before .before .pre .1 .1) (omega arith) (c .before .before .start .ensures))
+walk-requires c κs = (c .before .before .before .before .before .find .ensures, starts (c .before .before .before .before .before .before .before .before .before .pre .0) (c .before .before .before .before .before .before .before .before .before .pre .1 .1) (omega arith) (c .before .before .before .start .ensures))
+
+list-requires : tie.Need-list-requires
+list-requires c κs = search needs
 
 same-length : tie.Need-same-length
 same-length c = search needs
@@ -26,4 +29,4 @@ returns c = search needs
 
 pub list-accepted-spec : {M : Type 1} → statement M
 list-accepted-spec =
-    tie.close (tie.spec find-requires start-requires walk-requires same-length returns)
+    tie.close (tie.spec find-requires start-requires walk-requires list-requires same-length returns)

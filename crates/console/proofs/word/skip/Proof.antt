@@ -4,10 +4,10 @@ use borrow.Author.Needs.{needs}
 use native.Mathlib.Omega.{arith}
 use lib.ListN.{length}
 use Prim.Native.Nat.{_-_, _≤_}
-use Rattle.run.proofs.word.skip.Statement.{statement}
-use Rattle.run.proofs.word.skip.Tie as tie
-use Rattle.run.proofs.word.skip.Reads as reads
-use Rattle.run.proofs.word.skip.Lts as lts
+use Rattle.console.proofs.word.skip.Statement.{statement}
+use Rattle.console.proofs.word.skip.Tie as tie
+use Rattle.console.proofs.word.skip.Reads as reads
+use Rattle.console.proofs.word.skip.Lts as lts
 
 abbrev Inv-loop : tie.InvT-loop
 Inv-loop word name i₀ i = (i ≤ length name) × (length name ≤ length word)

@@ -2,14 +2,14 @@ use borrow.Author.Needs.{needs}
 use native.Mathlib.Omega.{arith}
 use lib.ListN.{length}
 use Prim.Native.Nat.{_-_, _≤_}
-use Rattle.run.proofs.print.word.Statement.{statement}
-use Rattle.run.proofs.print.word.Tie as tie
-use Rattle.run.proofs.print.word.Reads as reads
-use Rattle.run.proofs.print.word.Lts as lts
-use Rattle.run.proofs.print.put.Reads as put-reads
+use Rattle.console.proofs.print.word.Statement.{statement}
+use Rattle.console.proofs.print.word.Tie as tie
+use Rattle.console.proofs.print.word.Reads as reads
+use Rattle.console.proofs.print.word.Lts as lts
+use Rattle.console.proofs.print.put.Reads as put-reads
 
 abbrev Inv-loop : tie.InvT-loop
-Inv-loop w at text₀ next₀ i₀ text next i = (i ≤ length w) × (next ≤ 65536)
+Inv-loop w at text₀ next₀ i₀ text next i = i ≤ length w
 
 abbrev μ-loop : tie.MeasureT-loop
 μ-loop w at text₀ next₀ i₀ text next i = length w - i

@@ -2,7 +2,7 @@
 ghost use mathlib.Core.Path.{_≡_};
 ghost use mathlib.Core.Bool.{not};
 ghost use Prim.Native.Nat.{_<_};
-ghost use Rattle.run.specs.Number.{isFigure, numberOf};
+ghost use Rattle.console.specs.Number.{isFigure, numberOf};
 
 pub enum Number {
     Value(u16),

@@ -4,13 +4,13 @@ use native.Mathlib.Omega.{arith}
 use denote.Ref.{now}
 use lib.ListN.{length, getD}
 use Prim.Native.Nat.{_+_, _-_, _*_}
-use Rattle.run.proofs.Digits.{Read, told-low, none-read, read-starts, read-other, read-over, read-more, read-all}
-use Rattle.run.proofs.number.decimal.Statement.{statement}
-use Rattle.run.proofs.number.decimal.Tie as tie
-use Rattle.run.proofs.number.decimal.Reads as reads
-use Rattle.run.proofs.number.decimal.Lts as lts
-use Rattle.run.proofs.number.is_other.Reads as is-other-reads
-use Rattle.run.proofs.number.wide.Reads as wide-reads
+use Rattle.console.proofs.Digits.{Read, told-low, none-read, read-starts, read-other, read-over, read-more, read-all}
+use Rattle.console.proofs.number.decimal.Statement.{statement}
+use Rattle.console.proofs.number.decimal.Tie as tie
+use Rattle.console.proofs.number.decimal.Reads as reads
+use Rattle.console.proofs.number.decimal.Lts as lts
+use Rattle.console.proofs.number.is_other.Reads as is-other-reads
+use Rattle.console.proofs.number.wide.Reads as wide-reads
 
 abbrev Inv-loop : tie.InvT-loop
 Inv-loop text value₀ i₀ value i = Read text value i

@@ -4,10 +4,10 @@ use borrow.Author.Needs.{needs}
 use native.Mathlib.Omega.{arith}
 use lib.ListN.{length}
 use Prim.Native.Nat.{_-_, _≤_}
-use Rattle.run.proofs.word.find.Statement.{statement}
-use Rattle.run.proofs.word.find.Tie as tie
-use Rattle.run.proofs.word.find.Reads as reads
-use Rattle.run.proofs.word.find.Lts as lts
+use Rattle.console.proofs.word.find.Statement.{statement}
+use Rattle.console.proofs.word.find.Tie as tie
+use Rattle.console.proofs.word.find.Reads as reads
+use Rattle.console.proofs.word.find.Lts as lts
 
 abbrev Inv-loop : tie.InvT-loop
 Inv-loop b text i₀ i = i ≤ length text

@@ -1,6 +1,6 @@
-use Rattle.run.proofs.Digits.{below, above}
-use Rattle.run.proofs.number.is_other.Statement.{statement}
-use Rattle.run.proofs.number.is_other.Tie as tie
+use Rattle.console.proofs.Digits.{below, above}
+use Rattle.console.proofs.number.is_other.Statement.{statement}
+use Rattle.console.proofs.number.is_other.Tie as tie
 
 returns : tie.Need-returns
 returns c = below _ (c .if1 .taken)

@@ -3,8 +3,8 @@ use Prim.Native.Nat.{ℕ, _+_, _-_, _*_}
 use mathlib.Core.Bool.{Bool, true, cond, _&&_}
 use mathlib.Core.List.{List, [], _∷_}
 use lib.Dec.{leb}
-use Rattle.run.specs.declared.number.Number.{Number}
-use Rattle.run.specs.declared.number.Number.the-variants.{Value, Other}
+use Rattle.console.specs.declared.number.Number.{Number}
+use Rattle.console.specs.declared.number.Number.the-variants.{Value, Other}
 
 -- `0` to `9`
 abbrev pub isFigure : ℕ → Bool
