@@ -58,8 +58,7 @@ fn ended(r: Reader, seen: Seen, digits: usize) -> Read {
     if read::is_good(r, digits) {
         return Read::Bytes(r.length);
     }
-    if output::answer(b"unreadable\n") {
-        malformed::tell(seen, digits);
-    }
+    malformed::tell(seen, digits);
+    output::answer(b"unreadable\n");
     Read::Nothing
 }

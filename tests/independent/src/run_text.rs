@@ -31,22 +31,23 @@ pub fn run(words: &[Vec<u8>], input: impl Read) -> io::Result<Printed> {
 
 fn of_input(asked: &Asked, input: impl Read) -> io::Result<Printed> {
     let width = if asked.hardened { LINE_BYTES } else { ROW_BYTES };
-    Ok(match records::read(input, width)? {
+    let told = match records::read(input, width)? {
         Err(malformed) => Printed::unreadable(&malformed),
         Ok(bytes) => of_table(asked, &bytes),
-    })
+    };
+    Ok(Printed { err: [told_before(asked).as_bytes(), &told.err].concat(), ..told })
 }
 
-/// A table that is turned away is not run: nothing is told of its jump.
 fn of_table(asked: &Asked, bytes: &[u8]) -> Printed {
     let ran = if asked.hardened { hardened(asked, bytes) } else { source(asked, bytes) };
     match ran {
-        Ok(out) => Printed { out, err: told_before(asked).into() },
+        Ok(out) => Printed::out(out),
         Err(refusal) => Printed::refused(refusal.number()),
     }
 }
 
-/// "`jump=65535:P` is accepted and told on standard error, before the run"
+/// "`jump=65535:P` is accepted and told on standard error once all words are
+/// taken, before the input is read"
 fn told_before(asked: &Asked) -> &'static str {
     match asked.jump {
         Some((NO_JUMP, _)) => "step 65535 is no jump: no budget holds it\n",

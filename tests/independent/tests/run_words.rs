@@ -87,7 +87,8 @@ fn in_any_order() {
     assert_eq!(printed("source v1=1 budget=65535", ROWS), printed("source v1=1", ROWS));
 }
 
-/// "`jump=65535:P` is accepted and told on standard error, before the run"
+/// "`jump=65535:P` is accepted and told on standard error once all words are
+/// taken, before the input is read"
 #[test]
 fn no_jump() {
     let told = "step 65535 is no jump: no budget holds it\n";
@@ -101,9 +102,10 @@ fn no_jump() {
         assert_eq!(Printed::out(out), printed(without, LINES));
     }
     assert_eq!(printed("hardened v1=1 jump=65534:3", LINES).err, b"");
-    // no run, and nothing before it
-    assert_eq!(printed("hardened jump=65535:3", ""), Printed::out("refused 10\n"));
-    assert_eq!(printed("hardened jump=65535:3", "\n").err, b"line 1: an empty line\n");
+    let refused = printed("hardened jump=65535:3", "");
+    assert_eq!(refused, Printed { out: "refused 10\n".into(), err: told.into() });
+    let unreadable = printed("hardened jump=65535:3", "\n");
+    assert_eq!(unreadable.err, [told.as_bytes(), b"line 1: an empty line\n"].concat());
 }
 
 /// The command lines that the script puts to the program have a right and a wrong
