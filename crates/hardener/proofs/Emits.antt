@@ -5,11 +5,9 @@ use Prim.Native.Nat.{ℕ, zero, suc, _+_, _*_, _-_, _/_, _≤_, _<_}
 use native.Mathlib.Numerals.{add-one}
 use native.Mathlib.Nat.{add-zero, zero-add, add-suc}
 use native.Mathlib.Omega.{arith}
-use lib.ListN.{length, getD, take, drop, length-append}
-use lib.Seq.{take-at, drop-at, drop-drop}
+use lib.ListN.{length, getD, take, drop, length-append, take-append-drop}
+use lib.Seq.{length-take-le, take-at, drop-at, drop-drop}
 use borrow.Author.Tests.{lt-ltb, le-ltb}
-use borrow.Rule.Slice.PartAt.{part-to-end}
-use borrow.Rule.Slice.PartMut.{putMid}
 use Rattle.rules.specs.declared.kind.Kind.{Kind}
 use Rattle.rules.specs.declared.refusal.Refusal.the-variants.{ShortOutput}
 use Rattle.rules.specs.Refusal.{refusalNumber}
@@ -24,9 +22,9 @@ use Rattle.rules.proofs.Harden.{line-mono, line-next, row-lines-length, harden-
 use Rattle.rules.proofs.Encode.{line-length, lines-bytes-length}
 use Rattle.hardener.specs.declared.line.Line as Declared
 use Rattle.hardener.specs.Line.{struct, put}
-use Rattle.hardener.specs.Emit.{rowLine, rowBytes, rowsBytes, Holds, Room, Emitted}
+use Rattle.hardener.specs.Emit.{rowLine, rowBytes, rowsBytes, Makes, Holds, Room, overAt, Emitted}
 use Rattle.hardener.specs.Answer.{written}
-use Rattle.hardener.proofs.Puts.{put-more, put-back}
+use Rattle.hardener.proofs.Puts.{put-more}
 
 -- ---- bytes of lines
 bytes-append : (a b : List Line) → linesBytes (a ++ b) ≡ linesBytes a ++ linesBytes b
@@ -60,46 +58,68 @@ two-list (l ∷ k ∷ []) d e = ap (λ x. lineBytes l ++ x) (append-nil (lineByt
 two-list (l ∷ k ∷ j ∷ ls) d e = absurd (omega arith)
 
 -- ---- the lines of a row
-front-is : (t : Table) (i : ℕ) (out done : List ℕ) {n : ℕ} → rowBytes t i ≡ done → length done ≡ n → done ++ drop n out ≡ over (rowBytes t i) out
-front-is t i out done e l = rw (e, l)
+pub makes : {bs : List ℕ} {i count : ℕ} {k : Kind} (j : Kind) → i < length bs / 6 → k ≡ kindAt (tableOf bs) i → k ≡ j → lineCount j ≡ count → Makes bs i count
+makes j l p q h = record { row = l; are = ap lineCount (sym p ∙ q) ∙ h }
 
--- what the kind of row i says of its lines
-counted : (t : Table) (i : ℕ) {k : Kind} (j : Kind) {count : ℕ} → k ≡ kindAt t i → k ≡ j → lineCount j ≡ count → lineCount (kindAt t i) ≡ count
-counted t i j p q h = ap lineCount (sym p ∙ q) ∙ h
+lines-are : {bs : List ℕ} {i count : ℕ} → Makes bs i count → length (linesOf (tableOf bs) i) ≡ count
+lines-are {bs} {i} m = row-lines-length (tableOf bs) i (openAt (tableOf bs) i) (kindAt (tableOf bs) i) ∙ m .are
 
-lines-are : (t : Table) (i : ℕ) {k : Kind} (j : Kind) {count : ℕ} → k ≡ kindAt t i → k ≡ j → lineCount j ≡ count → length (linesOf t i) ≡ count
-lines-are t i j p q h = row-lines-length t i (openAt t i) (kindAt t i) ∙ counted t i j p q h
+-- line g is the first of row i, in a buffer that begins with line f
+module _ {bs out : List ℕ} {i f g : ℕ} (h : Holds bs i f out) (w : g ≡ lineOf (tableOf bs) i) where
+  pub first-low : f ≤ g
+  first-low = omega (arith, h .low)
 
-pub room-for : {bs out : List ℕ} {i count : ℕ} {k : Kind} (j : Kind) → Holds bs i out → k ≡ kindAt (tableOf bs) i → k ≡ j → lineCount j ≡ count
-    → 20 * count ≤ length out
-room-for {bs} {i = i} j r p q h = omega (arith, r .enough, counted (tableOf bs) i j p q h)
+  pub room-for : {count : ℕ} → Makes bs i count → 20 * (g - f) + 20 * count ≤ length out
+  room-for m = omega (arith, h .low, h .enough, m .are)
 
-pub none-out : {bs out : List ℕ} {i : ℕ} {k : Kind} (j : Kind) → k ≡ kindAt (tableOf bs) i → k ≡ j → lineCount j ≡ 0 → Emitted bs i out out
+-- bytes put from byte n on
+placed : (out done : List ℕ) (n : ℕ) {m : ℕ} → length done ≡ m → (take n out ++ done) ++ drop (n + m) out ≡ overAt n done out
+placed out done n {m} e =
+    append-assoc (take n out) done (drop (n + m) out) ∙ ap (λ x. take n out ++ (done ++ x)) (sym (drop-drop m n out) ∙ ap (λ x. drop x (drop n out)) (sym e))
+
+put-at : (out : List ℕ) (n : ℕ) (l : Line) → n ≤ length out → put out n (struct l) ≡ (take n out ++ lineBytes l) ++ drop (n + 20) out
+put-at out n l h =
+    ap (λ x. put x n (struct l)) (sym (take-append-drop n out)) ∙ put-more out (take n out) n l (length-take-le n out h)
+
+pub none-out : {bs out : List ℕ} {i f : ℕ} → Makes bs i 0 → Emitted bs i f out out
 unfolding rowBytes
-none-out {bs} {out} {i} j p q h = record { is = front-is (tableOf bs) i out [] (none-list (linesOf (tableOf bs) i) (lines-are (tableOf bs) i j p q h)) refl }
+none-out {bs} {out} {i} {f} m =
+    let n = 20 * (lineOf (tableOf bs) i - f) in
+    record { is = sym (take-append-drop n out) ∙ ap (λ x. overAt n x out) (sym (none-list (linesOf (tableOf bs) i) (lines-are m))) }
 
-pub one-out : {bs out out′ : List ℕ} {i : ℕ} {k : Kind} {l : Declared.Line} (j : Kind) → k ≡ kindAt (tableOf bs) i → k ≡ j → lineCount j ≡ 1
-    → l ≡ struct (rowLine (tableOf bs) i 0) → out′ ≡ put out 0 l → Emitted bs i out out′
+pub one-out : {bs out out′ : List ℕ} {i f g : ℕ} {l : Declared.Line} → Makes bs i 1 → Holds bs i f out → l ≡ struct (rowLine (tableOf bs) i 0)
+    → g ≡ lineOf (tableOf bs) i → out′ ≡ put out (20 * (g - f)) l → Emitted bs i f out out′
 unfolding rowBytes rowLine
-one-out {bs} {out} {i = i} j p q h e w =
+one-out {bs} {out} {i = i} {f} {g} m h e w q =
     let x = rowLine (tableOf bs) i 0 in
+    let n = 20 * (g - f) in
     record {
-      is = w ∙ ap (put out 0) e ∙ put-more out [] 0 x refl
-          ∙ front-is (tableOf bs) i out (lineBytes x) (one-list (linesOf (tableOf bs) i) (retLine 0 0) (lines-are (tableOf bs) i j p q h)) (line-length x);
+      is = q ∙ ap (put out n) e ∙ put-at out n x (omega (arith, room-for h w m)) ∙ placed out (lineBytes x) n (line-length x)
+          ∙ ap (λ y. overAt n y out) (sym (one-list (linesOf (tableOf bs) i) (retLine 0 0) (lines-are m)))
+          ∙ ap (λ y. overAt (20 * (y - f)) (rowBytes (tableOf bs) i) out) w;
     }
 
-pub two-out : {bs out out′ : List ℕ} {i : ℕ} {k : Kind} {l m : Declared.Line} (j : Kind) → k ≡ kindAt (tableOf bs) i → k ≡ j → lineCount j ≡ 2
-    → l ≡ struct (rowLine (tableOf bs) i 0) → m ≡ struct (rowLine (tableOf bs) i 1) → out′ ≡ put (put out 0 l) 20 m → Emitted bs i out out′
+pub two-out : {bs out mid out′ : List ℕ} {i f g : ℕ} {l k : Declared.Line} → Makes bs i 2 → Holds bs i f out → l ≡ struct (rowLine (tableOf bs) i 0)
+    → k ≡ struct (rowLine (tableOf bs) i 1) → g ≡ lineOf (tableOf bs) i → mid ≡ put out (20 * (g - f)) l → out′ ≡ put mid (20 * (g - f) + 20) k
+    → Emitted bs i f out out′
 unfolding rowBytes rowLine
-two-out {bs} {out} {i = i} {l = l} {m = m} j p q h e e′ w =
+two-out {bs} {out} {mid} {i = i} {f} {g} {k = k} m h e e′ w q q′ =
     let x = rowLine (tableOf bs) i 0 in
     let y = rowLine (tableOf bs) i 1 in
+    let n = 20 * (g - f) in
+    let in-out : n ≤ length out = omega (arith, room-for h w m) in
+    let so-far : length (take n out ++ lineBytes x) ≡ n + 20
+    = length-append (take n out) (lineBytes x) ∙ omega (arith, length-take-le n out in-out, line-length x) in
     let both : length (lineBytes x ++ lineBytes y) ≡ 40 = length-append (lineBytes x) (lineBytes y) ∙ omega (arith, line-length x, line-length y) in
+    let far : n + 20 + 20 ≡ n + 40 = omega arith in
     record {
-      is = w ∙ ap (λ z. put (put out 0 z) 20 m) e ∙ ap (put (put out 0 (struct x)) 20) e′
-          ∙ ap (λ z. put z 20 (struct y)) (put-more out [] 0 x refl)
-          ∙ put-more out (lineBytes x) 20 y (line-length x)
-          ∙ front-is (tableOf bs) i out (lineBytes x ++ lineBytes y) (two-list (linesOf (tableOf bs) i) (retLine 0 0) (lines-are (tableOf bs) i j p q h)) both;
+      is = q′ ∙ ap (put mid (n + 20)) e′ ∙ ap (λ z. put z (n + 20) (struct y)) (q ∙ ap (put out n) e ∙ put-at out n x in-out)
+          ∙ put-more out (take n out ++ lineBytes x) (n + 20) y so-far
+          ∙ ap (λ z. ((take n out ++ lineBytes x) ++ lineBytes y) ++ drop z out) far
+          ∙ ap (λ z. z ++ drop (n + 40) out) (append-assoc (take n out) (lineBytes x) (lineBytes y))
+          ∙ placed out (lineBytes x ++ lineBytes y) n both
+          ∙ ap (λ z. overAt n z out) (sym (two-list (linesOf (tableOf bs) i) (retLine 0 0) (lines-are m)))
+          ∙ ap (λ z. overAt (20 * (z - f)) (rowBytes (tableOf bs) i) out) w;
     }
 
 -- ---- the lines of some rows
@@ -128,30 +148,28 @@ pub emit-start : {bs held : List ℕ} {i d : ℕ} → Room bs i d held → Emitt
 unfolding rowsBytes
 emit-start r = record { le = omega arith; room = r; same = refl; is = refl }
 
--- row i + k, whose lines go to byte 20 * (g - f)
-module _ {bs held out : List ℕ} {i d k f g : ℕ} (e : Emitting bs i d held out k) (l : k < d) (p : f ≡ lineOf (tableOf bs) i) (q : g ≡ lineOf (tableOf bs) (i + k)) where
-  pub first-low : f ≤ g
-  first-low = omega (arith, line-mono (tableOf bs) {i = i} (i + k) (omega arith))
+-- row i + k
+module _ {bs held out : List ℕ} {i d k f : ℕ} (e : Emitting bs i d held out k) (l : k < d) (p : f ≡ lineOf (tableOf bs) i) where
+  low : f ≤ lineOf (tableOf bs) (i + k)
+  low = omega (arith, line-mono (tableOf bs) {i = i} (i + k) (omega arith))
 
-  at-is : 20 * (g - f) ≡ length (rowsBytes (tableOf bs) i k)
-  at-is = omega (arith, first-low, rows-length (tableOf bs) i k)
+  pub emit-holds : Holds bs (i + k) f out
+  emit-holds =
+      record { low = low; enough = omega (arith, e .same, e .room .enough, line-next (tableOf bs) (i + k) (i + d) (omega arith)) }
 
-  pub next-in : 20 * (g - f) + 20 * lineCount (kindAt (tableOf bs) (i + k)) ≤ length out
-  next-in = omega (arith, e .same, e .room .enough, first-low, line-next (tableOf bs) (i + k) (i + d) (omega arith))
+  at-is : 20 * (lineOf (tableOf bs) (i + k) - f) ≡ length (rowsBytes (tableOf bs) i k)
+  at-is = omega (arith, low, rows-length (tableOf bs) i k)
 
-  pub emit-more : {part : List ℕ} → Emitted bs (i + k) (take (length out - 20 * (g - f)) (drop (20 * (g - f)) out)) part
-      → length (putMid (20 * (g - f)) (length out - 20 * (g - f)) out part) ≡ length out
-      → Emitting bs i d held (putMid (20 * (g - f)) (length out - 20 * (g - f)) out part) (k + 1)
+  pub emit-more : {out′ : List ℕ} → Emitted bs (i + k) f out out′ → length out′ ≡ length out → Emitting bs i d held out′ (k + 1)
   unfolding rowsBytes
-  emit-more {part} w n =
+  emit-more w n =
       let a = rowsBytes (tableOf bs) i k in
       let b = rowBytes (tableOf bs) (i + k) in
       record {
         le = omega arith;
         room = e .room;
         same = n ∙ e .same;
-        is = put-back out part (20 * (g - f)) ∙ ap (λ x. take (20 * (g - f)) out ++ x) (w .is ∙ ap (over b) (part-to-end out (20 * (g - f))))
-            ∙ rw (at-is, e .is)
+        is = w .is ∙ rw (at-is, e .is)
             (ap (λ x. x ++ over b (drop (length a) (over a held))) (take-at a (drop (length a) held) (length a) refl)
             ∙ ap (λ x. a ++ over b x) (drop-at a (drop (length a) held) (length a) refl)
             ∙ over-more a b held

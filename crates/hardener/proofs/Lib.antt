@@ -4,3 +4,4 @@ pub mod Leaves
 pub mod Calls
 pub mod Emits
 pub mod Compares
+pub mod Passes

@@ -1,14 +1,12 @@
--- Copying bytes into a buffer, a line put behind the lines before it, and a part that was lent. Assumes nothing.
-use mathlib.Core.Path.{_≡_, refl, sym, ap, _∙_}
-use mathlib.Core.List.{List, [], _++_, append-assoc}
-use Prim.Native.Nat.{ℕ, _+_, _-_, _≤_, _<_}
+-- Copying bytes into a buffer, and a line put behind the lines before it. Assumes nothing.
+use mathlib.Core.Path.{_≡_, refl, ap, _∙_}
+use mathlib.Core.List.{List, _++_, append-assoc}
+use Prim.Native.Nat.{ℕ, _+_, _≤_, _<_}
 use native.Mathlib.Numerals.{add-one}
 use native.Mathlib.Omega.{arith}
-use lib.ListN.{length, getD, set, take, drop, length-drop}
-use lib.Seq.{paste, paste-zero, paste-suc, take-at, drop-drop, drop-append-add, drop-length}
-use borrow.Rule.Slice.PartMut.{putMid}
+use lib.ListN.{length, getD, set, drop}
+use lib.Seq.{paste, paste-zero, paste-suc, take-at, drop-drop, drop-append-add}
 use Rattle.rules.specs.Line.{Line, doLine, tickLine, testLine, leaveLine, outLine, callLine, backLine, retLine, lineBytes}
-use Rattle.rules.proofs.Logic.{append-nil}
 use Rattle.hardener.specs.Line.{struct, spelt, put}
 
 -- one byte more is copied
@@ -36,10 +34,3 @@ pub put-more : (old done : List ℕ) (at : ℕ) (l : Line) → length done ≡ a
 unfolding put
 put-more old done at l e =
     rw (take-at done (drop at old) at e, spelt-is l, ← e, drop-append-add done (drop (length done) old) 20, drop-drop 20 (length done) old, append-assoc done (lineBytes l) (drop (length done + 20) old))
-
--- a part from byte a on, lent and come back
-rest-none : (xs : List ℕ) (a : ℕ) → drop (length xs - a) (drop a xs) ≡ []
-rest-none xs a = ap (λ n. drop n (drop a xs)) (sym (length-drop a xs)) ∙ drop-length (drop a xs)
-
-pub put-back : (xs ys : List ℕ) (a : ℕ) → putMid a (length xs - a) xs ys ≡ take a xs ++ ys
-put-back xs ys a = ap (λ z. take a xs ++ (ys ++ z)) (rest-none xs a) ∙ ap (λ z. take a xs ++ z) (append-nil ys)

@@ -1,4 +1,4 @@
 pub mod Line
 pub mod Emit
-pub mod Compare
 pub mod Answer
+pub mod Pass

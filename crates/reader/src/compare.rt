@@ -5,7 +5,6 @@ ghost use Rattle.rules.specs.Bytes.{same};
 ghost use Rattle.rules.specs.Refusal.{isAccepted};
 ghost use Rattle.rules.specs.Check.{verdictOf};
 ghost use Rattle.rules.specs.Harden.{hardenedBytes};
-use hardener::compare;
 use rules::refusal::Verdict;
 use table::check;
 
@@ -17,6 +16,6 @@ pub fn hardens_to(rows: &[u8], lines: &[u8]) -> bool
     let mut heads = check::function_words();
     match check::check(rows, &mut ends, &mut elses, &mut heads) {
         Verdict::Refused(_) => false,
-        Verdict::Accepted => compare::hardens_to_lines(rows, &ends, &elses, &heads, lines),
+        Verdict::Accepted => hardener::hardens_to_lines(rows, &ends, &elses, &heads, lines),
     }
 }

@@ -1,8 +1,8 @@
-use mathlib.Core.Path.{_∙_}
 use Prim.Native.Nat.{_-_}
+use mathlib.Core.Path.{_∙_}
 use native.Mathlib.Omega.{arith}
 use borrow.Author.Needs.{needs}
-use Rattle.hardener.proofs.Emits.{Emitting, emit-start, emit-more, emit-all, first-low, next-in}
+use Rattle.hardener.proofs.Emits.{Emitting, emit-start, emit-holds, emit-more, emit-all}
 use Rattle.hardener.proofs.emit.emit_rows.Statement.{statement}
 use Rattle.hardener.proofs.emit.emit_rows.Tie as tie
 use Rattle.hardener.proofs.emit.emit_rows.Reads as reads
@@ -26,32 +26,11 @@ index-requires c κs = search needs
 loop-holds : tie.Need-loop-holds Inv-loop μ-loop
 loop-holds c = emit-start (c .before .before .before .before .before .before .before .before .before .before .pre .0 .1)
 
-add-i : tie.Need-add-i Inv-loop μ-loop
-add-i c = search needs
-
-line-of-requires-2 : tie.Need-line-of-requires-2 Inv-loop μ-loop
-line-of-requires-2 c κs = (c .before .before .before .before .before .before .before .before .before .before .before .before .pre .0 .0 .surveyed, omega (arith, c .before .before .before .before .before .before .before .before .before .before .before .before .pre .0 .1 .rows))
-
-index-requires-2 : tie.Need-index-requires-2 Inv-loop μ-loop
-index-requires-2 c κs = search needs
-
-sub-at : tie.Need-sub-at Inv-loop μ-loop
-sub-at c = omega (arith, first-low (c .before .before .before .loop .inv) (omega arith) (c .before .before .before .before .index .ensures ∙ c .before .before .before .before .before .line-of .ensures) (c .index2 .ensures ∙ c .before .line-of2 .ensures))
-
-mul-at : tie.Need-mul-at Inv-loop μ-loop
-mul-at c = omega (arith, next-in (c .before .before .before .loop .inv) (omega arith) (c .before .before .before .before .index .ensures ∙ c .before .before .before .before .before .line-of .ensures) (c .index2 .ensures ∙ c .before .line-of2 .ensures))
-
-sub-emit : tie.Need-sub-emit Inv-loop μ-loop
-sub-emit c = omega (arith, next-in (c .before .before .before .loop .inv) (omega arith) (c .before .before .before .before .index .ensures ∙ c .before .before .before .before .before .line-of .ensures) (c .index2 .ensures ∙ c .before .line-of2 .ensures))
-
-part-emit-start : tie.Need-part-emit-start Inv-loop μ-loop
-part-emit-start c = omega (arith, next-in (c .before .before .before .loop .inv) (omega arith) (c .before .before .before .before .index .ensures ∙ c .before .before .before .before .before .line-of .ensures) (c .index2 .ensures ∙ c .before .line-of2 .ensures))
-
-part-emit-end : tie.Need-part-emit-end Inv-loop μ-loop
-part-emit-end c = search needs
+add-emit : tie.Need-add-emit Inv-loop μ-loop
+add-emit c = omega (arith, c .before .before .before .before .before .before .before .before .before .before .before .before .pre .0 .1 .rows)
 
 emit-requires : tie.Need-emit-requires Inv-loop μ-loop
-emit-requires c κs = ((c .before .before .before .before .before .before .before .before .before .before .before .before .before .before .before .pre .0 .0, omega (arith, c .before .before .before .before .before .before .before .before .before .before .before .before .before .before .before .pre .0 .1 .rows), record { enough = omega (arith, next-in (c .before .before .before .before .loop .inv) (omega arith) (c .before .before .before .before .before .index .ensures ∙ c .before .before .before .before .before .before .line-of .ensures) (c .before .index2 .ensures ∙ c .before .before .line-of2 .ensures), c .emit-arg .given .1) }), c .before .before .before .before .before .before .before .before .before .before .before .before .before .before .before .pre .1)
+emit-requires c κs = ((c .before .before .before .before .before .before .before .before .before .before .before .before .before .pre .0 .0, omega (arith, c .before .before .before .before .before .before .before .before .before .before .before .before .before .pre .0 .1 .rows), emit-holds (c .before .before .loop .inv) (omega arith) (c .before .before .before .index .ensures ∙ c .before .before .before .before .line-of .ensures)), c .before .before .before .before .before .before .before .before .before .before .before .before .before .pre .1)
 
 add-k : tie.Need-add-k Inv-loop μ-loop
 add-k c = omega arith
@@ -60,7 +39,7 @@ loop-less : tie.Need-loop-less Inv-loop μ-loop
 loop-less c = omega arith
 
 loop-again : tie.Need-loop-again Inv-loop μ-loop
-loop-again c = emit-more (c .before .before .before .before .before .before .before .loop .inv) (omega arith) (c .before .before .before .before .before .before .before .before .index .ensures ∙ c .before .before .before .before .before .before .before .before .before .line-of .ensures) (c .before .before .before .before .index2 .ensures ∙ c .before .before .before .before .before .line-of2 .ensures) (c .before .before .emit .ensures) (search needs)
+loop-again c = emit-more (c .before .before .before .before .before .loop .inv) (omega arith) (c .before .before .before .before .before .before .index .ensures ∙ c .before .before .before .before .before .before .before .line-of .ensures) (c .before .before .emit .ensures) (search needs)
 
 same-length : tie.Need-same-length Inv-loop μ-loop
 same-length c = omega (arith, c .before .loop .inv .same)
@@ -77,14 +56,7 @@ emit-rows-spec =
     line-of-requires
     index-requires
     loop-holds
-    add-i
-    line-of-requires-2
-    index-requires-2
-    sub-at
-    mul-at
-    sub-emit
-    part-emit-start
-    part-emit-end
+    add-emit
     emit-requires
     add-k
     loop-less

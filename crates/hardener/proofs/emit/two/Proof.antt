@@ -1,14 +1,31 @@
-use mathlib.Core.Path.{ap, _∙_}
-use Rattle.hardener.specs.Line.{put}
+use mathlib.Core.Path.{_∙_}
+use Rattle.hardener.proofs.Emits.{two-out}
 use borrow.Author.Needs.{needs}
 use Rattle.hardener.proofs.emit.two.Statement.{statement}
 use Rattle.hardener.proofs.emit.two.Tie as tie
 use Rattle.hardener.proofs.emit.two.Reads as reads
 use Rattle.hardener.proofs.emit.two.Lts as lts
 use Rattle.hardener.proofs.line.Line.write.Reads as write-reads
+use Rattle.layout.proofs.row.index.Reads as index-reads
+use Rattle.layout.proofs.spot.line_of.Reads as line-of-reads
+
+line-of-requires : tie.Need-line-of-requires
+line-of-requires c κs = search needs
+
+index-requires : tie.Need-index-requires
+index-requires c κs = search needs
+
+sub-at : tie.Need-sub-at
+sub-at c = search needs
+
+mul-at : tie.Need-mul-at
+mul-at c = search needs
 
 write-requires : tie.Need-write-requires
 write-requires c κs = search needs
+
+add-write : tie.Need-add-write
+add-write c = search needs
 
 write-requires-2 : tie.Need-write-requires-2
 write-requires-2 c κs = search needs
@@ -17,7 +34,18 @@ same-length : tie.Need-same-length
 same-length c = search needs
 
 returns : tie.Need-returns
-returns c = c .before .before .write2 .ensures ∙ ap (λ x. put x 20 (c .before .before .before .before .before .before .before .before .before .args .k)) (c .before .before .before .before .before .before .write .ensures)
+returns c = two-out (c .before .before .before .before .before .before .before .before .before .before .before .before .before .pre .0 .1) (c .before .before .before .before .before .before .before .before .before .before .before .before .before .pre .0 .2) (c .before .before .before .before .before .before .before .before .before .before .before .before .before .pre .1 .0) (c .before .before .before .before .before .before .before .before .before .before .before .before .before .pre .1 .1) (c .before .before .before .before .before .before .before .before .index .ensures ∙ c .before .before .before .before .before .before .before .before .before .line-of .ensures) (c .before .before .before .before .before .before .write .ensures) (c .before .before .write2 .ensures)
 
 pub two-spec : {M : Type 1} → statement M
-two-spec = tie.close (tie.spec write-requires write-requires-2 same-length returns)
+two-spec =
+    tie.close
+    (tie.spec
+    line-of-requires
+    index-requires
+    sub-at
+    mul-at
+    write-requires
+    add-write
+    write-requires-2
+    same-length
+    returns)

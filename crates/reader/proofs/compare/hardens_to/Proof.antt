@@ -10,7 +10,7 @@ use Rattle.reader.proofs.compare.hardens_to.Tie as tie
 use Rattle.reader.proofs.compare.hardens_to.Reads as reads
 use Rattle.reader.proofs.compare.hardens_to.Lts as lts
 use Rattle.table.proofs.check.function_words.Reads as function-words-reads
-use Rattle.hardener.proofs.compare.hardens_to_lines.Reads as hardens-to-lines-reads
+use Rattle.hardener.proofs.hardens_to_lines.Reads as hardens-to-lines-reads
 use Rattle.table.proofs.check.row_words.Reads as row-words-reads
 use Rattle.table.proofs.check.check.Reads as check-reads
 
