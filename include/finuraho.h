@@ -103,12 +103,12 @@ extern "C" {
 
 /* The bytes of stack that each call takes at most, whatever it is given. They are measured (tests/stack/run) and not proved. */
 #define FINURAHO_STACK_CHECK 10000
-#define FINURAHO_STACK_FAULT 1000
-#define FINURAHO_STACK_HARDEN 24000
-#define FINURAHO_STACK_CHECK_HARDENED 36000
-#define FINURAHO_STACK_READ_BACK 36000
-#define FINURAHO_STACK_RUN_SOURCE 25000
-#define FINURAHO_STACK_RUN_HARDENED 36000
+#define FINURAHO_STACK_FAULT 160
+#define FINURAHO_STACK_HARDEN 22000
+#define FINURAHO_STACK_CHECK_HARDENED 32000
+#define FINURAHO_STACK_READ_BACK 32000
+#define FINURAHO_STACK_RUN_SOURCE 25500
+#define FINURAHO_STACK_RUN_HARDENED 32800
 
 /* The step number that means no jump, whatever the place. */
 #define FINURAHO_NO_JUMP 65535
