@@ -1,13 +1,10 @@
 /* Brings about each number and each outcome that the header names, and calls every function with NULL where it lends nothing.
  * Compiled as C and as C++. */
-#include <finuraho.h>
+#include "../rows.h"
 #include <stdio.h>
-#include <string.h>
 
 #define BUDGET 20
 
-static uint8_t rows[FINURAHO_MAX_SOURCE_BYTES + FINURAHO_ROW_BYTES];
-static size_t length;
 static uint8_t lines[FINURAHO_MAX_HARDENED_BYTES];
 static uint16_t trace[BUDGET];
 static uint16_t counters[FINURAHO_COUNTER_WORDS];
@@ -22,31 +19,6 @@ static void expect(const char *what, size_t got, size_t must)
         return;
     failed++;
     printf("%s: %zu, must be %zu\n", what, got, must);
-}
-
-static void put(uint8_t kind, uint8_t op, uint8_t p, uint8_t q, uint16_t n)
-{
-    const uint8_t row[FINURAHO_ROW_BYTES] = {kind, op, p, q, (uint8_t)(n % 256), (uint8_t)(n / 256)};
-    memcpy(rows + length, row, sizeof row);
-    length += sizeof row;
-}
-
-static void put_many(int count, uint8_t kind)
-{
-    int i;
-    for (i = 0; i < count; i++)
-        put(kind, 0, 0, 0, 0);
-}
-
-/* 01's example: v0 = 2, then v1 is taken away from it until it is 0. */
-static void put_example(void)
-{
-    length = 0;
-    put(FINURAHO_ROW_FUNCTION, 0, 0, 0, 0);
-    put(FINURAHO_ROW_DO, FINURAHO_DO_NUMBER, 0, 0, 2);
-    put(FINURAHO_ROW_LOOP, FINURAHO_TEST_DIFFERS, 0, 0, 0);
-    put(FINURAHO_ROW_DO, FINURAHO_DO_SUBTRACT, 0, 1, 0);
-    put_many(2, FINURAHO_ROW_END);
 }
 
 static size_t put_hardened(void)

@@ -1,16 +1,12 @@
 /* Runs each call of the header on a painted stack and sees how far down it is written, for small, large, deep and refused tables. No
  * call may take more than the header says. */
 #define _XOPEN_SOURCE 700
-#include <finuraho.h>
+#include "../rows.h"
 #include <stdio.h>
-#include <string.h>
 #include <ucontext.h>
 
 #define BUDGET 5000
 
-/* Sixteen rows beyond the largest table, for one that is refused. */
-static uint8_t rows[FINURAHO_MAX_SOURCE_BYTES + 16 * FINURAHO_ROW_BYTES];
-static size_t length;
 static uint8_t lines[FINURAHO_MAX_HARDENED_BYTES];
 static size_t lines_length;
 static uint8_t out[FINURAHO_MAX_HARDENED_BYTES];
@@ -125,20 +121,6 @@ static void measure(void)
 
 /* ---- the tables */
 
-static void put(uint8_t kind, uint8_t op, uint8_t p, uint8_t q, uint16_t n)
-{
-    const uint8_t row[FINURAHO_ROW_BYTES] = {kind, op, p, q, (uint8_t)(n % 256), (uint8_t)(n / 256)};
-    memcpy(rows + length, row, sizeof row);
-    length += sizeof row;
-}
-
-static void put_many(int count, uint8_t kind)
-{
-    int i;
-    for (i = 0; i < count; i++)
-        put(kind, 0, 0, 0, 0);
-}
-
 /* Measures the table that is there, then its hardening with one byte changed. */
 static void measure_table(void)
 {
@@ -159,15 +141,9 @@ static void tiny(void)
     measure_table();
 }
 
-/* 01's example: v0 = 2, then v1 is taken away from it until it is 0. */
 static void example(void)
 {
-    length = 0;
-    put(FINURAHO_ROW_FUNCTION, 0, 0, 0, 0);
-    put(FINURAHO_ROW_DO, 0, 0, 0, 2);
-    put(FINURAHO_ROW_LOOP, 1, 0, 0, 0);
-    put(FINURAHO_ROW_DO, 3, 0, 1, 0);
-    put_many(2, FINURAHO_ROW_END);
+    put_example();
     measure_table();
 }
 
