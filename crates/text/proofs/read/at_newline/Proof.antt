@@ -8,10 +8,14 @@ spoilt-requires : tie.Need-spoilt-requires
 spoilt-requires c κs = search needs
 
 returns : tie.Need-returns
-returns c = rw (ne-eqb _ _ (c .before .if1 .taken)) (c .spoilt .ensures)
+returns c =
+    let given = c .before .before .before .args in
+    rw (ne-eqb (given .r .column) (given .digits) (c .before .if1 .taken)) (c .spoilt .ensures)
 
 returns-2 : tie.Need-returns-2
-returns-2 c = rw (eq-eqb _ _ (c .if1 .left))
+returns-2 c =
+    let given = c .before .before .args in
+    rw (eq-eqb (given .r .column) (given .digits) (c .if1 .left))
 
 pub at-newline-spec : {M : Type 1} → statement M
 at-newline-spec = tie.close (tie.spec spoilt-requires returns returns-2)
