@@ -6,9 +6,10 @@ use Prim.Native.Nat.{ℕ, suc, _+_, _-_, _≤_, _<_}
 use native.Mathlib.Omega.{arith}
 use lib.ListN.{length, getD}
 use borrow.Author.Tests.{ltb-true}
+use Rattle.rules.specs.declared.operands.Operands.{Operands}
 use Rattle.rules.specs.declared.kind.Kind.{Kind}
 use Rattle.rules.specs.declared.kind.Kind.the-variants.{Do, If, Else, Loop}
-use Rattle.rules.specs.Row.{Table, Operands, tableOf, kindAt, operandsAt}
+use Rattle.rules.specs.Row.{Table, tableOf, kindAt, operandsAt}
 use Rattle.rules.specs.Scan.{Open, openAt, regions, bodyRegion, openerOf, local, endOf, elseOf}
 use Rattle.rules.specs.Value.{base}
 use Rattle.rules.specs.Check.{isOutside, misplacedIn}

@@ -2,7 +2,7 @@
 use Prim.Native.Nat.{ℕ, _+_}
 use mathlib.Core.List.{List, _++_}
 use lib.ListN.{take, drop}
-use Rattle.rules.specs.Row.{Operands}
+use Rattle.rules.specs.declared.operands.Operands.{Operands}
 use Rattle.rules.specs.Line.{Line, doLine, tickLine, testLine, leaveLine, outLine, callLine, backLine, retLine, twenty, noOperands}
 use Rattle.hardener.specs.declared.line.Line as Declared
 

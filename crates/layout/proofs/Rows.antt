@@ -6,10 +6,11 @@ use Prim.Native.Nat.{ℕ, _+_, _*_, _/_, _<_}
 use native.Mathlib.Omega.{arith}
 use lib.ListN.{length, getD}
 use borrow.Author.Tests.{ne-eqb}
+use Rattle.rules.specs.declared.operands.Operands.{Operands}
 use Rattle.rules.specs.declared.kind.Kind.{Kind}
 use Rattle.rules.specs.declared.kind.Kind.the-variants.{Unknown}
 use Rattle.rules.specs.Bytes.{wordAt}
-use Rattle.rules.specs.Row.{Operands, kindOf, rowIn, tableOf, rowAt, kindAt, operandsAt}
+use Rattle.rules.specs.Row.{kindOf, rowIn, tableOf, rowAt, kindAt, operandsAt}
 use Rattle.rules.proofs.Accepted.{table-length}
 use Rattle.rules.proofs.FieldBound.{row-at}
 

@@ -1,5 +1,5 @@
 -- The fields that the code reads from a row, as the definitions' operands.
-use Rattle.rules.specs.Row.{Operands}
+use Rattle.rules.specs.declared.operands.Operands.{Operands}
 use Rattle.layout.specs.declared.row.Fields.{Fields}
 
 abbrev pub operandsOf : Fields → Operands

@@ -8,11 +8,12 @@ use lib.ListN.{length}
 use types.Run.{OneOf}
 use denote.Enum.Declared.{tagOf}
 use Rattle.rules.proofs.step.Step.{the-type}
+use Rattle.rules.specs.declared.strike.Strike.the-variants.{None}
 use Rattle.rules.specs.declared.step.Step.{Step}
 use Rattle.rules.specs.declared.step.Step.the-variants.{Went, Finished, Alarm, TooManyOpen, Beyond}
 use Rattle.rules.specs.Line.{Line, linesIn}
 use Rattle.rules.specs.Run.{Turn, on, ends, untaken, Answer, after, run}
-use Rattle.rules.specs.Hardened.{Counters, Hardened, hardenedStep, none, strikingStep}
+use Rattle.rules.specs.Hardened.{Counters, Hardened, hardenedStep, strikingStep}
 use Rattle.machine.specs.declared.machine.Hot.{Hot}
 use Rattle.machine.specs.Ready.{CanStep}
 use Rattle.machine.specs.Step.{Map, Parts, partsOf, After, stepOf}
@@ -137,7 +138,7 @@ ended-by ls held p k n a f g (ends o s) r ih =
 ended-by ls held p k n a f g (untaken o s) r ih = absurd r
 
 pub run-agrees : (bs : List ℕ) (m : Map) → Ready bs m → (held : List ℕ) (b k : ℕ) (p : Parts) (s : Hardened) → Stands (linesIn bs) held p s → p .hot .steps ≡ k
-    → p .hot .traced ≤ k → k + b ≤ length held → Ended (linesIn bs) held (runOf bs m b p) (run (strikingStep (linesIn bs) none) b k s)
+    → p .hot .traced ≤ k → k + b ≤ length held → Ended (linesIn bs) held (runOf bs m b p) (run (strikingStep (linesIn bs) None) b k s)
 unfolding runOf run
 run-agrees bs m rd held zero k p s st n d h =
     record {
@@ -153,8 +154,8 @@ run-agrees bs m rd held (suc b) k p s st n d h =
     (λ j s′ z r. next j s′ r (went-same (sym (r .went) ∙ z)) (λ p′ s″ st′ n′ d′. run-agrees bs m rd held b (suc k) p′ s″ st′ n′ d′ (omega arith)))
   where
     next : (j : ℕ) (s′ : Hardened) (r : GoesOn (linesIn bs) held (p .hot .traced) (stepOf bs m p) s′) → r .place ≡ j
-        → ((p′ : Parts) (s″ : Hardened) → Stands (linesIn bs) held p′ s″ → p′ .hot .steps ≡ suc k → p′ .hot .traced ≤ suc k → Ended (linesIn bs) held (runOf bs m b p′) (run (strikingStep (linesIn bs) none) b (suc k) s″))
-        → Ended (linesIn bs) held (runOf bs m b (partsAt (stepOf bs m p .parts) j (p .hot .steps + 1))) (run (strikingStep (linesIn bs) none) b (suc k) s′)
+        → ((p′ : Parts) (s″ : Hardened) → Stands (linesIn bs) held p′ s″ → p′ .hot .steps ≡ suc k → p′ .hot .traced ≤ suc k → Ended (linesIn bs) held (runOf bs m b p′) (run (strikingStep (linesIn bs) None) b (suc k) s″))
+        → Ended (linesIn bs) held (runOf bs m b (partsAt (stepOf bs m p .parts) j (p .hot .steps + 1))) (run (strikingStep (linesIn bs) None) b (suc k) s′)
     next j s′ r e ih =
         ih (partsAt (stepOf bs m p .parts) j (p .hot .steps + 1)) s′
         (subst (λ i. Stands (linesIn bs) held (partsAt (stepOf bs m p .parts) i (p .hot .steps + 1)) s′) e (r .stands (p .hot .steps + 1))) (omega arith) (omega (arith, r .traced-more))

@@ -8,6 +8,7 @@ use native.Mathlib.Omega.{arith}
 use lib.Dec.{eqb, leb}
 use lib.ListN.{length, getD}
 use borrow.Author.Tests.{eq-eqb, ne-eqb, leb-true, leb-false, le-ltb, le-leb, lt-leb}
+use Rattle.rules.specs.declared.strike.Strike.the-variants.{None, Jump}
 use Rattle.rules.specs.declared.step.Step.{Step}
 use Rattle.rules.specs.declared.step.Step.the-variants.{Went, Finished, Alarm, TooManyOpen, Beyond}
 use Rattle.rules.specs.Limits.{noStep}
@@ -15,7 +16,7 @@ use Rattle.rules.specs.Line.{Line, linesIn}
 use Rattle.rules.specs.Function.{startOf, finishOf, lastPlace}
 use Rattle.rules.specs.State.{goTo}
 use Rattle.rules.specs.Run.{Turn, on, untaken, next, after, run, outcomeOf}
-use Rattle.rules.specs.Hardened.{Counters, Hardened, hardenedStep, none, jump, strikeBy, placeLine, struck, strikingStep, hardenedStart, hardenedRun}
+use Rattle.rules.specs.Hardened.{Counters, Hardened, hardenedStep, strikeBy, placeLine, struck, strikingStep, hardenedStart, hardenedRun}
 use Rattle.rules.specs.Demands.{before}
 use Rattle.rules.proofs.Jump.{not-now, after-same, not-struck}
 use Rattle.machine.specs.Step.{Map, Parts, After, lastLine, stepOf}
@@ -120,7 +121,7 @@ going-there bs m rd left p g place h =
     }
 
 -- ---- the jump is past
-jump-past : (ls : List Line) (j place b k : ℕ) (s : Hardened) → j < k → run (strikingStep ls (jump j place)) b k s ≡ run (strikingStep ls none) b k s
+jump-past : (ls : List Line) (j place b k : ℕ) (s : Hardened) → j < k → run (strikingStep ls (Jump j place)) b k s ≡ run (strikingStep ls None) b k s
 unfolding run
 jump-past ls j place zero k s h = refl
 jump-past ls j place (suc b) k s h =
@@ -132,7 +133,7 @@ module _ (bs : List ℕ) (m : Map) (rd : Ready bs m) (held : List ℕ) (b k plac
   there = goTo (placeLine (linesIn bs) place s) (s .running .own) s
 
   runs-on : place ≤ placesIn m (p .hot) → Ended (linesIn bs) held (runOf bs m (suc b) (partsAt p (firstLine m (p .hot) + place) (p .hot .steps)))
-      (after k (hardenedStep (linesIn bs) there) (λ s′. run (strikingStep (linesIn bs) (jump k place)) b (suc k) s′))
+      (after k (hardenedStep (linesIn bs) there) (λ s′. run (strikingStep (linesIn bs) (Jump k place)) b (suc k) s′))
   unfolding run there
   runs-on l =
       subst (Ended (linesIn bs) held (runOf bs m (suc b) (partsAt p (firstLine m (p .hot) + place) (p .hot .steps))))
@@ -142,7 +143,7 @@ module _ (bs : List ℕ) (m : Map) (rd : Ready bs m) (held : List ℕ) (b k plac
   by-place : (c : Bool) → leb place (placesIn m (p .hot)) ≡ c
       → Ended (linesIn bs) held (cond c (runOf bs m (suc b) (partsAt p (firstLine m (p .hot) + place) (p .hot .steps))) (record { step = Beyond (placesIn m (p .hot)); parts = p }))
       (after k (next (cond c (on there) (untaken (Beyond (lastPlace (linesIn bs) (s .running .function))) s)) (hardenedStep (linesIn bs)))
-      (λ s′. run (strikingStep (linesIn bs) (jump k place)) b (suc k) s′))
+      (λ s′. run (strikingStep (linesIn bs) (Jump k place)) b (suc k) s′))
   by-place true e = runs-on (leb-true place (placesIn m (p .hot)) e)
   by-place false e =
       record {
@@ -154,13 +155,13 @@ module _ (bs : List ℕ) (m : Map) (rd : Ready bs m) (held : List ℕ) (b k plac
         traced-few = λ j z. absurd (let q : _≡_ {A = ℕ} 0 1 = cc in omega arith);
       }
 
-  land-agrees : Ended (linesIn bs) held (landOf bs m (suc b) place p) (run (strikingStep (linesIn bs) (jump k place)) (suc b) k s)
+  land-agrees : Ended (linesIn bs) held (landOf bs m (suc b) place p) (run (strikingStep (linesIn bs) (Jump k place)) (suc b) k s)
   unfolding run landOf there
   land-agrees =
       rw (eq-eqb k k refl)
       (subst (λ x. Ended (linesIn bs) held (landOf bs m (suc b) place p)
       (after k (next (cond (leb place x) (on there) (untaken (Beyond (lastPlace (linesIn bs) (s .running .function))) s)) (hardenedStep (linesIn bs)))
-      (λ s′. run (strikingStep (linesIn bs) (jump k place)) b (suc k) s′)))
+      (λ s′. run (strikingStep (linesIn bs) (Jump k place)) b (suc k) s′)))
       (places-are bs m rd held p s st) (by-place (leb place (placesIn m (p .hot))) refl))
 
 -- ---- the steps before it
@@ -175,7 +176,7 @@ lands-inside bs m left place (Beyond n) f z e = rw e
 
 module _ (bs : List ℕ) (m : Map) (rd : Ready bs m) (held : List ℕ) (b place : ℕ) where
   abbrev machine : (j : ℕ) → ℕ → Hardened → Turn Counters
-  machine j = strikingStep (linesIn bs) (jump j place)
+  machine j = strikingStep (linesIn bs) (Jump j place)
 
   struck-agrees : (d k : ℕ) (p : Parts) (s : Hardened) → Stands (linesIn bs) held p s → p .hot .steps ≡ k → p .hot .traced ≤ k → k + (d + suc b) ≤ length held
       → Ended (linesIn bs) held (landsAfter bs m (suc b) place (runOf bs m d p)) (run (machine (k + d)) (d + suc b) k s)
@@ -204,7 +205,7 @@ module _ (bs : List ℕ) (m : Map) (rd : Ready bs m) (held : List ℕ) (b place 
 
 -- ---- the whole run
 module _ (bs : List ℕ) (m : Map) (rd : Ready bs m) (held vs : List ℕ) (b k place : ℕ) (p : Parts) (st : Stands (linesIn bs) held p (hardenedStart vs)) (n : p .hot .steps ≡ 0) (t : p .hot .traced ≡ 0) (h : b ≤ length held) (few : b ≤ 65535) where
-  not-held : b ≤ k → hardenedRun (linesIn bs) (strikeBy k place) b vs ≡ hardenedRun (linesIn bs) none b vs
+  not-held : b ≤ k → hardenedRun (linesIn bs) (strikeBy k place) b vs ≡ hardenedRun (linesIn bs) None b vs
   not-held l =
       not-struck (linesIn bs) vs b k place
       (ap (λ x. not (eqb k noStep) && x && eqb (outcomeOf ((before (linesIn bs) vs k) .step)) 0) (le-ltb k b l) ∙ never (not (eqb k noStep)) (eqb (outcomeOf ((before (linesIn bs) vs k) .step)) 0))
@@ -221,11 +222,11 @@ module _ (bs : List ℕ) (m : Map) (rd : Ready bs m) (held vs : List ℕ) (b k p
       let l = leb-false b k e in
       let left : suc (b - suc k) ≡ b - k = omega arith in
       let all : k + suc (b - suc k) ≡ b = omega arith in
-      let q : jump k place ≡ strikeBy k place = rw (ne-eqb k noStep (λ z. less z l)) in
+      let q : Jump k place ≡ strikeBy k place = rw (ne-eqb k noStep (λ z. less z l)) in
       subst (λ x. Ended (linesIn bs) held (landsAfter bs m x place (runOf bs m k p)) (hardenedRun (linesIn bs) (strikeBy k place) b vs)) left
       (subst (λ j. Ended (linesIn bs) held (landsAfter bs m (suc (b - suc k)) place (runOf bs m k p)) (hardenedRun (linesIn bs) j b vs)) q
-      (subst (λ x. Ended (linesIn bs) held (landsAfter bs m (suc (b - suc k)) place (runOf bs m k p)) (run (strikingStep (linesIn bs) (jump k place)) x 0 (hardenedStart vs))) all
-      (subst (λ j. Ended (linesIn bs) held (landsAfter bs m (suc (b - suc k)) place (runOf bs m k p)) (run (strikingStep (linesIn bs) (jump j place)) (k + suc (b - suc k)) 0 (hardenedStart vs))) (zero-add k)
+      (subst (λ x. Ended (linesIn bs) held (landsAfter bs m (suc (b - suc k)) place (runOf bs m k p)) (run (strikingStep (linesIn bs) (Jump k place)) x 0 (hardenedStart vs))) all
+      (subst (λ j. Ended (linesIn bs) held (landsAfter bs m (suc (b - suc k)) place (runOf bs m k p)) (run (strikingStep (linesIn bs) (Jump j place)) (k + suc (b - suc k)) 0 (hardenedStart vs))) (zero-add k)
       (struck-agrees bs m rd held (b - suc k) place k 0 p (hardenedStart vs) st n (omega arith) (omega arith)))))
     where
       less : k ≡ 65535 → k < b → ⊥

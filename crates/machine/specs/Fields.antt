@@ -4,8 +4,8 @@ use mathlib.Core.Bool.{cond}
 use mathlib.Core.List.{List}
 use lib.Dec.{eqb}
 use lib.ListN.{getD}
+use Rattle.rules.specs.declared.operands.Operands.{Operands}
 use Rattle.rules.specs.Bytes.{wordAt}
-use Rattle.rules.specs.Row.{Operands}
 use Rattle.rules.specs.Line.{Line, doLine, tickLine, testLine, leaveLine, outLine, callLine, backLine, retLine, lineWidth}
 use Rattle.machine.specs.declared.fields.Fields.{Fields}
 use Rattle.machine.specs.declared.fields.LineKind.{LineKind}

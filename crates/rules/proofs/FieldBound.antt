@@ -9,8 +9,9 @@ use native.Mathlib.Omega.{arith}
 use lib.ListN.{length}
 use lib.Dec.{eqb, ltb}
 use borrow.Author.Tests.{eqb-true, ltb-true}
+use Rattle.rules.specs.declared.operands.Operands.{Operands}
 use Rattle.rules.specs.Bytes.{AreBytes}
-use Rattle.rules.specs.Row.{Operands, rowWidth, rowIn, rowsFrom, tableOf, rowAt, operandsAt, usesNumber, usesVariable, doUses, testUses}
+use Rattle.rules.specs.Row.{rowWidth, rowIn, rowsFrom, tableOf, rowAt, operandsAt, usesNumber, usesVariable, doUses, testUses}
 use Rattle.rules.specs.Bounds.{Word, VariablesIn}
 use Rattle.rules.proofs.Logic.{and-left, and-right}
 use Rattle.rules.proofs.Accepted.{table-length}

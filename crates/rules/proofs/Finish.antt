@@ -6,6 +6,7 @@ use mathlib.Core.Bool.{cond}
 use mathlib.Core.List.{List}
 use Prim.Native.Nat.{ℕ, zero, suc, _+_, _-_, _≤_}
 use native.Mathlib.Omega.{arith}
+use Rattle.rules.specs.declared.strike.Strike.the-variants.{None}
 use Rattle.rules.specs.declared.kind.Kind.{Kind}
 use Rattle.rules.specs.declared.kind.Kind.the-variants.{Function, Do, If, Else, Loop, End, Break, Continue, Call, Unknown}
 use Rattle.rules.specs.declared.step.Step.{Step}
@@ -122,12 +123,12 @@ unfolding dosIn callsIn
 finishing t ok vs b c = record { finishes = λ o l. (by o l) .0; in-steps = λ o l. (by o l) .1 }
   where
     by : outcomeOf ((sourceRun t b vs) .step) ≡ 1 → (sourceRun t b vs) .steps + dosIn t b vs + callsIn t b vs ≤ c
-        → (outcomeOf ((hardenedRun (harden t) Rattle.rules.specs.Hardened.none c vs) .step) ≡ 1)
-        × ((hardenedRun (harden t) Rattle.rules.specs.Hardened.none c vs) .steps ≡ (sourceRun t b vs) .steps + dosIn t b vs + callsIn t b vs)
+        → (outcomeOf ((hardenedRun (harden t) None c vs) .step) ≡ 1)
+        × ((hardenedRun (harden t) None c vs) .steps ≡ (sourceRun t b vs) .steps + dosIn t b vs + callsIn t b vs)
     by o l =
         let x = c - ((sourceRun t b vs) .steps + dosIn t b vs + callsIn t b vs) in
         let f = finish t ok b (sourceStart vs) 0 0 0 x (hardenedStart vs) (start t ok vs) o in
         let e : c ≡ f .n + dosIn t b vs + callsIn t b vs + 0 + x = omega (arith, f .takes-n) in (
-          ap (λ y. outcomeOf ((hardenedRun (harden t) Rattle.rules.specs.Hardened.none y vs) .step)) e ∙ f .finishes,
-          ap (λ y. (hardenedRun (harden t) Rattle.rules.specs.Hardened.none y vs) .steps) e ∙ f .in-steps ∙ omega (arith, f .takes-n),
+          ap (λ y. outcomeOf ((hardenedRun (harden t) None y vs) .step)) e ∙ f .finishes,
+          ap (λ y. (hardenedRun (harden t) None y vs) .steps) e ∙ f .in-steps ∙ omega (arith, f .takes-n),
         )

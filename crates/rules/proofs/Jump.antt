@@ -9,6 +9,7 @@ use native.Mathlib.Nat.{add-zero, zero-add, suc-add}
 use native.Mathlib.Omega.{arith}
 use lib.Dec.{eqb, ltb}
 use borrow.Author.Tests.{eq-eqb, ne-eqb, eqb-true, eqb-false, ltb-true, ltb-false, lt-ltb, le-ltb, le-leb, lt-leb}
+use Rattle.rules.specs.declared.strike.Strike.the-variants.{None, Jump}
 use Rattle.rules.specs.declared.step.Step.{Step}
 use Rattle.rules.specs.declared.step.Step.the-variants.{Went, Finished, TooManyOpen, Beyond}
 use Rattle.rules.specs.Limits.{maxOpen, noStep}
@@ -18,7 +19,7 @@ use Rattle.rules.specs.Harden.{harden}
 use Rattle.rules.specs.Function.{lastPlace}
 use Rattle.rules.specs.Run.{Turn, on, ends, untaken, next, Answer, after, run, outcomeOf}
 use Rattle.rules.specs.Source.{Source, sourceStart}
-use Rattle.rules.specs.Hardened.{Counters, Hardened, hardenedStep, none, jump, strikeBy, placeLine, struck, strikingStep, hardenedStart, hardenedRun}
+use Rattle.rules.specs.Hardened.{Counters, Hardened, hardenedStep, strikeBy, placeLine, struck, strikingStep, hardenedStart, hardenedRun}
 use Rattle.rules.specs.Match.{guardBetween}
 use Rattle.rules.specs.Demands.{before, strikes, Struck, struckShown, doneAt, caughtFrom, Jumped}
 use Rattle.rules.proofs.Logic.{clash, and-left, and-right, not-true}
@@ -30,7 +31,7 @@ use Rattle.rules.proofs.Unstruck.{lineMachine}
 use Rattle.rules.proofs.Alarm.{Keeps, Caught, at-once, one-later, catches}
 
 -- ---- a step that the jump does not name
-pub not-now : (ls : List Line) (j p k : ℕ) (h : Hardened) → j ≢ k → struck ls (jump j p) k h ≡ on h
+pub not-now : (ls : List Line) (j p k : ℕ) (h : Hardened) → j ≢ k → struck ls (Jump j p) k h ≡ on h
 not-now ls j p k h x = rw (ne-eqb j k x)
 
 pub after-same : (k : ℕ) (r : Turn Counters) (f g : Hardened → Answer Counters) → ((h : Hardened) → f h ≡ g h) → after k r f ≡ after k r g
@@ -39,37 +40,37 @@ after-same k (ends o h) f g e = refl
 after-same k (untaken o h) f g e = refl
 
 -- the jump comes after the budget
-not-reached : (ls : List Line) (j p b k : ℕ) (h : Hardened) → k + b ≤ j → run (strikingStep ls (jump j p)) b k h ≡ run (strikingStep ls none) b k h
+not-reached : (ls : List Line) (j p b k : ℕ) (h : Hardened) → k + b ≤ j → run (strikingStep ls (Jump j p)) b k h ≡ run (strikingStep ls None) b k h
 unfolding run
 not-reached ls j p zero k h l = refl
 not-reached ls j p (suc b) k h l = rw (not-now ls j p k h (omega arith)) (after-same k (hardenedStep ls h) _ _ (λ h′. not-reached ls j p b (suc k) h′ (omega arith)))
 
 -- the run ends before it
-ended-before : (ls : List Line) (j p d b k : ℕ) (h : Hardened) → k + d ≤ j → outcomeOf ((run (strikingStep ls none) d k h) .step) ≢ 0
-    → run (strikingStep ls (jump j p)) (d + b) k h ≡ run (strikingStep ls none) (d + b) k h
+ended-before : (ls : List Line) (j p d b k : ℕ) (h : Hardened) → k + d ≤ j → outcomeOf ((run (strikingStep ls None) d k h) .step) ≢ 0
+    → run (strikingStep ls (Jump j p)) (d + b) k h ≡ run (strikingStep ls None) (d + b) k h
 unfolding run outcomeOf
 ended-before ls j p zero b k h l o = absurd (o refl)
 ended-before ls j p (suc d) b k h l o =
     rw (suc-add d b, not-now ls j p k h (omega arith)) (by (hardenedStep ls h) o (λ h′ o′. ended-before ls j p d b (suc k) h′ (omega arith) o′))
   where
-    by : (r : Turn Counters) → outcomeOf ((after k r (λ h′. run (strikingStep ls none) d (suc k) h′)) .step) ≢ 0
-        → ((h′ : Hardened) → outcomeOf ((run (strikingStep ls none) d (suc k) h′) .step) ≢ 0 → run (strikingStep ls (jump j p)) (d + b) (suc k) h′ ≡ run (strikingStep ls none) (d + b) (suc k) h′)
-        → after k r (λ h′. run (strikingStep ls (jump j p)) (d + b) (suc k) h′) ≡ after k r (λ h′. run (strikingStep ls none) (d + b) (suc k) h′)
+    by : (r : Turn Counters) → outcomeOf ((after k r (λ h′. run (strikingStep ls None) d (suc k) h′)) .step) ≢ 0
+        → ((h′ : Hardened) → outcomeOf ((run (strikingStep ls None) d (suc k) h′) .step) ≢ 0 → run (strikingStep ls (Jump j p)) (d + b) (suc k) h′ ≡ run (strikingStep ls None) (d + b) (suc k) h′)
+        → after k r (λ h′. run (strikingStep ls (Jump j p)) (d + b) (suc k) h′) ≡ after k r (λ h′. run (strikingStep ls None) (d + b) (suc k) h′)
     by (on h′) o ih = ih h′ o
     by (ends x h′) o ih = refl
     by (untaken x h′) o ih = refl
 
 not-struck-by : (ls : List Line) (vs : List ℕ) (b k p : ℕ) → (x y z : Bool) → eqb k noStep ≡ x → ltb k b ≡ y → eqb (outcomeOf ((before ls vs k) .step)) 0 ≡ z → not x && y && z ≡ false
-    → hardenedRun ls (cond x none (jump k p)) b vs ≡ hardenedRun ls none b vs
+    → hardenedRun ls (cond x None (Jump k p)) b vs ≡ hardenedRun ls None b vs
 not-struck-by ls vs b k p true y z ex ey ez e = refl
 not-struck-by ls vs b k p false false z ex ey ez e = not-reached ls k p b 0 (hardenedStart vs) (omega (arith, ltb-false k b ey))
 not-struck-by ls vs b k p false true true ex ey ez e = clash {b = true} refl e
 not-struck-by ls vs b k p false true false ex ey ez e =
     let l = ltb-true k b ey in
     let q : b ≡ k + (b - k) = omega arith in
-    ap (λ y. hardenedRun ls (jump k p) y vs) q ∙ ended-before ls k p k (b - k) 0 (hardenedStart vs) (omega arith) (eqb-false _ _ ez) ∙ ap (λ y. hardenedRun ls none y vs) (sym q)
+    ap (λ y. hardenedRun ls (Jump k p) y vs) q ∙ ended-before ls k p k (b - k) 0 (hardenedStart vs) (omega arith) (eqb-false _ _ ez) ∙ ap (λ y. hardenedRun ls None y vs) (sym q)
 
-pub not-struck : (ls : List Line) (vs : List ℕ) (b k p : ℕ) → strikes ls vs b k ≡ false → hardenedRun ls (strikeBy k p) b vs ≡ hardenedRun ls none b vs
+pub not-struck : (ls : List Line) (vs : List ℕ) (b k p : ℕ) → strikes ls vs b k ≡ false → hardenedRun ls (strikeBy k p) b vs ≡ hardenedRun ls None b vs
 not-struck ls vs b k p e = not-struck-by ls vs b k p (eqb k noStep) (ltb k b) (eqb (outcomeOf ((before ls vs k) .step)) 0) refl refl refl e
 
 -- ---- the state before step k + d of an unstruck run that has not ended, and a run with a jump there up to it
@@ -79,7 +80,7 @@ record Reached (t : Table) (d k p : ℕ) (h : Hardened) : Type 0 where
   owed : ℕ
   related : Related t owed s′ h′
   plainly : run (lineMachine t) d k h ≡ record { step = Went (h′ .running .at); steps = k + d; state = h′ }
-  likewise : (b : ℕ) → run (strikingStep (harden t) (jump (k + d) p)) (d + b) k h ≡ run (strikingStep (harden t) (jump (k + d) p)) b (k + d) h′
+  likewise : (b : ℕ) → run (strikingStep (harden t) (Jump (k + d) p)) (d + b) k h ≡ run (strikingStep (harden t) (Jump (k + d) p)) b (k + d) h′
 
 end-not-zero : (o : Step) → (o ≡ Finished) ⊎ (o ≡ TooManyOpen maxOpen) → outcomeOf o ≡ 0 → ⊥
 unfolding outcomeOf
@@ -102,7 +103,7 @@ reach t ok p (suc d) k x₀ s h r o = by (Simulate.next t ok x₀ s h r) o (λ x
           related = x .related;
           plainly = rw e (x .plainly ∙ ap (λ y. record { step = Went (x .h′ .running .at); steps = y; state = x .h′ }) sh);
           likewise = λ b. rw (suc-add d b, not-now (harden t) (k + suc d) p k h (omega arith), e)
-              (subst (λ y. run (strikingStep (harden t) (jump y p)) (d + b) (suc k) h′ ≡ run (strikingStep (harden t) (jump y p)) b y (x .h′)) sh (x .likewise b));
+              (subst (λ y. run (strikingStep (harden t) (Jump y p)) (d + b) (suc k) h′ ≡ run (strikingStep (harden t) (Jump y p)) b y (x .h′)) sh (x .likewise b));
         }
 
     by : Next t x₀ s h → outcomeOf ((after k (hardenedStep (harden t) h) (λ h′. run (lineMachine t) d (suc k) h′)) .step) ≡ 0
@@ -112,14 +113,14 @@ reach t ok p (suc d) k x₀ s h r o = by (Simulate.next t ok x₀ s h r) o (λ x
     by (waits q h′ d′ eh r′ de) o ih = one-step h′ eh (ih d′ s h′ r′ (rw eh at o))
 
 -- ---- the struck step, and the one after it
-struck-on : (ls : List Line) (p k : ℕ) (h : Hardened) → p ≤ lastPlace ls (h .running .function) → struck ls (jump k p) k h ≡ on (Rattle.rules.specs.State.goTo (placeLine ls p h) (h .running .own) h)
+struck-on : (ls : List Line) (p k : ℕ) (h : Hardened) → p ≤ lastPlace ls (h .running .function) → struck ls (Jump k p) k h ≡ on (Rattle.rules.specs.State.goTo (placeLine ls p h) (h .running .own) h)
 struck-on ls p k h l = rw (eq-eqb k k refl, le-leb p (lastPlace ls (h .running .function)) l)
 
-struck-beyond : (ls : List Line) (p k : ℕ) (h : Hardened) → lastPlace ls (h .running .function) < p → struck ls (jump k p) k h ≡ untaken (Beyond (lastPlace ls (h .running .function))) h
+struck-beyond : (ls : List Line) (p k : ℕ) (h : Hardened) → lastPlace ls (h .running .function) < p → struck ls (Jump k p) k h ≡ untaken (Beyond (lastPlace ls (h .running .function))) h
 struck-beyond ls p k h l = rw (eq-eqb k k refl, lt-leb p (lastPlace ls (h .running .function)) l)
 
 beyond-from : (t : Table) (p k b : ℕ) (h : Hardened) → lastPlace (harden t) (h .running .function) < p
-    → run (strikingStep (harden t) (jump k p)) (suc b) k h ≡ record { step = Beyond (lastPlace (harden t) (h .running .function)); steps = k; state = h }
+    → run (strikingStep (harden t) (Jump k p)) (suc b) k h ≡ record { step = Beyond (lastPlace (harden t) (h .running .function)); steps = k; state = h }
 unfolding run
 beyond-from t p k b h l = rw (struck-beyond (harden t) p k h l)
 
@@ -127,7 +128,7 @@ shown-of : (o n : ℕ) (h s : Hardened) → Keeps h s → _≡_ {A = Struck} (re
 shown-of o n h s q = rw (q .vars-are, q .trace-is)
 
 caught-from : (t : Table) (p k b : ℕ) (s : Hardened) → p ≤ lastPlace (harden t) (s .running .function) → Caught t p s
-    → struckShown (run (strikingStep (harden t) (jump k p)) (suc b) k s) ≡ caughtFrom (harden t) (k + suc b) k p s
+    → struckShown (run (strikingStep (harden t) (Jump k p)) (suc b) k s) ≡ caughtFrom (harden t) (k + suc b) k p s
 unfolding run caughtFrom outcomeOf
 caught-from t p k b s l (at-once x h e q) =
     rw (struck-on (harden t) p k s l, e, x k, lt-ltb k (k + suc b) (omega arith)) (shown-of 2 (suc k) h (doneAt (harden t) p s) q)
@@ -140,7 +141,7 @@ caught-from t p k (suc b) s l (one-later x h g e₁ e₂ q r) =
 
 -- ---- from the start
 module _ (t : Table) (ok : Proper t) (vs : List ℕ) (b k p : ℕ) (e : strikes (harden t) vs b k ≡ true) where
-  is-jump : strikeBy k p ≡ jump k p
+  is-jump : strikeBy k p ≡ Jump k p
   is-jump = rw (not-true (eqb k noStep) (and-left (not (eqb k noStep)) (ltb k b) (and-left _ (eqb (outcomeOf ((before (harden t) vs k) .step)) 0) e)))
 
   in-budget : k < b
@@ -153,12 +154,12 @@ module _ (t : Table) (ok : Proper t) (vs : List ℕ) (b k p : ℕ) (e : strikes 
   state-is = ap (λ y. y .state) (there .plainly)
 
   -- the run with the jump, from step k on
-  from-there : hardenedRun (harden t) (strikeBy k p) b vs ≡ run (strikingStep (harden t) (jump k p)) (suc (b - suc k)) k (there .h′)
+  from-there : hardenedRun (harden t) (strikeBy k p) b vs ≡ run (strikingStep (harden t) (Jump k p)) (suc (b - suc k)) k (there .h′)
   unfolding is-jump in-budget
   from-there =
       let q : b ≡ k + suc (b - suc k) = omega (arith, in-budget) in
-      ap (λ y. hardenedRun (harden t) y b vs) is-jump ∙ ap (λ y. hardenedRun (harden t) (jump k p) y vs) q
-      ∙ subst (λ y. run (strikingStep (harden t) (jump y p)) (k + suc (b - suc k)) 0 (hardenedStart vs) ≡ run (strikingStep (harden t) (jump y p)) (suc (b - suc k)) y (there .h′)) (zero-add k) (there .likewise (suc (b - suc k)))
+      ap (λ y. hardenedRun (harden t) y b vs) is-jump ∙ ap (λ y. hardenedRun (harden t) (Jump k p) y vs) q
+      ∙ subst (λ y. run (strikingStep (harden t) (Jump y p)) (k + suc (b - suc k)) 0 (hardenedStart vs) ≡ run (strikingStep (harden t) (Jump y p)) (suc (b - suc k)) y (there .h′)) (zero-add k) (there .likewise (suc (b - suc k)))
 
   pub beyond : lastPlace (harden t) ((before (harden t) vs k) .state .running .function) < p
       → hardenedRun (harden t) (strikeBy k p) b vs ≡ record { step = Beyond (lastPlace (harden t) ((before (harden t) vs k) .state .running .function)); steps = k; state = (before (harden t) vs k) .state }

@@ -6,6 +6,7 @@ use Prim.Native.Nat.{ℕ, _≤_, _<_}
 use native.Mathlib.Omega.{arith}
 use lib.ListN.{length, take, drop}
 use lib.Seq.{take-append-seam}
+use Rattle.rules.specs.declared.strike.Strike.the-variants.{None}
 use Rattle.rules.specs.declared.refusal.Refusal.the-variants.{NotHardened}
 use Rattle.rules.specs.declared.refusal.Verdict.{Verdict}
 use Rattle.rules.specs.declared.refusal.Verdict.the-variants.{Accepted, Refused}
@@ -15,7 +16,7 @@ use Rattle.rules.specs.Line.{linesIn}
 use Rattle.rules.specs.ReadBack.{isHardened}
 use Rattle.rules.specs.State.{openFunctions}
 use Rattle.rules.specs.Run.{Answer, outcomeOf}
-use Rattle.rules.specs.Hardened.{Counters, none, strikeBy, hardenedRun}
+use Rattle.rules.specs.Hardened.{Counters, strikeBy, hardenedRun}
 use Rattle.rules.specs.Match.{shown}
 use Rattle.rules.specs.Demands.{Struck, strikes, struckShown, caughtFrom, Demand3}
 use Rattle.rules.specs.Calls.{Running, running, HardenedRunning, hardenedVerdict, notHardened, runHardenedCall}
@@ -76,7 +77,7 @@ module _ (lines vars : List ℕ) (b k p : ℕ) (slots words : List ℕ) where
   as-source e n =
       let d = demand e in
       let s = seen-is (accepted e) in
-      let q : ran ≡ hardenedRun (linesIn lines) none b vars = d .jumped .not-struck n in
+      let q : ran ≡ hardenedRun (linesIn lines) None b vars = d .jumped .not-struck n in
       let u = d .unstruck .as-source in
       record {
         outcome-is = ap (λ x. x .outcome) s ∙ ap (λ a. outcomeOf (a .step)) q ∙ ap (λ x. x .outcome) u;

@@ -10,9 +10,10 @@ use native.Mathlib.Omega.{arith}
 use lib.ListN.{length}
 use lib.Dec.{ltb}
 use borrow.Author.Tests.{eqb-true, eq-eqb, ne-eqb, ltb-true, lt-ltb, le-ltb}
+use Rattle.rules.specs.declared.operands.Operands.{Operands}
 use Rattle.rules.specs.declared.kind.Kind.{Kind}
 use Rattle.rules.specs.declared.kind.Kind.the-variants.{Function, Do, If, Else, Loop, End, Break, Continue, Call, Unknown}
-use Rattle.rules.specs.Row.{Operands, Row, Table, rowAt, kindAt, operandsAt, isUnused, usesNone, usesFunction, fieldsFit}
+use Rattle.rules.specs.Row.{Row, Table, rowAt, kindAt, operandsAt, isUnused, usesNone, usesFunction, fieldsFit}
 use Rattle.rules.specs.Scan.{Part, body, thenPart, elsePart, loopBody, Open, Shape, pushes, turns, closes, stays, shapeOf, openAfter, regions, openAt, partOf, openerOf, isLoopBody, fromLoop, endOf, elseOf, hasElse}
 use Rattle.rules.specs.Check.{isOutside, misplacedIn}
 use Rattle.rules.specs.Line.{noOperands, lineAt}

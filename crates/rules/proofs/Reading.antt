@@ -9,11 +9,12 @@ use native.Mathlib.Omega.{arith}
 use lib.ListN.{length, getD}
 use lib.Dec.{eqb, ltb}
 use borrow.Author.Tests.{eqb-true, ltb-true}
+use Rattle.rules.specs.declared.operands.Operands.{Operands}
 use Rattle.rules.specs.declared.kind.Kind.{Kind}
 use Rattle.rules.specs.declared.kind.Kind.the-variants.{Function, Do, If, Else, Loop, End, Break, Continue, Call, Unknown}
 use Rattle.rules.specs.declared.refusal.Verdict.the-variants.{Accepted}
 use Rattle.rules.specs.Bytes.{AreBytes, wordAt, same}
-use Rattle.rules.specs.Row.{Operands, Row, Table, kindByte, rowBytes, tableBytes, tableOf, kindAt, operandsAt, isVariable, usesNone, usesNumber, usesVariable, usesFunction, fieldsFit}
+use Rattle.rules.specs.Row.{Row, Table, kindByte, rowBytes, tableBytes, tableOf, kindAt, operandsAt, isVariable, usesNone, usesNumber, usesVariable, usesFunction, fieldsFit}
 use Rattle.rules.specs.Scan.{Open, openAt, hasElse, isFunction, functions}
 use Rattle.rules.specs.Refusal.{isAccepted}
 use Rattle.rules.specs.Check.{verdictOf}

@@ -7,9 +7,10 @@ use native.Mathlib.Omega.{arith}
 use lib.ListN.{length}
 use lib.Dec.{eqb}
 use borrow.Author.Tests.{ltb-true}
+use Rattle.rules.specs.declared.operands.Operands.{Operands}
 use Rattle.rules.specs.declared.kind.Kind.{Kind}
 use Rattle.rules.specs.declared.kind.Kind.the-variants.{Do, If, Loop}
-use Rattle.rules.specs.Row.{Operands, Table, kindAt, operandsAt}
+use Rattle.rules.specs.Row.{Table, kindAt, operandsAt}
 use Rattle.rules.specs.Scan.{Part, thenPart, loopBody, Open, pushes, shapeOf, openAfter, regions, openAt, bodyRegion, endOf, elseOf, hasElse}
 use Rattle.rules.specs.Value.{past, takes, base, value}
 use Rattle.rules.specs.Line.{Line, doLine, testLine, lineAt}

@@ -5,6 +5,7 @@ use mathlib.Core.Path.{_≡_, refl, sym, ap, _∙_}
 use mathlib.Core.List.{List, [], _∷_, _++_}
 use Prim.Native.Nat.{ℕ, zero, suc, _+_}
 use native.Mathlib.Omega.{arith}
+use Rattle.rules.specs.declared.strike.Strike.the-variants.{None}
 use Rattle.rules.specs.declared.step.Step.{Step}
 use Rattle.rules.specs.declared.step.Step.the-variants.{Finished, TooManyOpen}
 use Rattle.rules.specs.Limits.{maxOpen}
@@ -13,7 +14,7 @@ use Rattle.rules.specs.Harden.{harden}
 use Rattle.rules.specs.State.{State, numbersOf, openFunctions}
 use Rattle.rules.specs.Run.{Turn, run, tally, outcomeOf}
 use Rattle.rules.specs.Source.{Source, sourceStep, sourceStart, sourceRun}
-use Rattle.rules.specs.Hardened.{Counters, Hardened, none, strikingStep, hardenedStart}
+use Rattle.rules.specs.Hardened.{Counters, Hardened, strikingStep, hardenedStart}
 use Rattle.rules.specs.Match.{Shown, shown, quietAt, matching}
 use Rattle.rules.specs.Demands.{Unstruck}
 use Rattle.rules.proofs.Accepted.{Proper}
@@ -25,7 +26,7 @@ abbrev pub sourceMachine : Table → ℕ → Source → Turn (Unit {0})
 sourceMachine t k s = sourceStep t s
 
 abbrev pub lineMachine : Table → ℕ → Hardened → Turn Counters
-lineMachine t = strikingStep (harden t) none
+lineMachine t = strikingStep (harden t) None
 
 -- ---- what an end and a spent budget show
 backs-numbers : (t : Table) (bs : List Back) → numbersOf (lineBacks t bs) ≡ numbersOf (sourceBacks bs)

@@ -2,7 +2,7 @@
 use Prim.Native.Nat.{ℕ}
 use mathlib.Core.Path.{_≡_}
 use mathlib.Core.Bool.{true, false}
-use Rattle.rules.specs.Row.{Operands}
+use Rattle.rules.specs.declared.operands.Operands.{Operands}
 use Rattle.rules.specs.Variables.{doneOn, holdsOn}
 use Rattle.rules.specs.Listing.{variables}
 

@@ -3,10 +3,11 @@ use Prim.Native.Nat.{ℕ, suc, _*_, _≤_, _<_}
 use mathlib.Core.Path.{_≡_}
 use mathlib.Core.List.{List}
 use lib.ListN.{length}
+use Rattle.rules.specs.declared.operands.Operands.{Operands}
 use Rattle.rules.specs.declared.refusal.Verdict.the-variants.{Accepted}
 use Rattle.rules.specs.Limits.{maxRows, maxFunctions, maxRegions}
 use Rattle.rules.specs.Bytes.{AreBytes}
-use Rattle.rules.specs.Row.{Operands, tableOf}
+use Rattle.rules.specs.Row.{tableOf}
 use Rattle.rules.specs.Check.{verdictOf}
 use Rattle.rules.specs.Line.{Line, doLine, tickLine, testLine, leaveLine, outLine, callLine, backLine, retLine, lineAt}
 use Rattle.rules.specs.Function.{functionAt, startOf, finishOf}

@@ -24,6 +24,7 @@ use mathlib.Core.Path.{_≡_}
 use mathlib.Core.Bool.{Bool, true, false, cond, not, _&&_}
 use mathlib.Core.List.{List}
 use lib.Dec.{eqb, ltb}
+use Rattle.rules.specs.declared.strike.Strike.the-variants.{None}
 use Rattle.rules.specs.declared.step.Step.the-variants.{Beyond}
 use Rattle.rules.specs.Limits.{noStep}
 use Rattle.rules.specs.Row.{Table, tableOf}
@@ -33,26 +34,26 @@ use Rattle.rules.specs.ReadBack.{sourceBytes, isHardened}
 use Rattle.rules.specs.State.{did, depth}
 use Rattle.rules.specs.Run.{Answer, outcomeOf}
 use Rattle.rules.specs.Source.{sourceRun}
-use Rattle.rules.specs.Hardened.{Counters, Hardened, none, strikeBy, placeLine, hardenedRun}
+use Rattle.rules.specs.Hardened.{Counters, Hardened, strikeBy, placeLine, hardenedRun}
 use Rattle.rules.specs.Match.{shown, matching, dosIn, callsIn, guardBetween}
 
 -- ---- unstruck
 pub record Unstruck (ls : List Line) (t : Table) (vs : List ℕ) (b : ℕ) : Type 0 where
-  pub as-source : shown (hardenedRun ls none b vs) ≡ shown (sourceRun t (matching ls b vs) vs)
+  pub as-source : shown (hardenedRun ls None b vs) ≡ shown (sourceRun t (matching ls b vs) vs)
   pub at-matching : (sourceRun t (matching ls b vs) vs) .steps ≡ matching ls b vs
-  pub no-alarm : outcomeOf ((hardenedRun ls none b vs) .step) ≢ 2
+  pub no-alarm : outcomeOf ((hardenedRun ls None b vs) .step) ≢ 2
 
 -- the source's run of budget b finishes, and the hardened run has the budget c for it
 pub record Finishing (ls : List Line) (t : Table) (vs : List ℕ) (b c : ℕ) : Type 0 where
   pub finishes : outcomeOf ((sourceRun t b vs) .step) ≡ 1 → (sourceRun t b vs) .steps + dosIn t b vs + callsIn t b vs ≤ c
-      → outcomeOf ((hardenedRun ls none c vs) .step) ≡ 1
+      → outcomeOf ((hardenedRun ls None c vs) .step) ≡ 1
   pub in-steps : outcomeOf ((sourceRun t b vs) .step) ≡ 1 → (sourceRun t b vs) .steps + dosIn t b vs + callsIn t b vs ≤ c
-      → (hardenedRun ls none c vs) .steps ≡ (sourceRun t b vs) .steps + dosIn t b vs + callsIn t b vs
+      → (hardenedRun ls None c vs) .steps ≡ (sourceRun t b vs) .steps + dosIn t b vs + callsIn t b vs
 
 -- ---- a jump before step k
 -- what the first k steps of the unstruck run come to
 abbrev pub before : List Line → (vs : List ℕ) → (k : ℕ) → Answer Counters
-before ls vs k = hardenedRun ls none k vs
+before ls vs k = hardenedRun ls None k vs
 
 -- "a run that ends before k, or whose budget is k, is not struck"; "k = 65,535 is no jump"
 abbrev pub strikes : List Line → (vs : List ℕ) → (b k : ℕ) → Bool
@@ -106,7 +107,7 @@ unfoldable pub caughtFrom : List Line → (b k place : ℕ) → Hardened → Str
 caughtFrom ls b k p s = alarmIn (alarmStep ls p k s) b (doneAt ls p s)
 
 pub record Jumped (ls : List Line) (vs : List ℕ) (b k p : ℕ) : Type 0 where
-  pub not-struck : strikes ls vs b k ≡ false → hardenedRun ls (strikeBy k p) b vs ≡ hardenedRun ls none b vs
+  pub not-struck : strikes ls vs b k ≡ false → hardenedRun ls (strikeBy k p) b vs ≡ hardenedRun ls None b vs
   pub beyond : strikes ls vs b k ≡ true → lastPlace ls ((before ls vs k) .state .running .function) < p
       → hardenedRun ls (strikeBy k p) b vs
       ≡ record {

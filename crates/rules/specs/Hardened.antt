@@ -4,6 +4,8 @@ use mathlib.Core.Bool.{Bool, true, false, cond, _&&_}
 use mathlib.Core.List.{List, [], _∷_}
 use lib.Dec.{eqb, ltb, leb}
 use Rattle.rules.specs.declared.step.Step.the-variants.{Finished, Alarm, TooManyOpen, Beyond}
+use Rattle.rules.specs.declared.strike.Strike.{Strike}
+use Rattle.rules.specs.declared.strike.Strike.the-variants.{None, Jump}
 use Rattle.rules.specs.Limits.{maxOpen, noStep}
 use Rattle.rules.specs.Variables.{holdsOn}
 use Rattle.rules.specs.State.{Frame, State, begin, goTo, did, opening, returning, depth}
@@ -76,12 +78,8 @@ hardenedStep ls s =
 
 -- What may strike a run. "A jump .. is a step number k and a place: before step k (from 0) the running function goes to that
 -- place. k = 65,535 is no jump"
-pub data Strike : Type 0 where
-  none : Strike
-  jump : (k place : ℕ) → Strike
-
 abbrev pub strikeBy : (k place : ℕ) → Strike
-strikeBy k p = cond (eqb k noStep) none (jump k p)
+strikeBy k p = cond (eqb k noStep) None (Jump k p)
 
 -- "place i is before line i": the line of the running function's place, as a line number of the table
 abbrev pub placeLine : List Line → (place : ℕ) → Hardened → ℕ
@@ -93,8 +91,8 @@ land ls p s =
     cond (leb p m) (on (goTo (placeLine ls p s) (s .running .own) s)) (untaken (Beyond m) s)
 
 abbrev pub struck : List Line → Strike → (k : ℕ) → Hardened → Turn Counters
-struck ls none k s = on s
-struck ls (jump j p) k s = cond (eqb j k) (land ls p s) (on s)
+struck ls None k s = on s
+struck ls (Jump j p) k s = cond (eqb j k) (land ls p s) (on s)
 
 -- step k of a run that this strikes
 abbrev pub strikingStep : List Line → Strike → (k : ℕ) → Hardened → Turn Counters

@@ -4,8 +4,8 @@ use mathlib.Core.Bool.{Bool, true, false, cond}
 use mathlib.Core.List.{List, [], _∷_, _++_}
 use lib.Dec.{eqb}
 use lib.ListN.{length, getD}
+use Rattle.rules.specs.declared.operands.Operands.{Operands}
 use Rattle.rules.specs.Bytes.{low, high, wordAt}
-use Rattle.rules.specs.Row.{Operands}
 
 -- The fields that are not 0, in 01's order: op, p, q, n; r, s, t; e, a, b, c, go. The r of a ret is 0.
 pub data Line : Type 0 where

@@ -4,6 +4,7 @@ use Prim.Native.Nat.{ℕ, zero, suc, _-_}
 use mathlib.Core.Bool.{Bool, true, false, not, _&&_, _||_}
 use mathlib.Core.List.{List}
 use lib.Dec.{eqb}
+use Rattle.rules.specs.declared.strike.Strike.the-variants.{None}
 use Rattle.rules.specs.declared.kind.Kind.{Kind}
 use Rattle.rules.specs.declared.kind.Kind.the-variants.{Function, Do, If, Else, Loop, End, Break, Continue, Call, Unknown}
 use Rattle.rules.specs.Row.{Table, kindAt}
@@ -13,7 +14,7 @@ use Rattle.rules.specs.Function.{finishOf}
 use Rattle.rules.specs.State.{openFunctions}
 use Rattle.rules.specs.Run.{Answer, outcomeOf, tally}
 use Rattle.rules.specs.Source.{sourceStep, sourceStart}
-use Rattle.rules.specs.Hardened.{Hardened, none, strikingStep, hardenedStart, hardenedRun}
+use Rattle.rules.specs.Hardened.{Hardened, strikingStep, hardenedStart, hardenedRun}
 
 -- what demand 3 compares of a hardened and a source run
 pub record Shown : Type 0 where
@@ -49,7 +50,7 @@ quietAt ls s =
 -- "Matching step: hardened steps less the ticks and backs done."
 unfoldable pub matching : List Line → (budget : ℕ) → (vars : List ℕ) → ℕ
 matching ls b vs =
-    (hardenedRun ls none b vs) .steps - tally (quietAt ls) (strikingStep ls none) b 0 (hardenedStart vs)
+    (hardenedRun ls None b vs) .steps - tally (quietAt ls) (strikingStep ls None) b 0 (hardenedStart vs)
 
 -- "a source run that finishes in n steps with t dos and c calls": those among its first b steps
 abbrev pub isDo : Kind → Bool

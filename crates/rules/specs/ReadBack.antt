@@ -4,10 +4,11 @@ use mathlib.Core.Bool.{Bool, true, false, cond, _&&_}
 use mathlib.Core.List.{List, [], _∷_, _++_}
 use lib.Dec.{eqb, ltb}
 use lib.ListN.{length}
+use Rattle.rules.specs.declared.operands.Operands.{Operands}
 use Rattle.rules.specs.declared.kind.Kind.{Kind}
 use Rattle.rules.specs.declared.kind.Kind.the-variants.{Function, Do, If, Else, Loop, End, Break, Continue, Call}
 use Rattle.rules.specs.Bytes.{same}
-use Rattle.rules.specs.Row.{Operands, Row, Table, tableBytes}
+use Rattle.rules.specs.Row.{Row, Table, tableBytes}
 use Rattle.rules.specs.Refusal.{isAccepted}
 use Rattle.rules.specs.Check.{verdictOf}
 use Rattle.rules.specs.Line.{Line, doLine, tickLine, testLine, leaveLine, outLine, callLine, backLine, retLine, noOperands, lineAt, isRet, linesIn}

@@ -6,14 +6,8 @@ use lib.Dec.{eqb, ltb}
 use lib.ListN.{length, getD}
 use Rattle.rules.specs.declared.kind.Kind.{Kind}
 use Rattle.rules.specs.declared.kind.Kind.the-variants.{Function, Do, If, Else, Loop, End, Break, Continue, Call, Unknown}
+use Rattle.rules.specs.declared.operands.Operands.{Operands}
 use Rattle.rules.specs.Bytes.{low, high, wordAt}
-
--- what a row of any kind has beside its kind
-pub record Operands : Type 0 where
-  pub op : ℕ
-  pub p : ℕ
-  pub q : ℕ
-  pub n : ℕ
 
 pub record Row : Type 0 where
   pub kind : Kind

@@ -4,7 +4,7 @@ use mathlib.Core.Bool.{Bool, cond, not}
 use mathlib.Core.List.{List}
 use lib.Dec.{eqb, ltb}
 use lib.ListN.{getD, set}
-use Rattle.rules.specs.Row.{Operands}
+use Rattle.rules.specs.declared.operands.Operands.{Operands}
 
 -- "2 and 3 modulo 65,536"
 abbrev pub sum : ℕ → ℕ → ℕ

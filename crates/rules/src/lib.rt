@@ -2,6 +2,9 @@
 pub mod answer;
 pub mod bytes;
 pub mod kind;
+pub mod limits;
 pub mod number;
+pub mod operands;
 pub mod refusal;
 pub mod step;
+pub mod strike;

@@ -8,11 +8,12 @@ use native.Mathlib.Omega.{arith}
 use lib.ListN.{length, getD, set}
 use lib.Dec.{eqb}
 use borrow.Author.Tests.{lt-ltb, le-ltb, ne-eqb}
+use Rattle.rules.specs.declared.operands.Operands.{Operands}
 use Rattle.rules.specs.declared.kind.Kind.{Kind}
 use Rattle.rules.specs.declared.kind.Kind.the-variants.{Do, If, Loop, Call}
 use Rattle.rules.specs.declared.step.Step.the-variants.{Finished, TooManyOpen}
 use Rattle.rules.specs.Bytes.{AreBytes}
-use Rattle.rules.specs.Row.{Operands, tableOf, kindAt, operandsAt, fieldsFit}
+use Rattle.rules.specs.Row.{tableOf, kindAt, operandsAt, fieldsFit}
 use Rattle.rules.specs.Bounds.{VariablesIn}
 use Rattle.rules.specs.Variables.{doneOn, holdsOn}
 use Rattle.rules.proofs.Accepted.{proper, table-length}

@@ -9,9 +9,10 @@ use native.Mathlib.Omega.{arith}
 use lib.Dec.{eqb}
 use lib.ListN.{length, drop, take, getD, length-drop}
 use borrow.Author.Tests.{eq-eqb, ne-eqb}
+use Rattle.rules.specs.declared.operands.Operands.{Operands}
 use Rattle.rules.specs.declared.kind.Kind.{Kind}
 use Rattle.rules.specs.declared.kind.Kind.the-variants.{Function, Do, If, Else, Loop, End, Break, Continue, Call, Unknown}
-use Rattle.rules.specs.Row.{Operands, rowWidth, kindOf, rowIn, doUses, fieldsFit}
+use Rattle.rules.specs.Row.{rowWidth, kindOf, rowIn, doUses, fieldsFit}
 use Rattle.rules.specs.Scan.{Open}
 use Rattle.rules.proofs.Logic.{clash}
 use Rattle.table.specs.First.{fields, properKind, firstKind}

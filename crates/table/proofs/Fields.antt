@@ -6,9 +6,10 @@ use mathlib.Core.List.{List}
 use lib.Dec.{leb}
 use lib.ListN.{getD}
 use borrow.Author.Tests.{eq-eqb, ne-eqb, lt-ltb, le-ltb}
+use Rattle.rules.specs.declared.operands.Operands.{Operands}
 use Rattle.rules.specs.declared.kind.Kind.{Kind}
 use Rattle.rules.specs.declared.kind.Kind.the-variants.{Function, Do, If, Else, Loop, End, Break, Continue, Call, Unknown}
-use Rattle.rules.specs.Row.{Operands, kindOf, rowIn, usesNone, usesNumber, usesVariable, usesFunction, doUses, testUses, fieldsFit}
+use Rattle.rules.specs.Row.{kindOf, rowIn, usesNone, usesNumber, usesVariable, usesFunction, doUses, testUses, fieldsFit}
 use Rattle.rules.specs.Check.{isCall}
 use Rattle.table.specs.First.{fields, properKind, firstKind, callsBeyond}
 

@@ -7,9 +7,10 @@ use native.Mathlib.Nat.{add-zero, add-assoc}
 use native.Mathlib.Omega.{arith}
 use lib.ListN.{length, drop, take, length-drop}
 use lib.Seq.{getD-drop, take-all, drop-drop}
+use Rattle.rules.specs.declared.operands.Operands.{Operands}
 use Rattle.rules.specs.declared.kind.Kind.{Kind}
 use Rattle.rules.specs.declared.kind.Kind.the-variants.{Function, Do, If, Else, Loop, End, Break, Continue, Call, Unknown}
-use Rattle.rules.specs.Row.{Row, Operands, rowWidth, rowIn, tableOf, rowAt, kindAt, operandsAt, fieldsFit}
+use Rattle.rules.specs.Row.{Row, rowWidth, rowIn, tableOf, rowAt, kindAt, operandsAt, fieldsFit}
 use Rattle.rules.proofs.Logic.{clash}
 use Rattle.rules.proofs.Accepted.{table-length}
 use Rattle.rules.proofs.FieldBound.{row-at}

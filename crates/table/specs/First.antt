@@ -3,9 +3,10 @@ use Prim.Native.Nat.{ℕ}
 use mathlib.Core.Bool.{Bool, cond, _&&_}
 use mathlib.Core.List.{List}
 use lib.Dec.{leb}
+use Rattle.rules.specs.declared.operands.Operands.{Operands}
 use Rattle.rules.specs.declared.kind.Kind.{Kind}
 use Rattle.rules.specs.declared.kind.Kind.the-variants.{Unknown}
-use Rattle.rules.specs.Row.{Row, Operands, rowIn, fieldsFit}
+use Rattle.rules.specs.Row.{Row, rowIn, fieldsFit}
 use Rattle.rules.specs.Check.{isCall}
 
 abbrev pub fields : (op p q n : ℕ) → Operands
