@@ -1,12 +1,12 @@
 -- The end row and the else row of what a row opens: they are there, and what holds at and after them.
 -- Assumes that the table is accepted, where it says so.
-use mathlib.Core.Logic.{_⊎_, inl, inr}
+use mathlib.Core.Logic.{_≢_, _⊎_, inl, inr}
 use mathlib.Core.Path.{_≡_, refl, sym, ap, _∙_, subst}
 use mathlib.Core.Bool.{Bool, true, false, _&&_}
 use mathlib.Core.List.{List, [], _∷_}
 use Prim.Native.Nat.{ℕ, suc, _+_, _-_, _≤_, _<_}
 use native.Mathlib.Nat.{le-refl, eq-or-lt-of-le}
-use native.Mathlib.Decide.{le-ind}
+use native.Mathlib.Decide.{le-ind, decLt}
 use native.Mathlib.Omega.{arith}
 use lib.ListN.{length}
 use borrow.Author.Tests.{eqb-true, eq-eqb, ltb-true}
@@ -167,3 +167,39 @@ else-is t i l c = by (elseOf t i) (ltb-true (elseOf t i) (length t) c) (found (i
     by : (r : ℕ) → r < length t → Found (isElseOf t i) (length t - i) (suc i) r → Turned t i r
     by r b (hit h a d f) = turned-is t i r h
     by r b (miss q f) = absurd (let z : ⊥ = omega arith in z)
+
+-- ---- what opened a part that is closed does not come back
+abbrev pub NoOpener : ℕ → List Open → Type 0
+NoOpener o [] = Unit {0}
+NoOpener o (f ∷ fs) = (f .opener ≢ o) × NoOpener o fs
+
+no-opener-next : (s : Shape) (o i r : ℕ) (fs : List Open) → o < i → NoOpener o fs → NoOpener o (openAfter s i r fs)
+no-opener-next (pushes p) o i r fs h k = (omega arith, k)
+no-opener-next turns o i r [] h k = tt
+no-opener-next turns o i r (f ∷ fs) h k = k
+no-opener-next closes o i r [] h k = tt
+no-opener-next closes o i r (f ∷ fs) h k = k .1
+no-opener-next stays o i r fs h k = k
+
+no-opener-later : (t : Table) (o i : ℕ) → o < i → NoOpener o (openAt t i) → (j : ℕ) → i ≤ j → NoOpener o (openAt t j)
+unfolding openAt
+no-opener-later t o i l k j h = le-ind (λ m. NoOpener o (openAt t m)) k
+    (λ m a p. no-opener-next (shapeOf (kindAt t m)) o m (regions t m) (openAt t m) (omega arith) p) j h
+
+opened-before : (t : Table) (j : ℕ) (fs : List Open) → AllHeld t j fs → NoOpener j fs
+opened-before t j [] g = tt
+opened-before t j (f ∷ fs) g = (omega (arith, g .0 .before), opened-before t j fs (g .1))
+
+-- a row where a part is open is not past the end of that part
+pub not-past : (t : Table) → Proper t → (o i : ℕ) (p : Part) → o < length t → shapeOf (kindAt t o) ≡ pushes p → (NoOpener o (openAt t i) → ⊥) → i ≤ endOf t o
+not-past t ok o i p l s has = by (decLt (endOf t o) i)
+  where
+    en : EndIs t o (endOf t o)
+    en = end-is t o p ok l s
+
+    closed : NoOpener o (openAt t (suc (endOf t o)))
+    closed = subst (NoOpener o) (sym (closed-is t o (endOf t o) (en .ends) .open-after)) (opened-before t o (openAt t o) (held t o))
+
+    by : Dec (endOf t o < i) → i ≤ endOf t o
+    by (yes h) = absurd (has (no-opener-later t o (suc (endOf t o)) (omega (arith, en .after-it)) closed i h))
+    by (no h) = omega arith

@@ -1,7 +1,7 @@
 -- The lines of a row are its do and its guards. Which counter each guard checks, and for which value; and that a guard whose check
 -- fails raises the alarm. Assumes that the table is accepted, where it says so.
 use mathlib.Core.Path.{_≡_, refl, sym, ap, _∙_}
-use mathlib.Core.Bool.{Bool, true, false}
+use mathlib.Core.Bool.{Bool, true, false, cond}
 use mathlib.Core.List.{List, [], _∷_}
 use Prim.Native.Nat.{ℕ, zero, suc, _+_, _-_, _≤_, _<_}
 use native.Mathlib.Nat.{not-suc-le-zero}
@@ -12,7 +12,7 @@ use Rattle.rules.specs.declared.kind.Kind.the-variants.{Function, Do, If
 use Rattle.rules.specs.declared.step.Step.the-variants.{Alarm}
 use Rattle.rules.specs.Row.{Table, kindAt, operandsAt}
 use Rattle.rules.specs.Scan.{Part, body, thenPart, elsePart, loopBody, Open, pushes, shapeOf, bodyRegion, hasElse}
-use Rattle.rules.specs.Value.{takes, value}
+use Rattle.rules.specs.Value.{inside, takes, value}
 use Rattle.rules.specs.Line.{Line, doLine, tickLine, testLine, leaveLine, outLine, callLine, backLine, retLine, lineAt, isGuard}
 use Rattle.rules.specs.Harden.{lineCount, testOf, endLine, ownRegion, rowLines}
 use Rattle.rules.specs.State.{Frame}
@@ -56,11 +56,12 @@ check-fails ls (callLine r e a b go) n k c rest l vs tr g h = rw h
 check-fails ls (backLine r e a b) n k c rest l vs tr g h = rw h
 check-fails ls (retLine e a) n k c rest l vs tr g h = rw h
 
--- ---- the three kinds of place before a guard: a row's only line, a tick, a back. The guard wants d past the row's value.
-pub data Phase (t : Table) (j ph d : ℕ) : Type 0 where
-  plain : ph ≡ 0 → d ≡ 0 → (kindAt t j ≡ Do → ⊥) → Phase t j ph d
-  at-tick : kindAt t j ≡ Do → ph ≡ 1 → d ≡ 0 → Phase t j ph d
-  at-back : kindAt t j ≡ Call → ph ≡ 1 → d ≡ 1 → Phase t j ph d
+-- ---- the guard of a row that wants d past the row's value: which of the row's lines it is
+abbrev pub phaseOf : Kind → (d : ℕ) → ℕ
+phaseOf k d = cond (isDo k) 1 d
+
+pub at-phase : (t : Table) (j d : ℕ) {k : Kind} → kindAt t j ≡ k → isDo k ≡ false → d ≡ phaseOf (kindAt t j) d
+at-phase t j d {k} e b = sym (ap (λ x. cond x 1 d) (ap isDo e ∙ b))
 
 -- line ph of row j is a guard of the row's own region
 pub record Guards (t : Table) (j : ℕ) (f : Open) (fs : List Open) (ph d : ℕ) (ℓ : Line) : Type 0 where
@@ -68,20 +69,20 @@ pub record Guards (t : Table) (j : ℕ) (f : Open) (fs : List Open) (ph d : ℕ)
   pub at-own : checksAt ℓ ≡ f .region - bodyRegion (f ∷ fs)
   pub for-value : checksFor ℓ ≡ value t (f .region) j + d
   pub within : d ≤ takes (kindAt t j) (f .part) - 1
-  pub at-opener : (p : Part) → shapeOf (kindAt t j) ≡ pushes p → d ≡ 0
-  pub phase : Phase t j ph d
+  pub at-opener : (p : Part) → shapeOf (kindAt t j) ≡ pushes p → d ≡ inside → ⊥
+  pub phase : ph ≡ phaseOf (kindAt t j) d
 
 pub data Sort (t : Table) (j : ℕ) (f : Open) (fs : List Open) (ph : ℕ) (ℓ : Line) : Type 0 where
   a-do : kindAt t j ≡ Do → ph ≡ 0 → ℓ ≡ doLine (operandsAt t j) j → Sort t j f fs ph ℓ
   a-guard : (d : ℕ) → Guards t j f fs ph d ℓ → Sort t j f fs ph ℓ
 
-not-do : (t : Table) (j : ℕ) {k : Kind} → kindAt t j ≡ k → isDo k ≡ false → kindAt t j ≡ Do → ⊥
-not-do t j {k} e b x = clash (ap isDo x) (ap isDo e ∙ b)
+below-inside : (d : ℕ) → d < inside → {A : Type 0} → A → d ≡ inside → ⊥
+below-inside d l x e = omega arith
 
 plain-guard : (t : Table) (j : ℕ) (f : Open) (fs : List Open) (ℓ : Line) {k : Kind} → kindAt t j ≡ k → isDo k ≡ false → isGuard ℓ ≡ true → checksAt ℓ ≡ f .region - bodyRegion (f ∷ fs)
     → checksFor ℓ ≡ value t (f .region) j → Sort t j f fs 0 ℓ
 plain-guard t j f fs ℓ e b g r v =
-    a-guard 0 (record { guards = g; at-own = r; for-value = omega arith; within = omega arith; at-opener = λ p x. refl; phase = plain refl refl (not-do t j e b) })
+    a-guard 0 (record { guards = g; at-own = r; for-value = omega arith; within = omega arith; at-opener = λ p. below-inside 0 (omega arith); phase = at-phase t j 0 e b })
 
 test-guard : (t : Table) (j : ℕ) (f : Open) (fs : List Open) {k : Kind} → kindAt t j ≡ k → isDo k ≡ false → (b : Bool) → Sort t j f fs 0 (testOf t j (f ∷ fs) b)
 unfolding testOf
@@ -96,7 +97,7 @@ end-guard t j f fs g e elsePart q = plain-guard t j f fs _ e refl refl refl refl
 end-guard t j f fs g e loopBody q = plain-guard t j f fs _ e refl refl refl refl
 
 pub tick-guards : (t : Table) (j : ℕ) (f : Open) (fs : List Open) → kindAt t j ≡ Do → Guards t j f fs 1 0 (tickLine (ownRegion (f ∷ fs)) (value t (f .region) j) (value t (f .region) j + 1))
-tick-guards t j f fs e = record { guards = refl; at-own = refl; for-value = omega arith; within = omega arith; at-opener = λ p x. refl; phase = at-tick e refl refl }
+tick-guards t j f fs e = record { guards = refl; at-own = refl; for-value = omega arith; within = omega arith; at-opener = λ p. below-inside 0 (omega arith); phase = sym (ap (λ x. cond {A = ℕ} (isDo x) 1 0) e) }
 
 beyond : {A : Type 0} (c ph : ℕ) → c ≤ 1 → suc ph < c → A
 beyond c ph a h = absurd (let z : ⊥ = omega arith in z)
@@ -125,7 +126,7 @@ sort t j f fs g Continue e zero h = plain-guard t j f fs _ e refl refl refl refl
 sort t j f fs g Continue e (suc ph) h = beyond 1 ph (omega arith) h
 sort t j f fs g Call e zero h = plain-guard t j f fs _ e refl refl refl refl
 sort t j f fs g Call e (suc zero) h =
-    a-guard 1 (record { guards = refl; at-own = refl; for-value = refl; within = rw e (omega arith); at-opener = λ p x. absurd (no-part p (sym (ap shapeOf e) ∙ x)); phase = at-back e refl refl })
+    a-guard 1 (record { guards = refl; at-own = refl; for-value = refl; within = rw e (omega arith); at-opener = λ p x. absurd (no-part p (sym (ap shapeOf e) ∙ x)); phase = at-phase t j 1 e refl })
   where
     no-part : (p : Part) → shapeOf Call ≡ pushes p → ⊥
     no-part p x = let z : _≡_ {A = ℕ} 0 1 = cc in omega arith

@@ -9,6 +9,7 @@ use native.Mathlib.Nat.{add-zero, zero-add, suc-add}
 use native.Mathlib.Omega.{arith}
 use lib.Dec.{eqb, ltb}
 use borrow.Author.Tests.{eq-eqb, ne-eqb, eqb-true, eqb-false, ltb-true, ltb-false, lt-ltb, le-ltb, le-leb, lt-leb}
+use Rattle.rules.specs.declared.strike.Strike.{Strike}
 use Rattle.rules.specs.declared.strike.Strike.the-variants.{None, Jump}
 use Rattle.rules.specs.declared.step.Step.{Step}
 use Rattle.rules.specs.declared.step.Step.the-variants.{Went, Finished, TooManyOpen, Beyond}
@@ -31,7 +32,7 @@ use Rattle.rules.proofs.Unstruck.{lineMachine}
 use Rattle.rules.proofs.Alarm.{Keeps, Caught, at-once, one-later, catches}
 
 -- ---- a step that the jump does not name
-pub not-now : (ls : List Line) (j p k : ℕ) (h : Hardened) → j ≢ k → struck ls (Jump j p) k h ≡ on h
+pub not-now : (ls : List Line) (j p k : ℕ) (h : Hardened) → j ≢ k → strikingStep ls (Jump j p) k h ≡ hardenedStep ls h
 not-now ls j p k h x = rw (ne-eqb j k x)
 
 pub after-same : (k : ℕ) (r : Turn Counters) (f g : Hardened → Answer Counters) → ((h : Hardened) → f h ≡ g h) → after k r f ≡ after k r g
@@ -39,77 +40,80 @@ after-same k (on h) f g e = e h
 after-same k (ends o h) f g e = refl
 after-same k (untaken o h) f g e = refl
 
--- the jump comes after the budget
-not-reached : (ls : List Line) (j p b k : ℕ) (h : Hardened) → k + b ≤ j → run (strikingStep ls (Jump j p)) b k h ≡ run (strikingStep ls None) b k h
+-- a strike that names step j: every other step is as without it
+abbrev pub Named : List Line → Strike → ℕ → Type 0
+Named ls x j = (k : ℕ) (h : Hardened) → j ≢ k → strikingStep ls x k h ≡ hardenedStep ls h
+
+-- it comes after the budget
+pub not-reached : (ls : List Line) (x : Strike) (j : ℕ) → Named ls x j → (b k : ℕ) (h : Hardened) → k + b ≤ j → run (strikingStep ls x) b k h ≡ run (strikingStep ls None) b k h
 unfolding run
-not-reached ls j p zero k h l = refl
-not-reached ls j p (suc b) k h l = rw (not-now ls j p k h (omega arith)) (after-same k (hardenedStep ls h) _ _ (λ h′. not-reached ls j p b (suc k) h′ (omega arith)))
+not-reached ls x j w zero k h l = refl
+not-reached ls x j w (suc b) k h l = rw (w k h (omega arith)) (after-same k (hardenedStep ls h) _ _ (λ h′. not-reached ls x j w b (suc k) h′ (omega arith)))
 
 -- the run ends before it
-ended-before : (ls : List Line) (j p d b k : ℕ) (h : Hardened) → k + d ≤ j → outcomeOf ((run (strikingStep ls None) d k h) .step) ≢ 0
-    → run (strikingStep ls (Jump j p)) (d + b) k h ≡ run (strikingStep ls None) (d + b) k h
+pub ended-before : (ls : List Line) (x : Strike) (j : ℕ) → Named ls x j → (d b k : ℕ) (h : Hardened) → k + d ≤ j → outcomeOf ((run (strikingStep ls None) d k h) .step) ≢ 0
+    → run (strikingStep ls x) (d + b) k h ≡ run (strikingStep ls None) (d + b) k h
 unfolding run outcomeOf
-ended-before ls j p zero b k h l o = absurd (o refl)
-ended-before ls j p (suc d) b k h l o =
-    rw (suc-add d b, not-now ls j p k h (omega arith)) (by (hardenedStep ls h) o (λ h′ o′. ended-before ls j p d b (suc k) h′ (omega arith) o′))
+ended-before ls x j w zero b k h l o = absurd (o refl)
+ended-before ls x j w (suc d) b k h l o =
+    rw (suc-add d b, w k h (omega arith)) (by (hardenedStep ls h) o (λ h′ o′. ended-before ls x j w d b (suc k) h′ (omega arith) o′))
   where
     by : (r : Turn Counters) → outcomeOf ((after k r (λ h′. run (strikingStep ls None) d (suc k) h′)) .step) ≢ 0
-        → ((h′ : Hardened) → outcomeOf ((run (strikingStep ls None) d (suc k) h′) .step) ≢ 0 → run (strikingStep ls (Jump j p)) (d + b) (suc k) h′ ≡ run (strikingStep ls None) (d + b) (suc k) h′)
-        → after k r (λ h′. run (strikingStep ls (Jump j p)) (d + b) (suc k) h′) ≡ after k r (λ h′. run (strikingStep ls None) (d + b) (suc k) h′)
+        → ((h′ : Hardened) → outcomeOf ((run (strikingStep ls None) d (suc k) h′) .step) ≢ 0 → run (strikingStep ls x) (d + b) (suc k) h′ ≡ run (strikingStep ls None) (d + b) (suc k) h′)
+        → after k r (λ h′. run (strikingStep ls x) (d + b) (suc k) h′) ≡ after k r (λ h′. run (strikingStep ls None) (d + b) (suc k) h′)
     by (on h′) o ih = ih h′ o
-    by (ends x h′) o ih = refl
-    by (untaken x h′) o ih = refl
+    by (ends y h′) o ih = refl
+    by (untaken y h′) o ih = refl
 
 not-struck-by : (ls : List Line) (vs : List ℕ) (b k p : ℕ) → (x y z : Bool) → eqb k noStep ≡ x → ltb k b ≡ y → eqb (outcomeOf ((before ls vs k) .step)) 0 ≡ z → not x && y && z ≡ false
     → hardenedRun ls (cond x None (Jump k p)) b vs ≡ hardenedRun ls None b vs
 not-struck-by ls vs b k p true y z ex ey ez e = refl
-not-struck-by ls vs b k p false false z ex ey ez e = not-reached ls k p b 0 (hardenedStart vs) (omega (arith, ltb-false k b ey))
+not-struck-by ls vs b k p false false z ex ey ez e = not-reached ls (Jump k p) k (not-now ls k p) b 0 (hardenedStart vs) (omega (arith, ltb-false k b ey))
 not-struck-by ls vs b k p false true true ex ey ez e = clash {b = true} refl e
 not-struck-by ls vs b k p false true false ex ey ez e =
     let l = ltb-true k b ey in
     let q : b ≡ k + (b - k) = omega arith in
-    ap (λ y. hardenedRun ls (Jump k p) y vs) q ∙ ended-before ls k p k (b - k) 0 (hardenedStart vs) (omega arith) (eqb-false _ _ ez) ∙ ap (λ y. hardenedRun ls None y vs) (sym q)
+    ap (λ y. hardenedRun ls (Jump k p) y vs) q ∙ ended-before ls (Jump k p) k (not-now ls k p) k (b - k) 0 (hardenedStart vs) (omega arith) (eqb-false _ _ ez) ∙ ap (λ y. hardenedRun ls None y vs) (sym q)
 
 pub not-struck : (ls : List Line) (vs : List ℕ) (b k p : ℕ) → strikes ls vs b k ≡ false → hardenedRun ls (strikeBy k p) b vs ≡ hardenedRun ls None b vs
 not-struck ls vs b k p e = not-struck-by ls vs b k p (eqb k noStep) (ltb k b) (eqb (outcomeOf ((before ls vs k) .step)) 0) refl refl refl e
 
 -- ---- the state before step k + d of an unstruck run that has not ended, and a run with a jump there up to it
-record Reached (t : Table) (d k p : ℕ) (h : Hardened) : Type 0 where
-  s′ : Source
-  h′ : Hardened
-  owed : ℕ
-  related : Related t owed s′ h′
-  plainly : run (lineMachine t) d k h ≡ record { step = Went (h′ .running .at); steps = k + d; state = h′ }
-  likewise : (b : ℕ) → run (strikingStep (harden t) (Jump (k + d) p)) (d + b) k h ≡ run (strikingStep (harden t) (Jump (k + d) p)) b (k + d) h′
+pub record Reached (t : Table) (x : Strike) (d k : ℕ) (h : Hardened) : Type 0 where
+  pub s′ : Source
+  pub h′ : Hardened
+  pub owed : ℕ
+  pub related : Related t owed s′ h′
+  pub plainly : run (lineMachine t) d k h ≡ record { step = Went (h′ .running .at); steps = k + d; state = h′ }
+  pub likewise : (b : ℕ) → run (strikingStep (harden t) x) (d + b) k h ≡ run (strikingStep (harden t) x) b (k + d) h′
 
 end-not-zero : (o : Step) → (o ≡ Finished) ⊎ (o ≡ TooManyOpen maxOpen) → outcomeOf o ≡ 0 → ⊥
 unfolding outcomeOf
 end-not-zero o (inl e) q = omega (arith, ap outcomeOf e)
 end-not-zero o (inr e) q = omega (arith, ap outcomeOf e)
 
-reach : (t : Table) → Proper t → (p d k x : ℕ) (s : Source) (h : Hardened) → Related t x s h → outcomeOf ((run (lineMachine t) d k h) .step) ≡ 0 → Reached t d k p h
+pub reach : (t : Table) → Proper t → (x : Strike) (j : ℕ) → Named (harden t) x j → (d k y : ℕ) (s : Source) (h : Hardened) → k + d ≡ j → Related t y s h → outcomeOf ((run (lineMachine t) d k h) .step) ≡ 0 → Reached t x d k h
 unfolding run outcomeOf
-reach t ok p zero k x s h r o =
-    record { s′ = s; h′ = h; owed = x; related = r; plainly = rw (add-zero k); likewise = λ b. rw (add-zero k, zero-add b) }
-reach t ok p (suc d) k x₀ s h r o = by (Simulate.next t ok x₀ s h r) o (λ x′ s′ h′ r′ o′. reach t ok p d (suc k) x′ s′ h′ r′ o′)
+reach t ok x j w zero k y s h l r o =
+    record { s′ = s; h′ = h; owed = y; related = r; plainly = rw (add-zero k); likewise = λ b. rw (add-zero k, zero-add b) }
+reach t ok x j w (suc d) k y s h l r o = by (Simulate.next t ok y s h r) o (λ y′ s′ h′ r′ o′. reach t ok x j w d (suc k) y′ s′ h′ (omega arith) r′ o′)
   where
-    one-step : (h′ : Hardened) → hardenedStep (harden t) h ≡ on h′ → Reached t d (suc k) p h′ → Reached t (suc d) k p h
-    one-step h′ e x =
+    one-step : (h′ : Hardened) → hardenedStep (harden t) h ≡ on h′ → Reached t x d (suc k) h′ → Reached t x (suc d) k h
+    one-step h′ e z =
         let sh : suc k + d ≡ k + suc d = omega arith in
         record {
-          s′ = x .s′;
-          h′ = x .h′;
-          owed = x .owed;
-          related = x .related;
-          plainly = rw e (x .plainly ∙ ap (λ y. record { step = Went (x .h′ .running .at); steps = y; state = x .h′ }) sh);
-          likewise = λ b. rw (suc-add d b, not-now (harden t) (k + suc d) p k h (omega arith), e)
-              (subst (λ y. run (strikingStep (harden t) (Jump y p)) (d + b) (suc k) h′ ≡ run (strikingStep (harden t) (Jump y p)) b y (x .h′)) sh (x .likewise b));
+          s′ = z .s′;
+          h′ = z .h′;
+          owed = z .owed;
+          related = z .related;
+          plainly = rw e (z .plainly ∙ ap (λ y. record { step = Went (z .h′ .running .at); steps = y; state = z .h′ }) sh);
+          likewise = λ b. rw (suc-add d b, w k h (omega arith), e) (z .likewise b ∙ ap (λ y. run (strikingStep (harden t) x) b y (z .h′)) sh);
         }
 
-    by : Next t x₀ s h → outcomeOf ((after k (hardenedStep (harden t) h) (λ h′. run (lineMachine t) d (suc k) h′)) .step) ≡ 0
-        → ((x′ : ℕ) (s′ : Source) (h′ : Hardened) → Related t x′ s′ h′ → outcomeOf ((run (lineMachine t) d (suc k) h′) .step) ≡ 0 → Reached t d (suc k) p h′) → Reached t (suc d) k p h
+    by : Next t y s h → outcomeOf ((after k (hardenedStep (harden t) h) (λ h′. run (lineMachine t) d (suc k) h′)) .step) ≡ 0
+        → ((y′ : ℕ) (s′ : Source) (h′ : Hardened) → Related t y′ s′ h′ → outcomeOf ((run (lineMachine t) d (suc k) h′) .step) ≡ 0 → Reached t x d (suc k) h′) → Reached t x (suc d) k h
     by (moves q (both-on s′ h′ es eh r′)) o ih = one-step h′ eh (ih _ s′ h′ r′ (rw eh at o))
-    by (moves q (both-end x s′ h′ es eh sm which fin)) o ih = absurd (end-not-zero x which (rw eh at o))
+    by (moves q (both-end z s′ h′ es eh sm which fin)) o ih = absurd (end-not-zero z which (rw eh at o))
     by (waits q h′ d′ eh r′ de) o ih = one-step h′ eh (ih d′ s h′ r′ (rw eh at o))
 
 -- ---- the struck step, and the one after it
@@ -147,8 +151,8 @@ module _ (t : Table) (ok : Proper t) (vs : List ℕ) (b k p : ℕ) (e : strikes 
   in-budget : k < b
   in-budget = ltb-true k b (and-right (not (eqb k noStep)) (ltb k b) (and-left _ (eqb (outcomeOf ((before (harden t) vs k) .step)) 0) e))
 
-  there : Reached t k 0 p (hardenedStart vs)
-  there = reach t ok p k 0 0 (sourceStart vs) (hardenedStart vs) (start t ok vs) (eqb-true _ _ (and-right (not (eqb k noStep) && ltb k b) (eqb (outcomeOf ((before (harden t) vs k) .step)) 0) e))
+  there : Reached t (Jump k p) k 0 (hardenedStart vs)
+  there = reach t ok (Jump k p) k (not-now (harden t) k p) k 0 0 (sourceStart vs) (hardenedStart vs) (zero-add k) (start t ok vs) (eqb-true _ _ (and-right (not (eqb k noStep) && ltb k b) (eqb (outcomeOf ((before (harden t) vs k) .step)) 0) e))
 
   state-is : (before (harden t) vs k) .state ≡ there .h′
   state-is = ap (λ y. y .state) (there .plainly)
@@ -159,7 +163,7 @@ module _ (t : Table) (ok : Proper t) (vs : List ℕ) (b k p : ℕ) (e : strikes 
   from-there =
       let q : b ≡ k + suc (b - suc k) = omega (arith, in-budget) in
       ap (λ y. hardenedRun (harden t) y b vs) is-jump ∙ ap (λ y. hardenedRun (harden t) (Jump k p) y vs) q
-      ∙ subst (λ y. run (strikingStep (harden t) (Jump y p)) (k + suc (b - suc k)) 0 (hardenedStart vs) ≡ run (strikingStep (harden t) (Jump y p)) (suc (b - suc k)) y (there .h′)) (zero-add k) (there .likewise (suc (b - suc k)))
+      ∙ there .likewise (suc (b - suc k)) ∙ ap (λ y. run (strikingStep (harden t) (Jump k p)) (suc (b - suc k)) y (there .h′)) (zero-add k)
 
   pub beyond : lastPlace (harden t) ((before (harden t) vs k) .state .running .function) < p
       → hardenedRun (harden t) (strikeBy k p) b vs ≡ record { step = Beyond (lastPlace (harden t) ((before (harden t) vs k) .state .running .function)); steps = k; state = (before (harden t) vs k) .state }

@@ -176,26 +176,29 @@ module _ (t : Table) (ok : Proper t) (o j : ℕ) (h : o ≤ length t) (l : j < o
       let q = has-open c (openAt t j) refl in
       omega (arith, function-inside t ok j (omega arith) (q .2), functions-mono t {i = j} o (omega arith))
 
-  second-line : (k : Kind) → kindAt t j ≡ k → shapeOf k ≡ stays → lineCount k ≡ 2 → functionAt (harden t) (lineOf t j + 1) < functions t o
-  second-line k e s c =
-      let q = has-open (omega (arith, ap lineCount e)) (openAt t j) refl in
-      let r : openAt t (suc j) ≡ q .0 ∷ q .1 = open-next t j e (q .2) ∙ ap (λ x. openAfter x j (regions t j) (q .0 ∷ q .1)) s in
+  -- a line of a row after which parts are open
+  inner-line : (ph : ℕ) (k : Kind) → kindAt t j ≡ k → ph < lineCount k → (g : Open) (gs : List Open) → openAt t (suc j) ≡ g ∷ gs → functionAt (harden t) (lineOf t j + ph) < functions t o
+  inner-line ph k e c g gs r =
       omega
-      (arith, function-inside t ok (suc j) (omega arith) r, functions-mono t {i = suc j} o l, function-at-mono (harden t) {k = lineOf t j + 1} (lineOf t (suc j)) (omega (arith, line-suc t j e)) (omega (arith, lines-all t, line-mono t {i = suc j} (length t) (omega arith))))
+      (arith, function-inside t ok (suc j) (omega arith) r, functions-mono t {i = suc j} o l, function-at-mono (harden t) {k = lineOf t j + ph} (lineOf t (suc j)) (omega (arith, line-suc t j e)) (omega (arith, lines-all t, line-mono t {i = suc j} (length t) (omega arith))))
+
+  -- the parts that are open at a row with lines
+  parts : (k : Kind) → kindAt t j ≡ k → 0 < lineCount k → (f : Open) × (hs : List Open) × (openAt t j ≡ f ∷ hs)
+  parts k e c = has-open (omega (arith, ap lineCount e)) (openAt t j) refl
 
   no-second : {A : Type 0} (x c : ℕ) → c ≤ 1 → suc x < c → A
   no-second x c a b = absurd (let z : ⊥ = omega arith in z)
 
   later-line : (x : ℕ) (k : Kind) → kindAt t j ≡ k → suc x < lineCount k → functionAt (harden t) (lineOf t j + suc x) < functions t o
   later-line x Function e q = no-second x 0 (omega arith) q
-  later-line x Do e q = subst (λ y. functionAt (harden t) (lineOf t j + suc y) < functions t o) (omega arith) (second-line Do e refl refl)
+  later-line x Do e q = let p = parts Do e (omega arith) in inner-line (suc x) Do e q (p .0) (p .1) (open-next t j e (p .2))
   later-line x If e q = no-second x 1 (omega arith) q
   later-line x Else e q = no-second x 1 (omega arith) q
   later-line x Loop e q = no-second x 1 (omega arith) q
   later-line x End e q = no-second x 1 (omega arith) q
   later-line x Break e q = no-second x 1 (omega arith) q
   later-line x Continue e q = no-second x 1 (omega arith) q
-  later-line x Call e q = subst (λ y. functionAt (harden t) (lineOf t j + suc y) < functions t o) (omega arith) (second-line Call e refl refl)
+  later-line x Call e q = let p = parts Call e (omega arith) in inner-line (suc x) Call e q (p .0) (p .1) (open-next t j e (p .2))
   later-line x Unknown e q = no-second x 0 (omega arith) q
 
   earlier : (ph : ℕ) → ph < lineCount (kindAt t j) → functionAt (harden t) (lineOf t j + ph) < functions t o

@@ -23,7 +23,7 @@ use Rattle.rules.proofs.Logic.{clash, and-left, and-right}
 use Rattle.rules.proofs.Accepted.{Proper}
 use Rattle.rules.proofs.Scan.{origin}
 use Rattle.rules.proofs.Value.{Held, AllHeld, held}
-use Rattle.rules.proofs.Close.{EndIs, end-is, closed-is, else-is}
+use Rattle.rules.proofs.Close.{NoOpener, not-past, EndIs, end-is, closed-is, else-is}
 use Rattle.rules.proofs.Harden.{line-mono, line-suc, line-next, line-at}
 use Rattle.rules.proofs.Function.{callee-known, not-unknown}
 use Rattle.rules.proofs.Place.{callee}
@@ -52,42 +52,6 @@ fits-in t ok i l e = sym (ap (λ x. fieldsFit x (operandsAt t i)) e) ∙ ok .row
 pub row-is : (t : Table) (i : ℕ) {k : Kind} {o : Operands} → kindAt t i ≡ k → operandsAt t i ≡ o
     → _≡_ {A = List Row} (record { kind = k; operands = o } ∷ []) (rowAt t i ∷ [])
 row-is t i e q = λ x. record { kind = sym e x; operands = sym q x } ∷ []
-
--- ---- what opened a part that is closed does not come back
-abbrev NoOpener : ℕ → List Open → Type 0
-NoOpener o [] = Unit {0}
-NoOpener o (f ∷ fs) = (f .opener ≢ o) × NoOpener o fs
-
-no-opener-next : (s : Shape) (o i r : ℕ) (fs : List Open) → o < i → NoOpener o fs → NoOpener o (openAfter s i r fs)
-no-opener-next (pushes p) o i r fs h k = (omega arith, k)
-no-opener-next turns o i r [] h k = tt
-no-opener-next turns o i r (f ∷ fs) h k = k
-no-opener-next closes o i r [] h k = tt
-no-opener-next closes o i r (f ∷ fs) h k = k .1
-no-opener-next stays o i r fs h k = k
-
-no-opener-later : (t : Table) (o i : ℕ) → o < i → NoOpener o (openAt t i) → (j : ℕ) → i ≤ j → NoOpener o (openAt t j)
-unfolding openAt
-no-opener-later t o i l k j h = le-ind (λ m. NoOpener o (openAt t m)) k
-    (λ m a p. no-opener-next (shapeOf (kindAt t m)) o m (regions t m) (openAt t m) (omega arith) p) j h
-
-opened-before : (t : Table) (j : ℕ) (fs : List Open) → AllHeld t j fs → NoOpener j fs
-opened-before t j [] g = tt
-opened-before t j (f ∷ fs) g = (omega (arith, g .0 .before), opened-before t j fs (g .1))
-
--- a row where a part is open is not past the end of that part
-not-past : (t : Table) → Proper t → (o i : ℕ) (p : Part) → o < length t → shapeOf (kindAt t o) ≡ pushes p → (NoOpener o (openAt t i) → ⊥) → i ≤ endOf t o
-not-past t ok o i p l s has = by (decLt (endOf t o) i)
-  where
-    en : EndIs t o (endOf t o)
-    en = end-is t o p ok l s
-
-    closed : NoOpener o (openAt t (suc (endOf t o)))
-    closed = subst (NoOpener o) (sym (closed-is t o (endOf t o) (en .ends) .open-after)) (opened-before t o (openAt t o) (held t o))
-
-    by : Dec (endOf t o < i) → i ≤ endOf t o
-    by (yes h) = absurd (has (no-opener-later t o (suc (endOf t o)) (omega (arith, en .after-it)) closed i h))
-    by (no h) = omega arith
 
 -- the innermost loop is one of the open parts
 loop-held : (t : Table) (i : ℕ) (fs : List Open) (f : Open) (hs : List Open) → AllHeld t i fs → fromLoop fs ≡ f ∷ hs → Held t i f hs

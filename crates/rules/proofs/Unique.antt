@@ -10,7 +10,7 @@ use lib.Dec.{eqb}
 use borrow.Author.Tests.{eqb-true}
 use Rattle.rules.specs.Row.{Table, kindAt}
 use Rattle.rules.specs.Scan.{Part, Open, pushes, shapeOf, openAt}
-use Rattle.rules.specs.Value.{past, takes, value}
+use Rattle.rules.specs.Value.{inside, past, takes, value}
 use Rattle.rules.proofs.Logic.{Order, less, same, more, order}
 use Rattle.rules.proofs.Accepted.{Proper}
 use Rattle.rules.proofs.Scan.{origin}
@@ -56,19 +56,19 @@ module _ (t : Table) (ok : Proper t) (j : ℕ) (h : Open) (hs : List Open) (d : 
   at-top i f fs e il k a deep false q v = absurd (deep (rw q at v))
 
   -- At row i the innermost region is e past the row's value. Row j's guard, which wants d past its value, passes only where i is
-  -- j and e is d; the rows that open a part have no guard past their value.
-  pub unique : ((p : Part) → shapeOf (kindAt t j) ≡ pushes p → d ≡ 0) → (fs : List Open) (f : Open) (i e : ℕ) → i < length t → openAt t i ≡ f ∷ fs
+  -- j and e is d; the rows that open a part have no guard `inside` past their value.
+  pub unique : ((p : Part) → shapeOf (kindAt t j) ≡ pushes p → d ≡ inside → ⊥) → (fs : List Open) (f : Open) (i e : ℕ) → i < length t → openAt t i ≡ f ∷ fs
       → e ≤ takes (kindAt t i) (f .part) - 1 → counterOf t (f ∷ fs) (value t (f .region) i + e) (h .region) ≡ value t (h .region) j + d → (i ≡ j) × (e ≡ d)
   unique z [] f i e il k a v = at-top i f [] e il k a (λ y. deep0 y) (eqb (h .region) (f .region)) refl v
     where
       deep0 : 0 ≡ value t (h .region) j + d → ⊥
       deep0 y = omega (arith, value-pos t (h .region) j)
   unique z (g ∷ gs) f i e il k a v = at-top i f (g ∷ gs) e il k a
-      (λ y. wrong (unique z gs g (f .opener) 1 (omega (arith, m .before)) (m .outer) (omega (arith, part-takes t ok i f g gs (g .part) il k)) y))
+      (λ y. wrong (unique z gs g (f .opener) inside (omega (arith, m .before)) (m .outer) (omega (arith, part-takes t ok i f g gs (g .part) il k)) y))
       (eqb (h .region) (f .region)) refl v
     where
       m : Held t i f (g ∷ gs)
       m = (let x : AllHeld t i (f ∷ g ∷ gs) = rw k at (held t i) in x .0)
 
-      wrong : (f .opener ≡ j) × (1 ≡ d) → ⊥
-      wrong p = omega (arith, p .1, z (origin (f .part)) (ap (λ x. shapeOf (kindAt t x)) (sym (p .0)) ∙ m .by))
+      wrong : (f .opener ≡ j) × (inside ≡ d) → ⊥
+      wrong p = z (origin (f .part)) (ap (λ x. shapeOf (kindAt t x)) (sym (p .0)) ∙ m .by) (sym (p .1))

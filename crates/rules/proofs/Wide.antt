@@ -10,13 +10,14 @@ use native.Mathlib.Omega.{arith}
 use lib.ListN.{length}
 use lib.Dec.{eqb}
 use borrow.Author.Tests.{eqb-true, ne-eqb}
-use Rattle.rules.specs.declared.kind.Kind.the-variants.{Do, End, Call}
+use Rattle.rules.specs.declared.kind.Kind.{Kind}
+use Rattle.rules.specs.declared.kind.Kind.the-variants.{Function, Do, If, Else, Loop, End, Break, Continue, Call, Unknown}
 use Rattle.rules.specs.Row.{Table, kindAt}
 use Rattle.rules.specs.Scan.{Part, body, thenPart, elsePart, loopBody, Open, regions, openAt, bodyRegion, functionRow, endOf}
-use Rattle.rules.specs.Value.{takes, value}
+use Rattle.rules.specs.Value.{inside, takes, value}
 use Rattle.rules.specs.Line.{Line, lineAt, isGuard}
 use Rattle.rules.specs.Harden.{lineOf, rowLines, endValue, harden}
-use Rattle.rules.specs.Match.{guardFrom, guardBetween}
+use Rattle.rules.specs.Match.{isDo, guardFrom, guardBetween}
 use Rattle.rules.proofs.Logic.{clash}
 use Rattle.rules.proofs.Accepted.{Proper}
 use Rattle.rules.proofs.Value.{AllHeld, held, Held, value-moves}
@@ -25,7 +26,7 @@ use Rattle.rules.proofs.Function.{InFunction, function-end, body-is, no
 use Rattle.rules.proofs.Counters.{counterOf, counters, holding, at-region}
 use Rattle.rules.proofs.Unique.{part-takes, unique}
 use Rattle.rules.proofs.Relation.{Mode, ready, ticking, backing, body-below}
-use Rattle.rules.proofs.Guard.{checksAt, checksFor, Phase, plain, at-tick, at-back, Guards}
+use Rattle.rules.proofs.Guard.{checksAt, checksFor, phaseOf, at-phase, Guards}
 
 -- ---- a guard between two lines
 pub data Between (ls : List Line) (a b : ℕ) : Type 0 where
@@ -75,11 +76,10 @@ not-over-do t j a b l e (inl ab) (down x y z g) = omega (arith, ab .0, ab .1)
 not-over-do t j a b l e (inr ab) (up x y z g) = omega (arith, ab .0, ab .1)
 not-over-do t j a b l e (inr ab) (down x y z g) = clash g (ap (λ c. isGuard (lineAt (harden t) c)) (omega (arith, ab .0, ab .1)) ∙ do-no-guard t j l e)
 
--- ---- where the run stands: phase ph of row i, its region e past the row's value
+-- ---- where the run stands: phase ph of row i, its region e past the row's value: before the guard that wants that, or the row's do
 pub data From (t : Table) (i ph e : ℕ) : Type 0 where
-  from-ready : ph ≡ 0 → e ≡ 0 → From t i ph e
-  from-tick : kindAt t i ≡ Do → ph ≡ 1 → e ≡ 0 → From t i ph e
-  from-back : kindAt t i ≡ Call → ph ≡ 1 → e ≡ 1 → From t i ph e
+  at-guard : ph ≡ phaseOf (kindAt t i) e → From t i ph e
+  before-do : kindAt t i ≡ Do → ph ≡ 0 → e ≡ 0 → From t i ph e
 
 pub record Stands (t : Table) (i k w u : ℕ) (f : Open) : Type 0 where
   pub ph : ℕ
@@ -89,28 +89,39 @@ pub record Stands (t : Table) (i k w u : ℕ) (f : Open) : Type 0 where
   pub holds : w ≡ u + e
   pub within : e ≤ takes (kindAt t i) (f .part) - 1
 
+is-do : (k : Kind) → isDo k ≡ true → k ≡ Do
+is-do Function e = cc
+is-do Do e = refl
+is-do If e = cc
+is-do Else e = cc
+is-do Loop e = cc
+is-do End e = cc
+is-do Break e = cc
+is-do Continue e = cc
+is-do Call e = cc
+is-do Unknown e = cc
+
+first-from : (t : Table) (i : ℕ) (b : Bool) → isDo (kindAt t i) ≡ b → From t i 0 0
+first-from t i true e = before-do (is-do (kindAt t i) e) refl refl
+first-from t i false e = at-guard (at-phase t i 0 refl e)
+
 pub stands : (t : Table) (i j k w last u : ℕ) (f : Open) → Mode t i j k w last u → Stands t i k w u f
-stands t i j k w last u f (ready ej ea ew) = record { ph = 0; e = 0; from = from-ready refl refl; line-is = omega arith; holds = omega arith; within = omega arith }
-stands t i j k w last u f (ticking r ej ea ew) = record { ph = 1; e = 0; from = from-tick r refl refl; line-is = omega arith; holds = omega arith; within = omega arith }
-stands t i j k w last u f (backing r ej ea ew el) = record { ph = 1; e = 1; from = from-back r refl refl; line-is = omega arith; holds = omega arith; within = rw r (omega arith) }
+stands t i j k w last u f (ready ej ea ew) = record { ph = 0; e = 0; from = first-from t i (isDo (kindAt t i)) refl; line-is = omega arith; holds = omega arith; within = omega arith }
+stands t i j k w last u f (ticking r ej ea ew) = record { ph = 1; e = 0; from = at-guard (sym (ap (λ x. cond {A = ℕ} (isDo x) 1 0) r)); line-is = omega arith; holds = omega arith; within = omega arith }
+stands t i j k w last u f (backing r ej ea ew el) = record { ph = 1; e = 1; from = at-guard (at-phase t i 1 r refl); line-is = omega arith; holds = omega arith; within = rw r (omega arith) }
 
 -- the guard that the run stands before, or will after its do, is not across a guard
-pub own-guard : (t : Table) (i j k k′ ph e ph′ d : ℕ) → j < length t → i ≡ j → e ≡ d → k ≡ lineOf t i + ph → k′ ≡ lineOf t j + ph′ → From t i ph e → Phase t j ph′ d → Between (harden t) k k′ → ⊥
-own-guard t i j k k′ ph e ph′ d l ij ed a b (from-ready p x) (plain q y nope) w = not-same (harden t) k k′ (omega (arith, ap (lineOf t) ij)) w
-own-guard t i j k k′ ph e ph′ d l ij ed a b (from-ready p x) (at-tick r q y) w = not-over-do t j k k′ l r (inl (omega (arith, ap (lineOf t) ij))) w
-own-guard t i j k k′ ph e ph′ d l ij ed a b (from-ready p x) (at-back r q y) w = omega arith
-own-guard t i j k k′ ph e ph′ d l ij ed a b (from-tick r p x) (plain q y nope) w = nope (ap (kindAt t) (sym ij) ∙ r)
-own-guard t i j k k′ ph e ph′ d l ij ed a b (from-tick r p x) (at-tick _ q y) w = not-same (harden t) k k′ (omega (arith, ap (lineOf t) ij)) w
-own-guard t i j k k′ ph e ph′ d l ij ed a b (from-tick r p x) (at-back _ q y) w = omega arith
-own-guard t i j k k′ ph e ph′ d l ij ed a b (from-back r p x) (plain q y nope) w = omega arith
-own-guard t i j k k′ ph e ph′ d l ij ed a b (from-back r p x) (at-tick _ q y) w = omega arith
-own-guard t i j k k′ ph e ph′ d l ij ed a b (from-back r p x) (at-back _ q y) w = not-same (harden t) k k′ (omega (arith, ap (lineOf t) ij)) w
+pub own-guard : (t : Table) (i j k k′ ph e ph′ d : ℕ) → j < length t → i ≡ j → e ≡ d → k ≡ lineOf t i + ph → k′ ≡ lineOf t j + ph′ → From t i ph e → ph′ ≡ phaseOf (kindAt t j) d → Between (harden t) k k′ → ⊥
+own-guard t i j k k′ ph e ph′ d l ij ed a b (at-guard p) q w =
+    not-same (harden t) k k′ (omega (arith, ap (lineOf t) ij, ap (λ x. phaseOf (kindAt t x) e) ij, ap (phaseOf (kindAt t j)) ed)) w
+own-guard t i j k k′ ph e ph′ d l ij ed a b (before-do r p x) q w =
+    let rj : kindAt t j ≡ Do = ap (kindAt t) (sym ij) ∙ r in
+    not-over-do t j k k′ l rj (inl (omega (arith, ap (lineOf t) ij), omega (arith, ap (λ x. phaseOf x d) rj))) w
 
 -- nor is the tick of the do that the jump goes to
 pub own-tick : (t : Table) (i j k k′ ph e : ℕ) → j < length t → i ≡ j → e ≡ 0 → k ≡ lineOf t i + ph → k′ ≡ lineOf t j + 0 → kindAt t j ≡ Do → From t i ph e → Between (harden t) k k′ → ⊥
-own-tick t i j k k′ ph e l ij ed a b r (from-ready y x) w = not-same (harden t) k k′ (omega (arith, ap (lineOf t) ij)) w
-own-tick t i j k k′ ph e l ij ed a b r (from-tick _ y x) w = not-over-do t j k k′ l r (inr (omega (arith, ap (lineOf t) ij))) w
-own-tick t i j k k′ ph e l ij ed a b r (from-back _ y x) w = omega arith
+own-tick t i j k k′ ph e l ij ed a b r (at-guard p) w = not-over-do t j k k′ l r (inr (omega (arith, ap (lineOf t) ij, ap (λ x. phaseOf x e) (ap (kindAt t) ij ∙ r)), omega arith)) w
+own-tick t i j k k′ ph e l ij ed a b r (before-do q y x) w = not-same (harden t) k k′ (omega (arith, ap (lineOf t) ij)) w
 
 -- ---- a guard of row j passes at the counters of row i only where it is the run's own
 module _ (t : Table) (ok : Proper t) (n i : ℕ) (f : Open) (fs : List Open) (m : InFunction t n i f fs) (k w : ℕ) (st : Stands t i k w (value t (f .region) i) f) where
@@ -156,7 +167,7 @@ module _ (t : Table) (ok : Proper t) (j : ℕ) (h : Open) (ej : kindAt t j ≡ E
   not-past [] f i e k a l = cond-le f [] i e k a l (omega arith) (eqb (h .region) (f .region)) refl
   not-past (g ∷ gs) f i e k a l =
       let m : Held t i f (g ∷ gs) = (subst (AllHeld t i) k (held t i)) .0 in
-      cond-le f (g ∷ gs) i e k a l (not-past gs g (f .opener) 1 (m .outer) (omega (arith, part-takes t ok i f g gs (g .part) (omega arith) k)) (omega (arith, m .before)))
+      cond-le f (g ∷ gs) i e k a l (not-past gs g (f .opener) inside (m .outer) (omega (arith, part-takes t ok i f g gs (g .part) (omega arith) k)) (omega (arith, m .before)))
       (eqb (h .region) (f .region)) refl
 
 pub not-ended : (t : Table) → Proper t → (n i : ℕ) (f : Open) (fs : List Open) → InFunction t n i f fs → (k w : ℕ) → Stands t i k w (value t (f .region) i) f
