@@ -3,12 +3,12 @@ use Prim.Native.Nat.{ℕ, _+_}
 use mathlib.Core.List.{List, _++_}
 use lib.ListN.{take, drop}
 use Rattle.rules.specs.declared.operands.Operands.{Operands}
-use Rattle.rules.specs.Line.{Line, doLine, tickLine, testLine, leaveLine, outLine, callLine, backLine, retLine, twenty, noOperands}
-use Rattle.hardener.specs.declared.line.Line as Declared
+use Rattle.rules.specs.Line.{Line, doLine, tickLine, testLine, leaveLine, outLine, callLine, backLine, retLine, twenty, noOperands, lineWidth}
+use Rattle.line.specs.declared.Line as Declared
 
 abbrev pub fields : (kind : ℕ) → Operands → (r s t e a b c go : ℕ) → Declared.Line
 fields kind o r s t e a b c go =
-    record { kind = kind; op = o .op; p = o .p; q = o .q; n = o .n; r = r; s = s; t = t; e = e; a = a; b = b; c = c; go = go }
+    record { kind = kind; operands = o; r = r; s = s; t = t; e = e; a = a; b = b; c = c; go = go }
 
 abbrev pub struct : Line → Declared.Line
 struct (doLine o e) = fields 0x21 o 0 0 0 e 0 0 0 0
@@ -22,9 +22,8 @@ struct (retLine e a) = fields 0x28 noOperands 0 0 0 e a 0 0 0
 
 -- the line's twenty bytes
 abbrev pub spelt : Declared.Line → List ℕ
-spelt l =
-    twenty (l .kind) (record { op = l .op; p = l .p; q = l .q; n = l .n }) (l .r) (l .s) (l .t) (l .e) (l .a) (l .b) (l .c) (l .go)
+spelt l = twenty (l .kind) (l .operands) (l .r) (l .s) (l .t) (l .e) (l .a) (l .b) (l .c) (l .go)
 
 -- the bytes with a line's twenty from byte at on
 unfoldable pub put : List ℕ → (at : ℕ) → Declared.Line → List ℕ
-put bs at l = take at bs ++ spelt l ++ drop (at + 20) bs
+put bs at l = take at bs ++ spelt l ++ drop (at + lineWidth) bs

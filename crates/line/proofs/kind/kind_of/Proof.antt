@@ -1,13 +1,13 @@
--- `machine::fields::kind_of` meets its contract. Assumes nothing.
+-- `line::kind::kind_of` meets its contract. Assumes nothing.
 use mathlib.Core.Logic.{_≢_}
 use mathlib.Core.Path.{_≡_, sym, ap}
 use Prim.Native.Nat.{ℕ}
 use borrow.Author.Needs.{needs}
 use borrow.Author.Tests.{ne-eqb}
-use Rattle.machine.specs.Fields.{lineKindOf}
-use Rattle.machine.specs.declared.fields.LineKind.the-variants.{Ret}
-use Rattle.machine.proofs.fields.kind_of.Statement.{statement}
-use Rattle.machine.proofs.fields.kind_of.Tie as tie
+use Rattle.line.specs.Read.{lineKindOf}
+use Rattle.line.specs.declared.kind.LineKind.the-variants.{Ret}
+use Rattle.line.proofs.kind.kind_of.Statement.{statement}
+use Rattle.line.proofs.kind.kind_of.Tie as tie
 
 -- a byte of no other kind is a ret's
 other-is-ret : (b : ℕ) → b ≢ 0x21 → b ≢ 0x22 → b ≢ 0x23 → b ≢ 0x24 → b ≢ 0x25 → b ≢ 0x26 → b ≢ 0x27 → Ret ≡ lineKindOf b

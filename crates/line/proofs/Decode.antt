@@ -1,4 +1,4 @@
--- The lines that bytes spell, by their kinds and fields; the fields of a line of a hardened table are in range. Assumes nothing.
+-- The lines that bytes spell, by their kinds and fields. Assumes nothing.
 use mathlib.Core.Path.{_≡_, refl, sym, ap, _∙_, subst}
 use mathlib.Core.Bool.{Bool, true, false, cond}
 use mathlib.Core.List.{List, []}
@@ -7,16 +7,14 @@ use native.Mathlib.Nat.{add-zero, not-suc-le-zero}
 use native.Mathlib.Omega.{arith}
 use lib.Dec.{eqb}
 use lib.ListN.{length, getD}
-use Rattle.rules.specs.Line.{Line, lineWidth, lineIn, linesFrom, linesIn, lineAt}
-use Rattle.rules.specs.Bounds.{Fits, Within}
-use Rattle.machine.specs.declared.fields.Fields.{Fields}
-use Rattle.machine.specs.declared.fields.LineKind.{LineKind}
-use Rattle.machine.specs.declared.fields.LineKind.the-variants.{Do, Tick, Test, Leave, Out, Call, Back, Ret}
-use Rattle.machine.specs.Fields.{lineKindOf, lineKindAt, fieldsAt, asLine}
-use Rattle.machine.specs.Ready.{FieldsIn}
+use Rattle.rules.specs.Line.{Line, lineWidth, lineIn, linesFrom, linesIn, lineAt, isRet}
+use Rattle.line.specs.declared.Line as Declared
+use Rattle.line.specs.declared.kind.LineKind.{LineKind}
+use Rattle.line.specs.declared.kind.LineKind.the-variants.{Do, Tick, Test, Leave, Out, Call, Back, Ret}
+use Rattle.line.specs.Read.{lineKindOf, lineKindAt, structAt, asLine, endsFunction}
 
 -- ---- a line by its kind and fields
-by-kind : (l : Fields) (b₁ b₂ b₃ b₄ b₅ b₆ b₇ : Bool)
+by-kind : (l : Declared.Line) (b₁ b₂ b₃ b₄ b₅ b₆ b₇ : Bool)
     → cond b₁ (asLine Do l)
     (cond b₂ (asLine Tick l)
     (cond b₃ (asLine Test l)
@@ -31,11 +29,11 @@ by-kind l false false false false false true b₇ = refl
 by-kind l false false false false false false true = refl
 by-kind l false false false false false false false = refl
 
-line-read : (bs : List ℕ) (k : ℕ) → lineIn bs (lineWidth * k) ≡ asLine (lineKindAt bs k) (fieldsAt bs k)
-unfolding lineIn lineKindOf fieldsAt
+line-read : (bs : List ℕ) (k : ℕ) → lineIn bs (lineWidth * k) ≡ asLine (lineKindAt bs k) (structAt bs k)
+unfolding lineIn lineKindOf structAt
 line-read bs k =
     let b = getD bs (lineWidth * k) 0 in
-    by-kind (fieldsAt bs k) (eqb b 0x21) (eqb b 0x22) (eqb b 0x23) (eqb b 0x24) (eqb b 0x25) (eqb b 0x26) (eqb b 0x27)
+    by-kind (structAt bs k) (eqb b 0x21) (eqb b 0x22) (eqb b 0x23) (eqb b 0x24) (eqb b 0x25) (eqb b 0x26) (eqb b 0x27)
 
 -- ---- the lines in order
 length-from : (bs : List ℕ) (i n : ℕ) → length (linesFrom bs i n) ≡ n
@@ -54,7 +52,7 @@ pub length-lines : (bs : List ℕ) → length (linesIn bs) ≡ length bs / lineW
 unfolding linesIn
 length-lines bs = length-from bs 0 (length bs / lineWidth)
 
-pub line-is : (bs : List ℕ) (k : ℕ) → k < length (linesIn bs) → lineAt (linesIn bs) k ≡ asLine (lineKindAt bs k) (fieldsAt bs k)
+pub line-is : (bs : List ℕ) (k : ℕ) → k < length (linesIn bs) → lineAt (linesIn bs) k ≡ asLine (lineKindAt bs k) (structAt bs k)
 unfolding linesIn
 line-is bs k h =
     line-from bs 0 (length bs / lineWidth) k (subst (λ n. k < n) (length-from bs 0 (length bs / lineWidth)) h)
@@ -63,14 +61,13 @@ line-is bs k h =
 pub line-bytes : (bs : List ℕ) (k : ℕ) → k < length (linesIn bs) → lineWidth * k + lineWidth ≤ length bs
 line-bytes bs k h = omega (arith, length-lines bs)
 
--- ---- what the kind may hold
-pub fields-fit : (ls : List Line) → Within ls → (f k : ℕ) (kd : LineKind) (l : Fields) → Fits ls f k (asLine kd l) → FieldsIn kd l
-fields-fit ls w f k Do l h = record { p-in = h .0 .p-in; q-in = h .0 .q-in }
-fields-fit ls w f k Tick l h = h .0
-fields-fit ls w f k Test l h =
-    (record { p-in = h .0 .p-in; q-in = h .0 .q-in }, record { r-in = h .1; s-in = h .2; t-in = h .3 })
-fields-fit ls w f k Leave l h = record { r-in = h .0; s-in = h .1 }
-fields-fit ls w f k Out l h = record { r-in = h .0; s-in = h .1; t-in = h .2 }
-fields-fit ls w f k Call l h = record { r-in = h .0; go-in = omega (arith, h .4 .in-table, w .few-lines) }
-fields-fit ls w f k Back l h = h .0
-fields-fit ls w f k Ret l h = tt
+-- ---- a line that ends its function is a ret
+pub ends-ret : (kd : LineKind) (l : Declared.Line) → isRet (asLine kd l) ≡ endsFunction kd
+ends-ret Do l = refl
+ends-ret Tick l = refl
+ends-ret Test l = refl
+ends-ret Leave l = refl
+ends-ret Out l = refl
+ends-ret Call l = refl
+ends-ret Back l = refl
+ends-ret Ret l = refl

@@ -7,7 +7,7 @@ use native.Mathlib.Omega.{arith}
 use lib.ListN.{length, getD, set, drop}
 use lib.Seq.{paste, paste-zero, paste-suc, take-at, drop-drop, drop-append-add}
 use Rattle.rules.specs.Line.{Line, doLine, tickLine, testLine, leaveLine, outLine, callLine, backLine, retLine, lineBytes}
-use Rattle.hardener.specs.Line.{struct, spelt, put}
+use Rattle.line.specs.Line.{struct, spelt, put}
 
 -- one byte more is copied
 pub copied-more : (d s x : List ℕ) (at j : ℕ) → x ≡ paste d at s j → at + length s ≤ length d → j < length s

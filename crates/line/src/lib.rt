@@ -1,19 +1,22 @@
-// A hardened line: its fields, a constructor for each kind, and its 20 bytes.
+// A hardened line: its fields, a constructor for each kind, and its bytes written. read.rt has its bytes read.
 ghost use mathlib.Core.Path.{_≡_};
-ghost use Prim.Native.Nat.{_+_, _/_, _%_, _≤_, _<_};
+ghost use Prim.Native.Nat.{_+_, _≤_, _<_};
 ghost use lib.ListN.{length};
-ghost use lib.Seq.{paste};
 ghost use Rattle.rules.specs.Line.{noOperands, doLine, tickLine, testLine, leaveLine, outLine, callLine, backLine, retLine};
-ghost use Rattle.layout.specs.Row.{operandsOf};
-ghost use Rattle.hardener.specs.Line.{struct, fields, put};
-use layout::row::Fields;
+ghost use Rattle.line.specs.Line.{struct, fields, put};
+use bytes::copy;
+use bytes::high;
+use bytes::low;
+use rules::operands::Operands;
 
+pub mod bytes;
+pub mod kind;
+pub mod read;
+
+// The fields of a line of any kind; those that its kind does not use are 0.
 pub struct Line {
     pub kind: u8,
-    pub op: u8,
-    pub p: u8,
-    pub q: u8,
-    pub n: u16,
+    pub operands: Operands,
     pub r: u8,
     pub s: u8,
     pub t: u8,
@@ -22,30 +25,6 @@ pub struct Line {
     pub b: u16,
     pub c: u16,
     pub go: u16,
-}
-
-pub fn low(x: u16) -> u8
-    ensures { λ r. ⌜ r ≡ x % 256 ⌝ }
-{
-    (x % 256) as u8
-}
-
-pub fn high(x: u16) -> u8
-    ensures { λ r. ⌜ r ≡ x / 256 ⌝ }
-{
-    (x / 256) as u8
-}
-
-// Copies from into to, from byte at on.
-pub fn copy(from: &[u8], to: &mut [u8], at: usize)
-    requires { ⌜ at + length (now from) ≤ length (now to) ⌝ }
-    ensures { λ _. ⌜ now (to .exit) ≡ paste (now (to .entry)) at (now (from .entry)) (length (now (from .entry))) ⌝ }
-{
-    let mut j = 0;
-    while j < from.len() {
-        to[at + j] = from[j];
-        j += 1;
-    }
 }
 
 impl Line {
@@ -71,7 +50,7 @@ impl Line {
 
     fn make(
         kind: u8,
-        f: Fields,
+        o: Operands,
         r: u8,
         s: u8,
         t: u8,
@@ -81,14 +60,11 @@ impl Line {
         c: u16,
         go: u16,
     ) -> Line
-        ensures { λ l. ⌜ l ≡ fields kind (operandsOf f) r s t e a b c «go» ⌝ }
+        ensures { λ l. ⌜ l ≡ fields kind (o) r s t e a b c «go» ⌝ }
     {
         Line {
             kind,
-            op: f.op,
-            p: f.p,
-            q: f.q,
-            n: f.n,
+            operands: o,
             r,
             s,
             t,
@@ -104,7 +80,7 @@ impl Line {
     fn bare(kind: u8, r: u8, s: u8, t: u8, e: u16, a: u16, b: u16, c: u16, go: u16) -> Line
         ensures { λ l. ⌜ l ≡ fields kind noOperands r s t e a b c «go» ⌝ }
     {
-        let none = Fields {
+        let none = Operands {
             op: 0,
             p: 0,
             q: 0,
@@ -114,10 +90,10 @@ impl Line {
     }
 
     // Does what its row does; e is the row's number.
-    pub fn act(f: Fields, e: u16) -> Line
-        ensures { λ l. ⌜ l ≡ struct (doLine (operandsOf f) e) ⌝ }
+    pub fn act(o: Operands, e: u16) -> Line
+        ensures { λ l. ⌜ l ≡ struct (doLine (o) e) ⌝ }
     {
-        Line::make(Line::DO, f, 0, 0, 0, e, 0, 0, 0, 0)
+        Line::make(Line::DO, o, 0, 0, 0, e, 0, 0, 0, 0)
     }
 
     // Follows a do.
@@ -129,11 +105,11 @@ impl Line {
     }
 
     // Tests: true opens region s at b, false sets region t to c and goes to line go.
-    pub fn test(f: Fields, r: u8, s: u8, t: u8, e: u16, b: u16, c: u16, go: u16) -> Line
+    pub fn test(o: Operands, r: u8, s: u8, t: u8, e: u16, b: u16, c: u16, go: u16) -> Line
         requires { ⌜ e < 65535 ⌝ }
-        ensures { λ l. ⌜ l ≡ struct (testLine (operandsOf f) r s t e (e + 1) b c «go») ⌝ }
+        ensures { λ l. ⌜ l ≡ struct (testLine (o) r s t e (e + 1) b c «go») ⌝ }
     {
-        Line::make(Line::TEST, f, r, s, t, e, e + 1, b, c, go)
+        Line::make(Line::TEST, o, r, s, t, e, e + 1, b, c, go)
     }
 
     // Leaves region r for region s, which holds b and gets a.
@@ -181,11 +157,11 @@ impl Line {
     {
         let bytes = [
             self.kind,
-            self.op,
-            self.p,
-            self.q,
-            low(self.n),
-            high(self.n),
+            self.operands.op,
+            self.operands.p,
+            self.operands.q,
+            low(self.operands.n),
+            high(self.operands.n),
             self.r,
             self.s,
             self.t,

@@ -1,4 +1,4 @@
-use Rattle.hardener.proofs.Puts.{copies}
+use Rattle.line.proofs.Puts.{copies}
 use borrow.Author.Needs.{needs}
 use native.Mathlib.Omega.{arith}
 use mathlib.Core.Path.{_≡_, refl}
@@ -7,10 +7,10 @@ use Prim.Native.Nat.{_≤_, _-_}
 use native.Mathlib.Numerals.{add-one}
 use lib.ListN.{length, length-set}
 use lib.Seq.{paste, paste-zero, paste-suc}
-use Rattle.hardener.proofs.line.copy.Statement.{statement}
-use Rattle.hardener.proofs.line.copy.Tie as tie
-use Rattle.hardener.proofs.line.copy.Reads as reads
-use Rattle.hardener.proofs.line.copy.Lts as lts
+use Rattle.line.proofs.bytes.copy.Statement.{statement}
+use Rattle.line.proofs.bytes.copy.Tie as tie
+use Rattle.line.proofs.bytes.copy.Reads as reads
+use Rattle.line.proofs.bytes.copy.Lts as lts
 
 abbrev Inv-loop : tie.InvT-loop
 Inv-loop from to₀ at j₀ to j = (j ≤ length from) × (length to ≡ length to₀) × (to ≡ paste to₀ at from j)
