@@ -12,8 +12,8 @@ use Rattle.rules.specs.Harden.{lineOf, endValue, rowLines}
 use Rattle.layout.specs.declared.spot.Spot.{Spot}
 use Rattle.layout.specs.Number.{valueOf}
 use Rattle.layout.specs.Spot.{SpotIs, CalleeIs, Head, endOfBody}
-use Rattle.hardener.specs.declared.line.Line as Declared
-use Rattle.hardener.specs.Line.{struct}
+use Rattle.line.specs.declared.Line as Declared
+use Rattle.line.specs.Line.{struct}
 use Rattle.hardener.specs.Emit.{rowLine}
 use Rattle.hardener.proofs.RowLines.{line-of}
 

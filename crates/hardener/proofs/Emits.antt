@@ -20,11 +20,11 @@ use Rattle.rules.proofs.Logic.{append-nil}
 use Rattle.rules.proofs.Accepted.{table-length}
 use Rattle.rules.proofs.Harden.{line-mono, line-next, row-lines-length, harden-length}
 use Rattle.rules.proofs.Encode.{line-length, lines-bytes-length}
-use Rattle.hardener.specs.declared.line.Line as Declared
-use Rattle.hardener.specs.Line.{struct, put}
+use Rattle.line.specs.declared.Line as Declared
+use Rattle.line.specs.Line.{struct, put}
 use Rattle.hardener.specs.Emit.{rowLine, rowBytes, rowsBytes, Makes, Holds, Room, overAt, Emitted}
 use Rattle.hardener.specs.Answer.{written}
-use Rattle.hardener.proofs.Puts.{put-more}
+use Rattle.line.proofs.Puts.{put-more}
 
 -- ---- bytes of lines
 bytes-append : (a b : List Line) → linesBytes (a ++ b) ≡ linesBytes a ++ linesBytes b

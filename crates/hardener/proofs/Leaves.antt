@@ -23,8 +23,8 @@ use Rattle.layout.specs.Number.{valueOf}
 use Rattle.layout.specs.Spot.{Inside, InLoop, SpotIs, childOf, inBody, isLoop, OpenerIs, LoopIs}
 use Rattle.layout.proofs.Around.{outer, same-body, from-loop}
 use Rattle.layout.proofs.Parts.{then-within, body-part, not-body, part-not-body, part-loop}
-use Rattle.hardener.specs.declared.line.Line as Declared
-use Rattle.hardener.specs.Line.{struct}
+use Rattle.line.specs.declared.Line as Declared
+use Rattle.line.specs.Line.{struct}
 use Rattle.hardener.specs.Emit.{rowLine}
 use Rattle.hardener.proofs.RowLines.{line-of}
 

@@ -1,4 +1,3 @@
-pub mod Puts
 pub mod RowLines
 pub mod Leaves
 pub mod Calls

@@ -23,9 +23,7 @@ use Rattle.rules.proofs.Accepted.{proper, table-length}
 use Rattle.rules.proofs.Close.{Turned, else-is}
 use Rattle.rules.proofs.Function.{placed-in}
 use Rattle.rules.proofs.RegionBound.{else-bound}
-use Rattle.layout.specs.declared.row.Fields.{Fields}
 use Rattle.layout.specs.declared.spot.Spot.{Spot}
-use Rattle.layout.specs.Row.{operandsOf}
 use Rattle.layout.specs.Place.{Surveyed}
 use Rattle.layout.specs.Number.{valueOf}
 use Rattle.layout.specs.Spot.{Inside, Opens, Grows, SpotIs, childOf, Elses}
@@ -33,8 +31,8 @@ use Rattle.layout.proofs.Survey.{some-open}
 use Rattle.layout.proofs.Around.{same-body}
 use Rattle.layout.proofs.Parts.{no-else, an-else}
 use Rattle.layout.proofs.Spots.{grows}
-use Rattle.hardener.specs.declared.line.Line as Declared
-use Rattle.hardener.specs.Line.{struct}
+use Rattle.line.specs.declared.Line as Declared
+use Rattle.line.specs.Line.{struct}
 use Rattle.hardener.specs.Emit.{rowLine, plainTest, elseTest, TurnsAt}
 
 -- line ph of a row whose kind is known
@@ -43,8 +41,8 @@ unfolding rowLine
 line-of t i ph e = ap (λ x. lineAt (rowLines t i (openAt t i) x) ph) (sym e)
 
 -- ---- do rows
-pub do-is : (bs : List ℕ) (i : ℕ) {f : Fields} {l : Declared.Line} → kindAt (tableOf bs) i ≡ Do → operandsOf f ≡ operandsAt (tableOf bs) i
-    → l ≡ struct (doLine (operandsOf f) i) → l ≡ struct (rowLine (tableOf bs) i 0)
+pub do-is : (bs : List ℕ) (i : ℕ) {o : Operands} {l : Declared.Line} → kindAt (tableOf bs) i ≡ Do → o ≡ operandsAt (tableOf bs) i
+    → l ≡ struct (doLine o i) → l ≡ struct (rowLine (tableOf bs) i 0)
 unfolding rowLines
 do-is bs i k e q = q ∙ ap (λ o. struct (doLine o i)) e ∙ ap struct (line-of (tableOf bs) i 0 k)
 
@@ -61,17 +59,17 @@ same-test : {o o′ : Operands} {r s t e a b c g r′ s′ t′ e′ a′ b′ c
 same-test {o} {o′} {r} {s} {t} {e} {a} {b} {c} {g} p r= s= t= e= a= b= c= g= =
     ap (λ x. struct (testLine x r s t e a b c g)) p ∙ rw (r=, s=, t=, e=, a=, b=, c=, g=)
 
-pub plain-is : {bs : List ℕ} {i s b g : ℕ} {f : Fields} {h : Spot} {l : Declared.Line} → operandsOf f ≡ operandsAt (tableOf bs) i → SpotIs bs i h
+pub plain-is : {bs : List ℕ} {i s b g : ℕ} {o : Operands} {h : Spot} {l : Declared.Line} → o ≡ operandsAt (tableOf bs) i → SpotIs bs i h
     → s ≡ childOf (tableOf bs) i → b ≡ base (tableOf bs) (regions (tableOf bs) i) → g ≡ lineOf (tableOf bs) (suc (endOf (tableOf bs) i))
-    → l ≡ struct (testLine (operandsOf f) (h .r) s (h .r) (h .e) (h .e + 1) b (h .e + 2) g) → l ≡ struct (plainTest (tableOf bs) i)
+    → l ≡ struct (testLine o (h .r) s (h .r) (h .e) (h .e + 1) b (h .e + 2) g) → l ≡ struct (plainTest (tableOf bs) i)
 unfolding plainTest testOf valueOf childOf
 plain-is {bs} {i} e h c b g q =
     q ∙ same-test e (h .r-is) c (h .r-is) (h .e-is) (ap (λ x. x + 1) (h .e-is)) b (ap (λ x. x + 2) (h .e-is)) g
 
-pub else-test-is : {bs : List ℕ} {i x s t b c g : ℕ} {f : Fields} {h : Spot} {l : Declared.Line} → operandsOf f ≡ operandsAt (tableOf bs) i → SpotIs bs i h
+pub else-test-is : {bs : List ℕ} {i x s t b c g : ℕ} {o : Operands} {h : Spot} {l : Declared.Line} → o ≡ operandsAt (tableOf bs) i → SpotIs bs i h
     → TurnsAt bs i x → s ≡ childOf (tableOf bs) i → t ≡ childOf (tableOf bs) x → b ≡ base (tableOf bs) (regions (tableOf bs) i)
     → c ≡ base (tableOf bs) (regions (tableOf bs) x) → g ≡ lineOf (tableOf bs) (suc x)
-    → l ≡ struct (testLine (operandsOf f) (h .r) s t (h .e) (h .e + 1) b c g) → l ≡ struct (elseTest (tableOf bs) i)
+    → l ≡ struct (testLine o (h .r) s t (h .e) (h .e + 1) b c g) → l ≡ struct (elseTest (tableOf bs) i)
 unfolding elseTest testOf valueOf childOf
 else-test-is {bs} {i} {x} e h u s t b c g q =
     let t′ = t ∙ ap (λ y. regions (tableOf bs) x - y) (u .same-body) ∙ ap (λ y. local (openAt (tableOf bs) i) (regions (tableOf bs) y)) (u .is) in

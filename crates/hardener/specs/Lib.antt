@@ -1,4 +1,3 @@
-pub mod Line
 pub mod Emit
 pub mod Answer
 pub mod Pass

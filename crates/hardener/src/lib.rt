@@ -15,7 +15,6 @@ use rules::refusal::Refusal;
 
 pub mod compare;
 pub mod emit;
-pub mod line;
 pub mod lines;
 pub mod pass;
 

@@ -7,9 +7,9 @@ ghost use Rattle.rules.specs.Row.{tableOf, kindAt};
 ghost use Rattle.layout.specs.Place.{Surveyed};
 ghost use Rattle.layout.specs.Number.{Based, Valued};
 ghost use Rattle.layout.specs.Spot.{Inside, InLoop, Opens, Grows, Ends, Elses, Heads};
-ghost use Rattle.hardener.specs.Line.{struct};
+ghost use Rattle.line.specs.Line.{struct};
 ghost use Rattle.hardener.specs.Emit.{rowLine, plainTest, elseTest, TurnsAt};
-use crate::line::Line;
+use line::Line;
 use layout::row;
 use layout::spot;
 
@@ -18,7 +18,7 @@ pub fn do_line(rows: &[u8], i: usize) -> Line
     requires { ⌜ (length (now rows) / 6 ≤ 1024) × (i < length (now rows) / 6) × (kindAt (tableOf (now rows)) i ≡ Kind.Do) ⌝ }
     ensures { λ r. ⌜ r ≡ struct (rowLine (tableOf (now (rows .entry))) i 0) ⌝ }
 {
-    Line::act(row::fields_of(rows, i), i as u16)
+    Line::act(row::operands_of(rows, i), i as u16)
 }
 
 // The tick that follows it.
@@ -44,7 +44,7 @@ fn plain_test(
     requires { ⌜ (Ends (now rows) (now ends)) × (Inside (now rows) i) × (Opens (now rows) i) × (Grows (now rows) i) ⌝ }
     ensures { λ r. ⌜ r ≡ struct (plainTest (tableOf (now (rows .entry))) i) ⌝ }
 {
-    let f = row::fields_of(rows, i);
+    let f = row::operands_of(rows, i);
     let here = spot::spot_of(rows, map, values, i);
     let s = spot::child_of(rows, map, i);
     let b = spot::base_of(rows, map, bases, i);
@@ -58,7 +58,7 @@ fn else_test(rows: &[u8], map: &[u16], bases: &[u16], values: &[u16], x: usize, 
     requires { ⌜ (Inside (now rows) i) × (Grows (now rows) i) × (TurnsAt (now rows) i x) ⌝ }
     ensures { λ r. ⌜ r ≡ struct (elseTest (tableOf (now (rows .entry))) i) ⌝ }
 {
-    let f = row::fields_of(rows, i);
+    let f = row::operands_of(rows, i);
     let here = spot::spot_of(rows, map, values, i);
     let s = spot::child_of(rows, map, i);
     let t = spot::child_of(rows, map, x);

@@ -13,7 +13,7 @@ ghost use Rattle.layout.specs.Spot.{Ends, Elses, Heads};
 ghost use Rattle.hardener.specs.Pass.{fitting, Batch, Fit, MadeIs, PassedIs};
 use crate::compare;
 use crate::emit;
-use crate::line::Line;
+use line::Line;
 use layout::row;
 use layout::spot;
 

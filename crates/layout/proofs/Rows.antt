@@ -35,6 +35,6 @@ kind-read bs i l e = e ∙ sym (ap (λ r. r .kind) (row-in bs i l))
 abbrev bytesAt : List ℕ → (i w : ℕ) → Operands
 bytesAt bs i w = record { op = getD bs (6 * i + 1) 0; p = getD bs (6 * i + 2) 0; q = getD bs (6 * i + 3) 0; n = w }
 
-pub fields-read : (bs : List ℕ) (i : ℕ) {w : ℕ} → i < length bs / 6 → w ≡ wordAt bs (6 * i + 4) → bytesAt bs i w ≡ operandsAt (tableOf bs) i
+pub operands-read : (bs : List ℕ) (i : ℕ) {w : ℕ} → i < length bs / 6 → w ≡ wordAt bs (6 * i + 4) → bytesAt bs i w ≡ operandsAt (tableOf bs) i
 unfolding rowIn
-fields-read bs i l e = ap (bytesAt bs i) e ∙ sym (ap (λ r. r .operands) (row-in bs i l))
+operands-read bs i l e = ap (bytesAt bs i) e ∙ sym (ap (λ r. r .operands) (row-in bs i l))

@@ -23,9 +23,8 @@ use Rattle.rules.proofs.Close.{end-is}
 use Rattle.rules.proofs.Function.{FunctionAt, function-at, function-end, callee-known}
 use Rattle.rules.proofs.RegionBound.{own-bound, opened-bound, functions-bound}
 use Rattle.layout.specs.declared.place.Place.{Place}
-use Rattle.layout.specs.declared.row.Fields.{Fields}
 use Rattle.layout.specs.declared.spot.Spot.{Spot}
-use Rattle.layout.specs.Row.{operandsOf}
+use Rattle.rules.specs.declared.operands.Operands.{Operands}
 use Rattle.layout.specs.Place.{placeOf, Surveyed, Stands}
 use Rattle.layout.specs.Number.{valueOf, Based, Valued}
 use Rattle.layout.specs.Spot.{Near, Inside, InLoop, Opens, Grows, SpotIs, childOf, inBody, isLoop, OpenerIs, LoopIs, CalleeIs, Head, endOfBody, Ends, Heads}
@@ -152,8 +151,8 @@ loop-kind k a j b p q e = e ∙ ap isLoop (sym q ∙ p)
 pub ruleset access = (spot-near, spot-is, base-is, child-near, child-is, line-is, in-body-is, opener-is, loop-is, next-is, past-in, past-is)
 
 -- ---- callees
-module _ {bs m heads : List ℕ} {i x : ℕ} {f : Fields} (s : Surveyed bs m) (h : Heads bs heads) (l : i < length bs / 6) (e : kindAt (tableOf bs) i ≡ Call)
-    (q : operandsOf f ≡ operandsAt (tableOf bs) i) (w : x ≡ f .n) where
+module _ {bs m heads : List ℕ} {i x : ℕ} {o : Operands} (s : Surveyed bs m) (h : Heads bs heads) (l : i < length bs / 6) (e : kindAt (tableOf bs) i ≡ Call)
+    (q : o ≡ operandsAt (tableOf bs) i) (w : x ≡ o .n) where
   known : operandsAt (tableOf bs) i .n < functionCount (tableOf bs)
   known = callee-known (tableOf bs) (proper bs (s .accepted)) i (omega (arith, table-length bs)) e
 
@@ -162,9 +161,9 @@ module _ {bs m heads : List ℕ} {i x : ℕ} {f : Fields} (s : Surveyed bs m) (h
       omega
       (arith, known, h .room, ap (λ o. o .n) q, functions-bound (tableOf bs) (proper bs (s .accepted)) (length (tableOf bs)) (omega arith))
 
-  pub callee-is : {o : ℕ} → o ≡ getD heads x 0 → CalleeIs bs (operandsAt (tableOf bs) i .n) o
-  callee-is {o} v =
-      let z : o ≡ functionRow (tableOf bs) (operandsAt (tableOf bs) i .n)
+  pub callee-is : {r : ℕ} → r ≡ getD heads x 0 → CalleeIs bs (operandsAt (tableOf bs) i .n) r
+  callee-is {r} v =
+      let z : r ≡ functionRow (tableOf bs) (operandsAt (tableOf bs) i .n)
       = v ∙ ap (λ y. getD heads y 0) (w ∙ ap (λ y. y .n) q) ∙ h .each (operandsAt (tableOf bs) i .n) known in
       let a = function-at (tableOf bs) (proper bs (s .accepted)) (operandsAt (tableOf bs) i .n) known in
       record {

@@ -1,4 +1,3 @@
-pub mod Row
 pub mod Place
 pub mod Number
 pub mod Spot

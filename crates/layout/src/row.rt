@@ -3,9 +3,9 @@ ghost use mathlib.Core.Path.{_≡_};
 ghost use Prim.Native.Nat.{_+_, _/_, _<_};
 ghost use lib.ListN.{length};
 ghost use Rattle.rules.specs.Row.{kindOf, tableOf, kindAt, operandsAt};
-ghost use Rattle.layout.specs.Row.{operandsOf};
 use rules::bytes::word;
 use rules::kind::Kind;
+use rules::operands::Operands;
 
 // A row's bytes.
 pub const WIDTH: usize = 6;
@@ -43,21 +43,13 @@ pub fn index(x: u16) -> usize
     x as usize
 }
 
-// What a row has beside its kind.
-pub struct Fields {
-    pub op: u8,
-    pub p: u8,
-    pub q: u8,
-    pub n: u16,
-}
-
-// The fields of row i.
-pub fn fields_of(rows: &[u8], i: usize) -> Fields
+// What row i has beside its kind.
+pub fn operands_of(rows: &[u8], i: usize) -> Operands
     requires { ⌜ i < length (now rows) / 6 ⌝ }
-    ensures { λ r. ⌜ operandsOf r ≡ operandsAt (tableOf (now (rows .entry))) i ⌝ }
+    ensures { λ r. ⌜ r ≡ operandsAt (tableOf (now (rows .entry))) i ⌝ }
 {
     let k = WIDTH * i;
-    Fields {
+    Operands {
         op: rows[k + 1],
         p: rows[k + 2],
         q: rows[k + 3],

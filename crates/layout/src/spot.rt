@@ -135,7 +135,7 @@ pub fn callee_of(rows: &[u8], map: &[u16], heads: &[u16], i: usize) -> usize
     requires { ⌜ (i < length (now rows) / 6) × (kindAt (tableOf (now rows)) i ≡ Kind.Call) ⌝ }
     ensures { λ r. ⌜ CalleeIs (now (rows .entry)) (operandsAt (tableOf (now (rows .entry))) i .n) r ⌝ }
 {
-    let f = row::fields_of(rows, i);
+    let f = row::operands_of(rows, i);
     row::index(heads[row::index(f.n)])
 }
 

@@ -26,7 +26,7 @@ fn operands(rows: &[u8], i: usize) -> Fields
     requires { ⌜ i < length (now rows) / 6 ⌝ }
     ensures { λ r. ⌜ operandsOf r ≡ operandsAt (tableOf (now (rows .entry))) i ⌝ }
 {
-    let f = row::fields_of(rows, i);
+    let f = row::operands_of(rows, i);
     Fields {
         op: f.op,
         p: f.p,
@@ -142,7 +142,7 @@ pub fn call_row(
     if 16 <= h.depth + 1 {
         return stay(Step::TooManyOpen(16), h);
     }
-    let f = row::fields_of(rows, row::index(h.place));
+    let f = row::operands_of(rows, row::index(h.place));
     let d = row::index(h.depth);
     places[d] = h.place + 1;
     functions[d] = h.function;

@@ -4,7 +4,7 @@ use Rattle.hardener.proofs.lines.back_line.Statement.{statement}
 use Rattle.hardener.proofs.lines.back_line.Tie as tie
 use Rattle.hardener.proofs.lines.back_line.Reads as reads
 use Rattle.hardener.proofs.lines.back_line.Lts as lts
-use Rattle.hardener.proofs.line.Line.back.Reads as back-reads
+use Rattle.line.proofs.Line.back.Reads as back-reads
 use Rattle.layout.proofs.spot.callee_of.Reads as callee-of-reads
 use Rattle.layout.proofs.spot.end_value.Reads as end-value-reads
 use Rattle.layout.proofs.spot.spot_of.Reads as spot-of-reads

@@ -4,7 +4,7 @@ use Rattle.hardener.proofs.lines.call_line.Statement.{statement}
 use Rattle.hardener.proofs.lines.call_line.Tie as tie
 use Rattle.hardener.proofs.lines.call_line.Reads as reads
 use Rattle.hardener.proofs.lines.call_line.Lts as lts
-use Rattle.hardener.proofs.line.Line.call.Reads as call-reads
+use Rattle.line.proofs.Line.call.Reads as call-reads
 use Rattle.layout.proofs.spot.base_of.Reads as base-of-reads
 use Rattle.layout.proofs.spot.callee_of.Reads as callee-of-reads
 use Rattle.layout.proofs.spot.line_after.Reads as line-after-reads

@@ -4,11 +4,11 @@ use Rattle.hardener.proofs.lines.do_line.Statement.{statement}
 use Rattle.hardener.proofs.lines.do_line.Tie as tie
 use Rattle.hardener.proofs.lines.do_line.Reads as reads
 use Rattle.hardener.proofs.lines.do_line.Lts as lts
-use Rattle.hardener.proofs.line.Line.act.Reads as act-reads
-use Rattle.layout.proofs.row.fields_of.Reads as fields-of-reads
+use Rattle.line.proofs.Line.act.Reads as act-reads
+use Rattle.layout.proofs.row.operands_of.Reads as operands-of-reads
 
-fields-of-requires : tie.Need-fields-of-requires
-fields-of-requires c κs = search needs
+operands-of-requires : tie.Need-operands-of-requires
+operands-of-requires c κs = search needs
 
 cast-act : tie.Need-cast-act
 cast-act c = search needs
@@ -20,4 +20,4 @@ returns : tie.Need-returns
 returns c = search (dos, needs)
 
 pub do-line-spec : {M : Type 1} → statement M
-do-line-spec = tie.close (tie.spec fields-of-requires cast-act act-requires returns)
+do-line-spec = tie.close (tie.spec operands-of-requires cast-act act-requires returns)

@@ -4,7 +4,7 @@ use Rattle.hardener.proofs.lines.else_line.Statement.{statement}
 use Rattle.hardener.proofs.lines.else_line.Tie as tie
 use Rattle.hardener.proofs.lines.else_line.Reads as reads
 use Rattle.hardener.proofs.lines.else_line.Lts as lts
-use Rattle.hardener.proofs.line.Line.leave.Reads as leave-reads
+use Rattle.line.proofs.Line.leave.Reads as leave-reads
 use Rattle.layout.proofs.spot.line_past.Reads as line-past-reads
 use Rattle.layout.proofs.spot.opener_of.Reads as opener-of-reads
 use Rattle.layout.proofs.spot.spot_of.Reads as spot-of-reads

@@ -4,8 +4,8 @@ use Rattle.hardener.proofs.lines.end_line.Statement.{statement}
 use Rattle.hardener.proofs.lines.end_line.Tie as tie
 use Rattle.hardener.proofs.lines.end_line.Reads as reads
 use Rattle.hardener.proofs.lines.end_line.Lts as lts
-use Rattle.hardener.proofs.line.Line.leave.Reads as leave-reads
-use Rattle.hardener.proofs.line.Line.ret.Reads as ret-reads
+use Rattle.line.proofs.Line.leave.Reads as leave-reads
+use Rattle.line.proofs.Line.ret.Reads as ret-reads
 use Rattle.layout.proofs.spot.in_body.Reads as in-body-reads
 use Rattle.layout.proofs.spot.is_loop.Reads as is-loop-reads
 use Rattle.layout.proofs.spot.line_after.Reads as line-after-reads

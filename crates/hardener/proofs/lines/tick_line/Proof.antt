@@ -4,7 +4,7 @@ use Rattle.hardener.proofs.lines.tick_line.Statement.{statement}
 use Rattle.hardener.proofs.lines.tick_line.Tie as tie
 use Rattle.hardener.proofs.lines.tick_line.Reads as reads
 use Rattle.hardener.proofs.lines.tick_line.Lts as lts
-use Rattle.hardener.proofs.line.Line.tick.Reads as tick-reads
+use Rattle.line.proofs.Line.tick.Reads as tick-reads
 use Rattle.layout.proofs.spot.spot_of.Reads as spot-of-reads
 
 spot-of-requires : tie.Need-spot-of-requires

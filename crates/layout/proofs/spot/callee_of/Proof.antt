@@ -4,11 +4,11 @@ use Rattle.layout.proofs.spot.callee_of.Statement.{statement}
 use Rattle.layout.proofs.spot.callee_of.Tie as tie
 use Rattle.layout.proofs.spot.callee_of.Reads as reads
 use Rattle.layout.proofs.spot.callee_of.Lts as lts
-use Rattle.layout.proofs.row.fields_of.Reads as fields-of-reads
+use Rattle.layout.proofs.row.operands_of.Reads as operands-of-reads
 use Rattle.layout.proofs.row.index.Reads as index-reads
 
-fields-of-requires : tie.Need-fields-of-requires
-fields-of-requires c κs = search needs
+operands-of-requires : tie.Need-operands-of-requires
+operands-of-requires c κs = search needs
 
 index-requires : tie.Need-index-requires
 index-requires c κs = search needs
@@ -29,7 +29,7 @@ pub callee-of-spec : {M : Type 1} → statement M
 callee-of-spec =
     tie.close
     (tie.spec
-    fields-of-requires
+    operands-of-requires
     index-requires
     mul-index
     shared-slice-read-index

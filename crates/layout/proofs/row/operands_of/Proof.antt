@@ -1,9 +1,9 @@
-use Rattle.layout.proofs.Rows.{fields-read}
+use Rattle.layout.proofs.Rows.{operands-read}
 use borrow.Author.Needs.{needs}
-use Rattle.layout.proofs.row.fields_of.Statement.{statement}
-use Rattle.layout.proofs.row.fields_of.Tie as tie
-use Rattle.layout.proofs.row.fields_of.Reads as reads
-use Rattle.layout.proofs.row.fields_of.Lts as lts
+use Rattle.layout.proofs.row.operands_of.Statement.{statement}
+use Rattle.layout.proofs.row.operands_of.Tie as tie
+use Rattle.layout.proofs.row.operands_of.Reads as reads
+use Rattle.layout.proofs.row.operands_of.Lts as lts
 use Rattle.rules.proofs.bytes.word.Reads as word-reads
 
 mul-k : tie.Need-mul-k
@@ -34,10 +34,10 @@ word-requires : tie.Need-word-requires
 word-requires c κs = search needs
 
 returns : tie.Need-returns
-returns c = search (fields-read, needs)
+returns c = search (operands-read, needs)
 
-pub fields-of-spec : {M : Type 1} → statement M
-fields-of-spec =
+pub operands-of-spec : {M : Type 1} → statement M
+operands-of-spec =
     tie.close
     (tie.spec
     mul-k
