@@ -1,9 +1,9 @@
 // What a do and a test do with the variables.
 ghost use mathlib.Core.Path.{_≡_};
 ghost use Rattle.rules.specs.Variables.{sum, difference, doneOn, holdsOn};
-ghost use Rattle.machine.specs.Fields.{operandsOf};
-ghost use Rattle.machine.specs.Ready.{OperandsIn};
-use crate::fields::Fields;
+ghost use Rattle.rules.specs.Bounds.{VariablesIn};
+use rules::limits::VARIABLES;
+use rules::operands::Operands;
 
 fn sum_of(x: u16, y: u16) -> u16
     ensures { λ r. ⌜ r ≡ sum x y ⌝ }
@@ -17,41 +17,41 @@ fn difference_of(x: u16, y: u16) -> u16
     std::num::wrapping_sub_u16(x, y)
 }
 
-pub fn assign(l: Fields, variables: &mut [u16; 16])
-    requires { ⌜ OperandsIn l ⌝ }
-    ensures { λ _. ⌜ now (variables .exit) ≡ doneOn (operandsOf l) (now (variables .entry)) ⌝ }
+pub fn assign(o: Operands, variables: &mut [u16; VARIABLES])
+    requires { ⌜ VariablesIn o ⌝ }
+    ensures { λ _. ⌜ now (variables .exit) ≡ doneOn o (now (variables .entry)) ⌝ }
 {
-    let p = l.p as usize;
-    let q = l.q as usize;
-    if l.op == 0 {
-        variables[p] = l.n;
+    let p = o.p as usize;
+    let q = o.q as usize;
+    if o.op == 0 {
+        variables[p] = o.n;
         return;
     }
     let y = variables[q];
-    if l.op == 1 {
+    if o.op == 1 {
         variables[p] = y;
         return;
     }
     let x = variables[p];
-    if l.op == 2 {
+    if o.op == 2 {
         variables[p] = sum_of(x, y);
         return;
     }
     variables[p] = difference_of(x, y);
 }
 
-pub fn holds(l: Fields, variables: &[u16; 16]) -> bool
-    requires { ⌜ OperandsIn l ⌝ }
-    ensures { λ r. ⌜ r ≡ holdsOn (operandsOf l) (now (variables .entry)) ⌝ }
+pub fn holds(o: Operands, variables: &[u16; VARIABLES]) -> bool
+    requires { ⌜ VariablesIn o ⌝ }
+    ensures { λ r. ⌜ r ≡ holdsOn o (now (variables .entry)) ⌝ }
 {
-    let p = l.p as usize;
-    let q = l.q as usize;
+    let p = o.p as usize;
+    let q = o.q as usize;
     let x = variables[p];
-    if l.op == 0 {
-        return x == l.n;
+    if o.op == 0 {
+        return x == o.n;
     }
-    if l.op == 1 {
-        return x != l.n;
+    if o.op == 1 {
+        return x != o.n;
     }
     x < variables[q]
 }

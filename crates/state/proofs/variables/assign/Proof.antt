@@ -1,12 +1,12 @@
 use Rattle.rules.specs.Variables.{doneOn}
 use borrow.Author.Tests.{ne-eqb, eq-eqb}
 use borrow.Author.Needs.{needs}
-use Rattle.machine.proofs.variables.assign.Statement.{statement}
-use Rattle.machine.proofs.variables.assign.Tie as tie
-use Rattle.machine.proofs.variables.assign.Reads as reads
-use Rattle.machine.proofs.variables.assign.Lts as lts
-use Rattle.machine.proofs.variables.difference_of.Reads as difference-of-reads
-use Rattle.machine.proofs.variables.sum_of.Reads as sum-of-reads
+use Rattle.state.proofs.variables.assign.Statement.{statement}
+use Rattle.state.proofs.variables.assign.Tie as tie
+use Rattle.state.proofs.variables.assign.Reads as reads
+use Rattle.state.proofs.variables.assign.Lts as lts
+use Rattle.state.proofs.variables.difference_of.Reads as difference-of-reads
+use Rattle.state.proofs.variables.sum_of.Reads as sum-of-reads
 
 cast-p : tie.Need-cast-p
 cast-p c = search needs

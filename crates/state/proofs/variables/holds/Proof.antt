@@ -1,10 +1,10 @@
 use Rattle.rules.specs.Variables.{holdsOn}
 use borrow.Author.Tests.{ne-eqb, eq-eqb}
 use borrow.Author.Needs.{needs}
-use Rattle.machine.proofs.variables.holds.Statement.{statement}
-use Rattle.machine.proofs.variables.holds.Tie as tie
-use Rattle.machine.proofs.variables.holds.Reads as reads
-use Rattle.machine.proofs.variables.holds.Lts as lts
+use Rattle.state.proofs.variables.holds.Statement.{statement}
+use Rattle.state.proofs.variables.holds.Tie as tie
+use Rattle.state.proofs.variables.holds.Reads as reads
+use Rattle.state.proofs.variables.holds.Lts as lts
 
 cast-p : tie.Need-cast-p
 cast-p c = search needs

@@ -2,10 +2,10 @@
 use mathlib.Core.Path.{sym, ap}
 use Rattle.rules.specs.Run.{outcomeOf}
 use borrow.Author.Needs.{needs}
-use Rattle.machine.proofs.table.outcome_of.Statement.{statement}
-use Rattle.machine.proofs.table.outcome_of.Tie as tie
-use Rattle.machine.proofs.table.outcome_of.Reads as reads
-use Rattle.machine.proofs.table.outcome_of.Lts as lts
+use Rattle.state.proofs.answer.outcome_of.Statement.{statement}
+use Rattle.state.proofs.answer.outcome_of.Tie as tie
+use Rattle.state.proofs.answer.outcome_of.Reads as reads
+use Rattle.state.proofs.answer.outcome_of.Lts as lts
 
 enum-told : tie.Need-enum-told
 enum-told c = search needs

@@ -1,10 +1,10 @@
 -- `machine::table::answer` meets its contract. Assumes nothing.
 use borrow.Author.Needs.{needs}
-use Rattle.machine.proofs.table.answer.Statement.{statement}
-use Rattle.machine.proofs.table.answer.Tie as tie
-use Rattle.machine.proofs.table.answer.Reads as reads
-use Rattle.machine.proofs.table.answer.Lts as lts
-use Rattle.machine.proofs.table.outcome_of.Reads as outcome-of-reads
+use Rattle.state.proofs.answer.answer.Statement.{statement}
+use Rattle.state.proofs.answer.answer.Tie as tie
+use Rattle.state.proofs.answer.answer.Reads as reads
+use Rattle.state.proofs.answer.answer.Lts as lts
+use Rattle.state.proofs.answer.outcome_of.Reads as outcome-of-reads
 
 outcome-of-requires : tie.Need-outcome-of-requires
 outcome-of-requires c κs = search needs

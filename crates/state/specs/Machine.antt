@@ -1,0 +1,93 @@
+-- What a run keeps, as its steps change it: the registers, the functions that wait, the variables and the trace.
+use Prim.Native.Nat.{ℕ, _+_, _<_}
+use mathlib.Core.Path.{_≡_}
+use mathlib.Core.List.{List}
+use lib.ListN.{length, set}
+use Rattle.rules.specs.declared.answer.Ran.{Ran}
+use Rattle.rules.specs.declared.operands.Operands.{Operands}
+use Rattle.rules.specs.declared.step.Step.{Step}
+use Rattle.rules.specs.declared.step.Step.the-variants.{Went, Finished, Alarm, TooManyOpen, Beyond}
+use Rattle.rules.specs.Limits.{maxOpen}
+use Rattle.rules.specs.Variables.{doneOn}
+use Rattle.rules.specs.Run.{outcomeOf}
+use Rattle.state.specs.declared.machine.Registers.{Registers}
+use Rattle.state.specs.declared.machine.Machine.{Machine}
+use Rattle.state.specs.declared.machine.Moved.{Moved}
+use Rattle.state.specs.declared.machine.Stopped.{Stopped}
+
+-- ---- the registers
+-- with where the run is and the steps set
+abbrev pub registersAt : Registers → (at steps : ℕ) → Registers
+registersAt h k n =
+    record { depth = h .depth; function = h .function; at = k; last = h .last; steps = n; traced = h .traced }
+
+-- one more do is done
+abbrev pub tracedOf : Registers → Registers
+tracedOf h =
+    record { depth = h .depth; function = h .function; at = h .at; last = h .last; steps = h .steps; traced = h .traced + 1 }
+
+-- ---- an answer with the registers after it
+abbrev pub moved : Step → Registers → Moved
+moved s h = record { step = s; registers = h }
+
+-- by whether a step went on
+abbrev pub onward : {A : Type 0} → Step → (ℕ → A) → A → A
+onward (Went k) f z = f k
+onward Finished f z = z
+onward Alarm f z = z
+onward (TooManyOpen n) f z = z
+onward (Beyond n) f z = z
+
+-- ---- a do
+-- there is a slot for its row
+pub record HasSlot (h : Registers) (slots : List ℕ) : Type 0 where
+  pub slot : h .traced < length slots
+  pub count : h .traced < 65535
+
+pub record Did : Type 0 where
+  pub registers : Registers
+  pub vars : List ℕ
+  pub slots : List ℕ
+
+abbrev pub did : Registers → (vars slots : List ℕ) → Did
+did h vs tr = record { registers = h; vars = vs; slots = tr }
+
+-- the variables change, and the row goes into the first slot past the trace
+abbrev pub didOf : Operands → (row : ℕ) → Registers → (vars slots : List ℕ) → Did
+didOf o row h vs tr = did (tracedOf h) (doneOn o vs) (set tr (h .traced) row)
+
+-- ---- the machine
+-- put together where a run stops
+abbrev pub stoppedAt : Step → (resumes functions vars : List ℕ) → Registers → Stopped
+stoppedAt s ks fs vs h = record { step = s; machine = record { resumes = ks; functions = fs; variables = vs; registers = h } }
+
+-- the running function goes to another line
+abbrev pub machineAt : Machine → (at : ℕ) → Machine
+machineAt m k =
+    record {
+      resumes = m .resumes;
+      functions = m .functions;
+      variables = m .variables;
+      registers = registersAt (m .registers) k (m .registers .steps);
+    }
+
+-- function 0 alone is open, and nothing is done
+abbrev pub firstRegisters : (at : ℕ) → Registers
+firstRegisters k = record { depth = 0; function = 0; at = k; last = 0; steps = 0; traced = 0 }
+
+pub record Begun (m : Machine) (at : ℕ) (vars : List ℕ) : Type 0 where
+  pub registers-are : m .registers ≡ firstRegisters at
+  pub vars-are : m .variables ≡ vars
+  pub resumes-are : length (m .resumes) ≡ maxOpen
+  pub functions-are : length (m .functions) ≡ maxOpen
+
+-- what an accepted run answers
+abbrev pub ranOf : Stopped → Ran
+ranOf x =
+    record {
+      number = 0;
+      outcome = outcomeOf (x .step);
+      steps = x .machine .registers .steps;
+      traced = x .machine .registers .traced;
+      variables = x .machine .variables;
+    }
