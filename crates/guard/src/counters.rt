@@ -3,7 +3,7 @@ ghost use mathlib.Core.Path.{_≡_};
 ghost use Prim.Native.Nat.{_+_, _*_, _≤_, _<_};
 ghost use lib.ListN.{length};
 ghost use Rattle.rules.specs.Calls.{zeros};
-ghost use Rattle.machine.specs.Words.{withCounter, zeroed, freshAt};
+ghost use Rattle.guard.specs.Counters.{withCounter, zeroed, freshAt};
 
 // Every word becomes 0.
 pub fn clear(words: &mut [u16])
@@ -32,7 +32,7 @@ pub fn put(words: &mut [u16], depth: u16, r: u8, v: u16)
     words[i] = v;
 }
 
-// The n words from a place on become 0.
+// The n words from word `from` on become 0.
 pub fn zero_part(words: &mut [u16], from: usize, n: usize)
     requires { ⌜ from + n ≤ length (now words) ⌝ }
     ensures { λ _. ⌜ now (words .exit) ≡ zeroed (now (words .entry)) from n ⌝ }

@@ -1,31 +1,31 @@
 // The lines that change nothing but counters: tick, test, leave, out and back.
 ghost use mathlib.Core.Path.{_≡_};
 ghost use Prim.Native.Nat.{_<_};
-ghost use Rattle.machine.specs.Guard.{counted, tickOf, testOf, leaveOf, outOf, backOf};
-ghost use Rattle.machine.specs.Ready.{RegionsIn, LeaveIn, OutIn, Room};
-use crate::fields::Fields;
-use crate::words;
+ghost use Rattle.guard.specs.Guard.{counted, tickOf, testOf, leaveOf, outOf, backOf};
+ghost use Rattle.guard.specs.Fields.{RegionsIn, LeaveIn, OutIn, Room};
+use crate::counters;
+use line::Line;
 use rules::step::Step;
 
-pub fn tick(l: Fields, place: u16, depth: u16, counters: &mut [u16]) -> Step
-    requires { ⌜ (l .r < 64) × (place < 65535) × (Room depth (now counters)) ⌝ }
-    ensures { λ r. ⌜ counted r (now (counters .exit)) ≡ tickOf l place depth (now (counters .entry)) ⌝ }
+pub fn tick(l: Line, at: u16, depth: u16, counters: &mut [u16]) -> Step
+    requires { ⌜ (l .r < 64) × (at < 65535) × (Room depth (now counters)) ⌝ }
+    ensures { λ r. ⌜ counted r (now (counters .exit)) ≡ tickOf l at depth (now (counters .entry)) ⌝ }
 {
-    let i = words::index(depth, l.r);
+    let i = counters::index(depth, l.r);
     let held = counters[i];
     let e = l.e;
     if held != e {
         return Step::Alarm;
     }
     counters[i] = l.a;
-    Step::Went(place + 1)
+    Step::Went(at + 1)
 }
 
-pub fn test(l: Fields, holds: bool, place: u16, depth: u16, counters: &mut [u16]) -> Step
-    requires { ⌜ (RegionsIn l) × (place < 65535) × (Room depth (now counters)) ⌝ }
-    ensures { λ r. ⌜ counted r (now (counters .exit)) ≡ testOf l holds place depth (now (counters .entry)) ⌝ }
+pub fn test(l: Line, holds: bool, at: u16, depth: u16, counters: &mut [u16]) -> Step
+    requires { ⌜ (RegionsIn l) × (at < 65535) × (Room depth (now counters)) ⌝ }
+    ensures { λ r. ⌜ counted r (now (counters .exit)) ≡ testOf l holds at depth (now (counters .entry)) ⌝ }
 {
-    let i = words::index(depth, l.r);
+    let i = counters::index(depth, l.r);
     let outer = counters[i];
     let e = l.e;
     if outer != e {
@@ -33,25 +33,25 @@ pub fn test(l: Fields, holds: bool, place: u16, depth: u16, counters: &mut [u16]
     }
     counters[i] = l.a;
     if holds {
-        words::put(counters, depth, l.s, l.b);
-        return Step::Went(place + 1);
+        counters::put(counters, depth, l.s, l.b);
+        return Step::Went(at + 1);
     }
-    words::put(counters, depth, l.t, l.c);
+    counters::put(counters, depth, l.t, l.c);
     Step::Went(l.go)
 }
 
-pub fn leave(l: Fields, depth: u16, counters: &mut [u16]) -> Step
+pub fn leave(l: Line, depth: u16, counters: &mut [u16]) -> Step
     requires { ⌜ (LeaveIn l) × (Room depth (now counters)) ⌝ }
     ensures { λ r. ⌜ counted r (now (counters .exit)) ≡ leaveOf l depth (now (counters .entry)) ⌝ }
 {
-    let i = words::index(depth, l.r);
+    let i = counters::index(depth, l.r);
     let child = counters[i];
     let e = l.e;
     if child != e {
         return Step::Alarm;
     }
     counters[i] = 0;
-    let j = words::index(depth, l.s);
+    let j = counters::index(depth, l.s);
     let around = counters[j];
     let b = l.b;
     if around != b {
@@ -61,29 +61,29 @@ pub fn leave(l: Fields, depth: u16, counters: &mut [u16]) -> Step
     Step::Went(l.go)
 }
 
-pub fn out(l: Fields, depth: u16, counters: &mut [u16]) -> Step
+pub fn out(l: Line, depth: u16, counters: &mut [u16]) -> Step
     requires { ⌜ (OutIn l) × (Room depth (now counters)) ⌝ }
     ensures { λ r. ⌜ counted r (now (counters .exit)) ≡ outOf l depth (now (counters .entry)) ⌝ }
 {
-    let i = words::index(depth, l.r);
+    let i = counters::index(depth, l.r);
     let inner = counters[i];
     let e = l.e;
     if inner != e {
         return Step::Alarm;
     }
-    let from = words::index(depth, l.t);
+    let from = counters::index(depth, l.t);
     let n = (l.r + 1 - l.t) as usize;
-    words::zero_part(counters, from, n);
-    words::put(counters, depth, l.s, l.a);
+    counters::zero_part(counters, from, n);
+    counters::put(counters, depth, l.s, l.a);
     Step::Went(l.go)
 }
 
 // The function that returned last ended at `last`.
-pub fn back(l: Fields, last: u16, place: u16, depth: u16, counters: &mut [u16]) -> Step
-    requires { ⌜ (l .r < 64) × (place < 65535) × (Room depth (now counters)) ⌝ }
-    ensures { λ r. ⌜ counted r (now (counters .exit)) ≡ backOf l last place depth (now (counters .entry)) ⌝ }
+pub fn back(l: Line, last: u16, at: u16, depth: u16, counters: &mut [u16]) -> Step
+    requires { ⌜ (l .r < 64) × (at < 65535) × (Room depth (now counters)) ⌝ }
+    ensures { λ r. ⌜ counted r (now (counters .exit)) ≡ backOf l last at depth (now (counters .entry)) ⌝ }
 {
-    let i = words::index(depth, l.r);
+    let i = counters::index(depth, l.r);
     let caller = counters[i];
     let e = l.e;
     if caller != e {
@@ -94,5 +94,5 @@ pub fn back(l: Fields, last: u16, place: u16, depth: u16, counters: &mut [u16]) 
         return Step::Alarm;
     }
     counters[i] = l.a;
-    Step::Went(place + 1)
+    Step::Went(at + 1)
 }

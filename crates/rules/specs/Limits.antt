@@ -15,6 +15,10 @@ maxConstructs = 16
 abbrev pub maxRegions : ℕ
 maxRegions = 64
 
+-- lines of a hardened table: a row has at most two
+abbrev pub maxLines : ℕ
+maxLines = 2048
+
 -- functions open in a run, the first function 0 among them
 abbrev pub maxOpen : ℕ
 maxOpen = 16

@@ -9,7 +9,7 @@ use rules::limits::OPEN;
 use rules::step::Step;
 
 // The running function waits at the next row or line, and another one opens.
-pub fn open(
+pub fn opening(
     h: Registers,
     function: u8,
     go: u16,
@@ -36,7 +36,7 @@ pub fn open(
 }
 
 // The running function, whose region 0 ended at v, returns to the one that waited last.
-pub fn close(h: Registers, v: u16, resumes: &[u16; OPEN], functions: &[u8; OPEN]) -> Moved
+pub fn returning(h: Registers, v: u16, resumes: &[u16; OPEN], functions: &[u8; OPEN]) -> Moved
     requires { ⌜ (0 < h .depth) × (h .depth < 16) ⌝ }
     ensures { λ r. ⌜ r ≡ closedOf h v (now (resumes .entry)) (now (functions .entry)) ⌝ }
 {

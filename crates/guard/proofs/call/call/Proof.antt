@@ -1,24 +1,25 @@
--- `machine::call::call` meets its contract. Assumes nothing.
+-- `guard::call::call` meets its contract. Assumes nothing.
 use mathlib.Core.Path.{_∙_}
 use Prim.Native.Nat.{ℕ, _+_, _<_}
 use native.Mathlib.Omega.{arith}
 use lib.ListN.{length-set}
 use borrow.Author.Tests.{eqb-true, eqb-false, leb-true, leb-false, not-true, not-false}
-use Rattle.machine.proofs.Returns.{call-alarm, call-deep, call-opens}
+use Rattle.guard.proofs.Returns.{call-alarm, call-deep, call-opens}
 use borrow.Author.Needs.{needs}
-use Rattle.machine.proofs.call.call.Statement.{statement}
-use Rattle.machine.proofs.call.call.Tie as tie
-use Rattle.machine.proofs.call.call.Reads as reads
-use Rattle.machine.proofs.call.call.Lts as lts
-use Rattle.machine.proofs.call.index.Reads as call-index-reads
-use Rattle.machine.proofs.machine.opened.Reads as opened-reads
-use Rattle.machine.proofs.machine.stay.Reads as stay-reads
-use Rattle.machine.proofs.words.fresh.Reads as fresh-reads
-use Rattle.machine.proofs.words.index.Reads as words-index-reads
+use Rattle.guard.proofs.call.call.Statement.{statement}
+use Rattle.guard.proofs.call.call.Tie as tie
+use Rattle.guard.proofs.call.call.Reads as reads
+use Rattle.guard.proofs.call.call.Lts as lts
+use Rattle.guard.proofs.call.index.Reads as call-index-reads
+use Rattle.guard.proofs.counters.fresh.Reads as fresh-reads
+use Rattle.guard.proofs.counters.index.Reads as counters-index-reads
+use Rattle.state.proofs.machine.stay.Reads as stay-reads
+use Rattle.state.proofs.open.opening.Reads as opening-reads
 
 -- one more may open
 shallow : {d : ℕ} → d + 1 < 16 → d < 15
 shallow h = omega arith
+
 
 index-requires : tie.Need-index-requires
 index-requires c κs = search needs
@@ -56,35 +57,20 @@ add-fresh c = search needs
 fresh-requires : tie.Need-fresh-requires
 fresh-requires c κs = (leb-false _ _ (c .before .before .if2 .left), simp length-set (c .before .before .before .before .before .before .before .before .pre .2 .room))
 
-cast-d : tie.Need-cast-d
-cast-d c = search needs
-
-add-places : tie.Need-add-places
-add-places c = search needs
-
-mul-places : tie.Need-mul-places
-mul-places c = search needs
-
-element-write-places : tie.Need-element-write-places
-element-write-places c = search needs
-
-element-write-functions : tie.Need-element-write-functions
-element-write-functions c = search needs
-
 index-requires-2 : tie.Need-index-requires-2
 index-requires-2 c κs = search needs
 
-element-copy-out-opened : tie.Need-element-copy-out-opened
-element-copy-out-opened c = search needs
+element-copy-out-opening : tie.Need-element-copy-out-opening
+element-copy-out-opening c = search needs
 
-opened-requires : tie.Need-opened-requires
-opened-requires c κs = shallow (leb-false _ _ (c .before .before .before .before .before .before .before .before .before .if2 .left))
+opening-requires : tie.Need-opening-requires
+opening-requires c κs = (shallow (leb-false _ _ (c .before .before .before .before .before .before .before .before .before .if2 .left)), c .before .before .before .before .before .before .before .before .before .before .before .before .before .before .before .pre .1)
 
 same-length : tie.Need-same-length
 same-length c = c .before .before .before .before .before .before .before .fresh .kept .0 ∙ simp length-set
 
 returns-3 : tie.Need-returns-3
-returns-3 c = call-opens _ _ _ _ _ _ _ (c .before .before .before .before .before .before .before .before .before .before .before .before .before .before .index .ensures .0) _ _ _ (eqb-true _ _ (not-false _ (c .before .before .before .before .before .before .before .before .before .before .before .if1 .left))) (leb-false _ _ (c .before .before .before .before .before .before .before .before .before .before .if2 .left)) (c .before .before .index2 .ensures) (c .opened .ensures) (c .before .before .before .before .before .before .before .fresh .ensures)
+returns-3 c = call-opens _ _ _ _ _ _ _ (c .before .before .before .before .before .before .before .before .before .before .before .before .before .before .index .ensures .0) _ _ _ _ _ (eqb-true _ _ (not-false _ (c .before .before .before .before .before .before .before .before .before .before .before .if1 .left))) (leb-false _ _ (c .before .before .before .before .before .before .before .before .before .before .if2 .left)) (c .before .before .before .before .index2 .ensures) (c .opening .ensures) (c .before .before .before .before .before .before .before .fresh .ensures)
 
 pub call-spec : {M : Type 1} → statement M
 call-spec =
@@ -102,13 +88,8 @@ call-spec =
     slice-write-counters
     add-fresh
     fresh-requires
-    cast-d
-    add-places
-    mul-places
-    element-write-places
-    element-write-functions
     index-requires-2
-    element-copy-out-opened
-    opened-requires
+    element-copy-out-opening
+    opening-requires
     same-length
     returns-3)

@@ -8,10 +8,10 @@ use Prim.Native.Nat.{_≤_, _-_}
 use native.Mathlib.Omega.{arith}
 use lib.ListN.{length, length-set, replicate, drop}
 use lib.Seq.{drop-length}
-use Rattle.machine.proofs.words.clear.Statement.{statement}
-use Rattle.machine.proofs.words.clear.Tie as tie
-use Rattle.machine.proofs.words.clear.Reads as reads
-use Rattle.machine.proofs.words.clear.Lts as lts
+use Rattle.guard.proofs.counters.clear.Statement.{statement}
+use Rattle.guard.proofs.counters.clear.Tie as tie
+use Rattle.guard.proofs.counters.clear.Reads as reads
+use Rattle.guard.proofs.counters.clear.Lts as lts
 
 abbrev Inv-loop : tie.InvT-loop
 Inv-loop s₀ i₀ s i = (i ≤ length s₀) × (length s ≡ length s₀) × (s ≡ replicate i 0 ++ drop i s₀)

@@ -1,10 +1,10 @@
 use borrow.Author.Needs.{needs}
-use Rattle.machine.proofs.words.fresh.Statement.{statement}
-use Rattle.machine.proofs.words.fresh.Tie as tie
-use Rattle.machine.proofs.words.fresh.Reads as reads
-use Rattle.machine.proofs.words.fresh.Lts as lts
-use Rattle.machine.proofs.words.put.Reads as put-reads
-use Rattle.machine.proofs.words.zero_part.Reads as zero-part-reads
+use Rattle.guard.proofs.counters.fresh.Statement.{statement}
+use Rattle.guard.proofs.counters.fresh.Tie as tie
+use Rattle.guard.proofs.counters.fresh.Reads as reads
+use Rattle.guard.proofs.counters.fresh.Lts as lts
+use Rattle.guard.proofs.counters.put.Reads as put-reads
+use Rattle.guard.proofs.counters.zero_part.Reads as zero-part-reads
 
 mul-zero-part : tie.Need-mul-zero-part
 mul-zero-part c = search needs

@@ -1,11 +1,11 @@
 use denote.Ref.{now}
-use Rattle.machine.proofs.Lists.{zeroed-is}
+use Rattle.guard.proofs.Zeroed.{zeroed-is}
 use borrow.Author.Needs.{needs}
-use Rattle.machine.proofs.words.zero_part.Statement.{statement}
-use Rattle.machine.proofs.words.zero_part.Tie as tie
-use Rattle.machine.proofs.words.zero_part.Reads as reads
-use Rattle.machine.proofs.words.zero_part.Lts as lts
-use Rattle.machine.proofs.words.clear.Reads as clear-reads
+use Rattle.guard.proofs.counters.zero_part.Statement.{statement}
+use Rattle.guard.proofs.counters.zero_part.Tie as tie
+use Rattle.guard.proofs.counters.zero_part.Reads as reads
+use Rattle.guard.proofs.counters.zero_part.Lts as lts
+use Rattle.guard.proofs.counters.clear.Reads as clear-reads
 
 add-to : tie.Need-add-to
 add-to c = search needs

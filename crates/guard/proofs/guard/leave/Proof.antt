@@ -1,13 +1,13 @@
-use Rattle.machine.specs.Guard.{leaveOf}
+use Rattle.guard.specs.Guard.{leaveOf}
 use borrow.Author.Tests.{ne-eqb, eq-eqb}
 use lib.ListN.{length-set}
 use native.Mathlib.Omega.{arith}
 use borrow.Author.Needs.{needs}
-use Rattle.machine.proofs.guard.leave.Statement.{statement}
-use Rattle.machine.proofs.guard.leave.Tie as tie
-use Rattle.machine.proofs.guard.leave.Reads as reads
-use Rattle.machine.proofs.guard.leave.Lts as lts
-use Rattle.machine.proofs.words.index.Reads as index-reads
+use Rattle.guard.proofs.guard.leave.Statement.{statement}
+use Rattle.guard.proofs.guard.leave.Tie as tie
+use Rattle.guard.proofs.guard.leave.Reads as reads
+use Rattle.guard.proofs.guard.leave.Lts as lts
+use Rattle.guard.proofs.counters.index.Reads as index-reads
 
 index-requires : tie.Need-index-requires
 index-requires c κs = search needs

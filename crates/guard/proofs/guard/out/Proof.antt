@@ -1,13 +1,13 @@
-use Rattle.machine.specs.Guard.{outOf}
+use Rattle.guard.specs.Guard.{outOf}
 use borrow.Author.Tests.{ne-eqb, eq-eqb}
 use borrow.Author.Needs.{needs}
-use Rattle.machine.proofs.guard.out.Statement.{statement}
-use Rattle.machine.proofs.guard.out.Tie as tie
-use Rattle.machine.proofs.guard.out.Reads as reads
-use Rattle.machine.proofs.guard.out.Lts as lts
-use Rattle.machine.proofs.words.index.Reads as index-reads
-use Rattle.machine.proofs.words.put.Reads as put-reads
-use Rattle.machine.proofs.words.zero_part.Reads as zero-part-reads
+use Rattle.guard.proofs.guard.out.Statement.{statement}
+use Rattle.guard.proofs.guard.out.Tie as tie
+use Rattle.guard.proofs.guard.out.Reads as reads
+use Rattle.guard.proofs.guard.out.Lts as lts
+use Rattle.guard.proofs.counters.index.Reads as index-reads
+use Rattle.guard.proofs.counters.put.Reads as put-reads
+use Rattle.guard.proofs.counters.zero_part.Reads as zero-part-reads
 
 index-requires : tie.Need-index-requires
 index-requires c κs = search needs

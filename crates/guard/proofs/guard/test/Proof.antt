@@ -1,15 +1,15 @@
-use Rattle.machine.proofs.Guards.{test-held, test-failed}
-use Rattle.machine.specs.Guard.{testOf}
+use Rattle.guard.proofs.Tests.{test-held, test-failed}
+use Rattle.guard.specs.Guard.{testOf}
 use borrow.Author.Tests.{ne-eqb}
 use lib.ListN.{length-set}
 use mathlib.Core.Path.{_∙_}
 use borrow.Author.Needs.{needs}
-use Rattle.machine.proofs.guard.test.Statement.{statement}
-use Rattle.machine.proofs.guard.test.Tie as tie
-use Rattle.machine.proofs.guard.test.Reads as reads
-use Rattle.machine.proofs.guard.test.Lts as lts
-use Rattle.machine.proofs.words.index.Reads as index-reads
-use Rattle.machine.proofs.words.put.Reads as put-reads
+use Rattle.guard.proofs.guard.test.Statement.{statement}
+use Rattle.guard.proofs.guard.test.Tie as tie
+use Rattle.guard.proofs.guard.test.Reads as reads
+use Rattle.guard.proofs.guard.test.Lts as lts
+use Rattle.guard.proofs.counters.index.Reads as index-reads
+use Rattle.guard.proofs.counters.put.Reads as put-reads
 
 index-requires : tie.Need-index-requires
 index-requires c κs = search needs

@@ -1,11 +1,11 @@
-use Rattle.machine.specs.Guard.{tickOf}
+use Rattle.guard.specs.Guard.{tickOf}
 use borrow.Author.Tests.{ne-eqb, eq-eqb}
 use borrow.Author.Needs.{needs}
-use Rattle.machine.proofs.guard.tick.Statement.{statement}
-use Rattle.machine.proofs.guard.tick.Tie as tie
-use Rattle.machine.proofs.guard.tick.Reads as reads
-use Rattle.machine.proofs.guard.tick.Lts as lts
-use Rattle.machine.proofs.words.index.Reads as index-reads
+use Rattle.guard.proofs.guard.tick.Statement.{statement}
+use Rattle.guard.proofs.guard.tick.Tie as tie
+use Rattle.guard.proofs.guard.tick.Reads as reads
+use Rattle.guard.proofs.guard.tick.Lts as lts
+use Rattle.guard.proofs.counters.index.Reads as index-reads
 
 index-requires : tie.Need-index-requires
 index-requires c κs = search needs

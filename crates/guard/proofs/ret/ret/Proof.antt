@@ -1,12 +1,12 @@
-use Rattle.machine.proofs.Returns.{ret-alarm, ret-returns}
+use Rattle.guard.proofs.Returns.{ret-alarm, ret-returns}
 use borrow.Author.Needs.{needs}
-use Rattle.machine.proofs.ret.ret.Statement.{statement}
-use Rattle.machine.proofs.ret.ret.Tie as tie
-use Rattle.machine.proofs.ret.ret.Reads as reads
-use Rattle.machine.proofs.ret.ret.Lts as lts
-use Rattle.machine.proofs.ret.returned.Reads as returned-reads
-use Rattle.machine.proofs.machine.stay.Reads as stay-reads
-use Rattle.machine.proofs.words.index.Reads as index-reads
+use Rattle.guard.proofs.ret.ret.Statement.{statement}
+use Rattle.guard.proofs.ret.ret.Tie as tie
+use Rattle.guard.proofs.ret.ret.Reads as reads
+use Rattle.guard.proofs.ret.ret.Lts as lts
+use Rattle.guard.proofs.ret.returned.Reads as returned-reads
+use Rattle.state.proofs.machine.stay.Reads as stay-reads
+use Rattle.guard.proofs.counters.index.Reads as index-reads
 
 index-requires : tie.Need-index-requires
 index-requires c κs = search needs

@@ -1,12 +1,13 @@
-use Rattle.machine.proofs.Returns.{return-closes, return-alarm, return-finishes}
+-- `guard::ret::returned` meets its contract. Assumes nothing.
+use Rattle.guard.proofs.Returns.{return-closes, return-alarm, return-finishes}
 use borrow.Author.Needs.{needs}
-use Rattle.machine.proofs.ret.returned.Statement.{statement}
-use Rattle.machine.proofs.ret.returned.Tie as tie
-use Rattle.machine.proofs.ret.returned.Reads as reads
-use Rattle.machine.proofs.ret.returned.Lts as lts
-use Rattle.machine.proofs.machine.closed.Reads as closed-reads
-use Rattle.machine.proofs.machine.stay.Reads as stay-reads
-use Rattle.machine.proofs.words.index.Reads as index-reads
+use Rattle.guard.proofs.ret.returned.Statement.{statement}
+use Rattle.guard.proofs.ret.returned.Tie as tie
+use Rattle.guard.proofs.ret.returned.Reads as reads
+use Rattle.guard.proofs.ret.returned.Lts as lts
+use Rattle.guard.proofs.counters.index.Reads as index-reads
+use Rattle.state.proofs.machine.stay.Reads as stay-reads
+use Rattle.state.proofs.open.returning.Reads as returning-reads
 
 index-requires : tie.Need-index-requires
 index-requires c κs = search needs
@@ -17,26 +18,11 @@ mul-v c = search needs
 shared-slice-read-v : tie.Need-shared-slice-read-v
 shared-slice-read-v c = search needs
 
-sub-k : tie.Need-sub-k
-sub-k c = search needs
-
-cast-k : tie.Need-cast-k
-cast-k c = search needs
-
-element-copy-out-closed : tie.Need-element-copy-out-closed
-element-copy-out-closed c = search needs
-
-mul-closed : tie.Need-mul-closed
-mul-closed c = search needs
-
-element-copy-out-closed-2 : tie.Need-element-copy-out-closed-2
-element-copy-out-closed-2 c = search needs
-
-closed-requires : tie.Need-closed-requires
-closed-requires c κs = search needs
+returning-requires : tie.Need-returning-requires
+returning-requires c κs = (c .if1 .taken, c .before .before .before .before .before .pre .deep)
 
 returns : tie.Need-returns
-returns c = return-closes _ _ _ _ _ _ (c .before .before .before .before .before .before .before .index .ensures .0) _ (c .before .before .before .before .if1 .taken) (c .closed .ensures)
+returns c = return-closes _ _ _ _ _ _ (c .before .before .before .before .index .ensures .0) _ (c .before .if1 .taken) (c .returning .ensures)
 
 stay-requires : tie.Need-stay-requires
 stay-requires c κs = search needs
@@ -57,12 +43,7 @@ returned-spec =
     index-requires
     mul-v
     shared-slice-read-v
-    sub-k
-    cast-k
-    element-copy-out-closed
-    mul-closed
-    element-copy-out-closed-2
-    closed-requires
+    returning-requires
     returns
     stay-requires
     returns-2

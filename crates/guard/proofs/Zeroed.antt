@@ -6,7 +6,7 @@ use mathlib.Core.List.{List, []}
 use lib.ListN.{length, length-append, length-take, length-replicate, length-drop}
 use borrow.Rule.Slice.PartMut.{putMid, midOf, mid-len, post-is}
 use Rattle.rules.specs.Calls.{zeros}
-use Rattle.machine.specs.Words.{zeroed}
+use Rattle.guard.specs.Counters.{zeroed}
 
 pub length-zeros : (n : ℕ) → length (zeros n) ≡ n
 unfolding zeros

@@ -1,9 +1,9 @@
--- `state::open::open` meets its contract. Assumes nothing.
+-- `state::open::opening` meets its contract. Assumes nothing.
 use borrow.Author.Needs.{needs}
-use Rattle.state.proofs.open.open.Statement.{statement}
-use Rattle.state.proofs.open.open.Tie as tie
-use Rattle.state.proofs.open.open.Reads as reads
-use Rattle.state.proofs.open.open.Lts as lts
+use Rattle.state.proofs.open.opening.Statement.{statement}
+use Rattle.state.proofs.open.opening.Tie as tie
+use Rattle.state.proofs.open.opening.Reads as reads
+use Rattle.state.proofs.open.opening.Lts as lts
 use Rattle.state.proofs.machine.stay.Reads as stay-reads
 
 cast-d : tie.Need-cast-d
@@ -30,8 +30,8 @@ stay-requires c κs = search needs
 returns : tie.Need-returns
 returns c = rw (c .stay .ensures)
 
-pub open-spec : {M : Type 1} → statement M
-open-spec =
+pub opening-spec : {M : Type 1} → statement M
+opening-spec =
     tie.close
     (tie.spec
     cast-d

@@ -1,0 +1,3 @@
+pub mod Zeroed
+pub mod Tests
+pub mod Returns

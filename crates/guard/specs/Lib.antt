@@ -1,0 +1,4 @@
+pub mod Counters
+pub mod Guard
+pub mod Fields
+pub mod Call
