@@ -8,29 +8,27 @@ use lib.Dec.{eqb}
 use lib.ListN.{length, set}
 use lib.Seq.{getD-set-other}
 use Rattle.rules.specs.declared.step.Step.{Step}
-use Rattle.rules.specs.declared.step.Step.the-variants.{Went, Finished, Alarm, TooManyOpen}
+use Rattle.rules.specs.declared.step.Step.the-variants.{Went, Alarm}
 use Rattle.rules.specs.Line.{Line}
 use Rattle.rules.specs.State.{Frame, goTo}
 use Rattle.rules.specs.Run.{Turn, on, ends, untaken}
 use Rattle.rules.specs.Hardened.{Counters, Hardened, must, check}
 use Rattle.rules.specs.Bounds.{LineIn}
-use Rattle.machine.specs.Words.{counter}
-use Rattle.machine.specs.Guard.{Counted, counted}
+use Rattle.state.proofs.Ends.{IsEnd, alarm-ends}
+use Rattle.guard.specs.Counters.{counter}
+use Rattle.guard.specs.Guard.{Counted, counted}
 use Rattle.machine.specs.Step.{Parts, After, guarded}
 use Rattle.machine.specs.Run.{partsAt}
 use Rattle.machine.specs.Stands.{Inside, Own, Waiting, Traced, Stands}
 use Rattle.machine.proofs.Own.{SameBelow, waiting-same}
 
 -- ---- agreement
--- the run goes on at a place, in a machine that stands for the next state, with at most one more trace slot than before
+-- the run goes on at a line, in a machine that stands for the next state, with at most one more trace slot than before
 pub record GoesOn (ls : List Line) (held : List ℕ) (traced : ℕ) (a : After) (s : Hardened) : Type 0 where
-  pub place : ℕ
-  pub went : a .step ≡ Went place
-  pub stands : (n : ℕ) → Stands ls held (partsAt (a .parts) place n) s
-  pub traced-more : a .parts .hot .traced ≤ traced + 1
-
-abbrev pub IsEnd : Step → Type 0
-IsEnd o = (k : ℕ) → o ≡ Went k → ⊥
+  pub line : ℕ
+  pub went : a .step ≡ Went line
+  pub stands : (n : ℕ) → Stands ls held (partsAt (a .parts) line n) s
+  pub traced-more : a .parts .registers .traced ≤ traced + 1
 
 -- the run ends with the same answer, variables and trace
 pub record EndsAs (held : List ℕ) (a : After) (o : Step) (s : Hardened) : Type 0 where
@@ -44,16 +42,7 @@ Agrees ls held n a (on s) = GoesOn ls held n a s
 Agrees ls held n a (ends o s) = EndsAs held a o s
 Agrees ls held n a (untaken o s) = ⊥
 
-pub alarm-ends : IsEnd Alarm
-alarm-ends k e = let z : _≡_ {A = ℕ} 0 1 = cc in omega arith
-
-pub finished-ends : IsEnd Finished
-finished-ends k e = let z : _≡_ {A = ℕ} 0 1 = cc in omega arith
-
-pub too-many-ends : (n : ℕ) → IsEnd (TooManyOpen n)
-too-many-ends n k e = let z : _≡_ {A = ℕ} 0 1 = cc in omega arith
-
--- ---- places
+-- ---- lines of a function
 pub inside-line : (ls : List Line) (f k j : ℕ) → Inside ls f k → LineIn ls f j → Inside ls f j
 inside-line ls f k j i l = record { known = i .known; not-before = l .not-before; not-after = omega (arith, l .not-after) }
 
@@ -64,7 +53,7 @@ waiting-length ls ps fs ws zero (g ∷ gs) w = absurd w
 waiting-length ls ps fs ws (suc d) [] w = absurd w
 waiting-length ls ps fs ws (suc d) (g ∷ gs) w = ap suc (waiting-length ls ps fs ws d gs (w .1))
 
--- a place and a function saved at depth i, above them
+-- where a function goes on, and its number, saved at depth i, above them
 pub waiting-saved : (ls : List Line) (ps fs ws : List ℕ) (i k f d : ℕ) (gs : List (Frame Counters)) → d ≤ i → Waiting ls ps fs ws d gs
     → Waiting ls (set ps i k) (set fs i f) ws d gs
 waiting-saved ls ps fs ws i k f zero [] h w = tt
@@ -92,19 +81,19 @@ module _ (ls : List Line) (held : List ℕ) (p : Parts) (s : Hardened) (st : Sta
       }
 
   -- ---- the run goes on in the same function, with other counters
-  pub moves-on : (k j : ℕ) (ws : List ℕ) (own : Counters) → k ≡ j → LineIn ls (s .running .function) j → length ws ≡ 1024 → SameBelow (64 * p .hot .depth) (p .words) ws
-      → Own ws (p .hot .depth) own → GoesOn ls held (p .hot .traced) (guarded p (counted (Went k) ws)) (goTo j own s)
+  pub moves-on : (k j : ℕ) (ws : List ℕ) (own : Counters) → k ≡ j → LineIn ls (s .running .function) j → length ws ≡ 1024 → SameBelow (64 * p .registers .depth) (p .words) ws
+      → Own ws (p .registers .depth) own → GoesOn ls held (p .registers .traced) (guarded p (counted (Went k) ws)) (goTo j own s)
   moves-on k j ws own e i n b o =
       record {
-        place = k;
+        line = k;
         went = refl;
         stands = λ m. record {
-          sizes = record { deep = st .sizes .deep; places-are = st .sizes .places-are; functions-are = st .sizes .functions-are; words-are = n };
+          sizes = record { deep = st .sizes .deep; resumes-are = st .sizes .resumes-are; functions-are = st .sizes .functions-are; words-are = n };
           function-is = st .function-is;
           at-is = e;
           inside = inside-line ls (s .running .function) (s .running .at) j (st .inside) i;
           own-is = o;
-          waiting = waiting-same ls (p .places) (p .functions) (p .words) ws (p .hot .depth) (s .callers) b (st .waiting);
+          waiting = waiting-same ls (p .resumes) (p .functions) (p .words) ws (p .registers .depth) (s .callers) b (st .waiting);
           last-is = st .last-is;
           vars-are = st .vars-are;
           traces = record { slots-are = st .traces .slots-are; traced-is = st .traces .traced-is };
@@ -113,15 +102,15 @@ module _ (ls : List Line) (held : List ℕ) (p : Parts) (s : Hardened) (st : Sta
       }
 
   -- ---- a test that both make
-  by-test : (b : Bool) (x : Counted) (t : Turn Counters) (ws : List ℕ) → Agrees ls held (p .hot .traced) (guarded p x) t
-      → Agrees ls held (p .hot .traced) (guarded p (cond b x (counted Alarm ws))) (must b s t)
+  by-test : (b : Bool) (x : Counted) (t : Turn Counters) (ws : List ℕ) → Agrees ls held (p .registers .traced) (guarded p x) t
+      → Agrees ls held (p .registers .traced) (guarded p (cond b x (counted Alarm ws))) (must b s t)
   by-test true x t ws a = a
   by-test false x t ws a = ends-as Alarm alarm-ends ws
 
-  pub both : (c b : Bool) → c ≡ b → (x : Counted) (t : Turn Counters) (ws : List ℕ) → Agrees ls held (p .hot .traced) (guarded p x) t
-      → Agrees ls held (p .hot .traced) (guarded p (cond c x (counted Alarm ws))) (must b s t)
-  both c b e x t ws a = subst (λ y. Agrees ls held (p .hot .traced) (guarded p (cond y x (counted Alarm ws))) (must b s t)) (sym e) (by-test b x t ws a)
+  pub both : (c b : Bool) → c ≡ b → (x : Counted) (t : Turn Counters) (ws : List ℕ) → Agrees ls held (p .registers .traced) (guarded p x) t
+      → Agrees ls held (p .registers .traced) (guarded p (cond c x (counted Alarm ws))) (must b s t)
+  both c b e x t ws a = subst (λ y. Agrees ls held (p .registers .traced) (guarded p (cond y x (counted Alarm ws))) (must b s t)) (sym e) (by-test b x t ws a)
 
-  pub checks : (r e : ℕ) (x : Counted) (t : Turn Counters) → r < 64 → Agrees ls held (p .hot .traced) (guarded p x) t
-      → Agrees ls held (p .hot .traced) (guarded p (cond (eqb (counter (p .words) (p .hot .depth) r) e) x (counted Alarm (p .words)))) (check r e s t)
+  pub checks : (r e : ℕ) (x : Counted) (t : Turn Counters) → r < 64 → Agrees ls held (p .registers .traced) (guarded p x) t
+      → Agrees ls held (p .registers .traced) (guarded p (cond (eqb (counter (p .words) (p .registers .depth) r) e) x (counted Alarm (p .words)))) (check r e s t)
   checks r e x t h a = both _ _ (ap (λ v. eqb v e) (st .own-is r h)) x t (p .words) a

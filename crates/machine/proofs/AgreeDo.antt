@@ -11,9 +11,9 @@ use Rattle.rules.specs.Variables.{doneOn}
 use Rattle.rules.specs.Hardened.{Hardened, lineStep}
 use Rattle.rules.specs.Bounds.{Fits}
 use Rattle.rules.specs.Calls.{over}
-use Rattle.machine.specs.declared.fields.Fields.{Fields}
-use Rattle.machine.specs.declared.fields.LineKind.the-variants.{Do}
-use Rattle.machine.specs.Fields.{operandsOf, asLine}
+use Rattle.line.specs.declared.Line as Declared
+use Rattle.line.specs.declared.kind.LineKind.the-variants.{Do}
+use Rattle.line.specs.Read.{asLine}
 use Rattle.machine.specs.Step.{Map, Parts, doOf, lineOf}
 use Rattle.machine.specs.Stands.{Stands}
 use Rattle.machine.proofs.Agree.{Agrees, inside-line}
@@ -26,25 +26,25 @@ over-more tr held e h =
     ap (λ x. set (tr ++ x) (length tr) e) (drop-cons held (length tr) 0 h) ∙ set-append-seam tr (getD held (length tr) 0) (drop (suc (length tr)) held) e
     ∙ sym (append-assoc tr (e ∷ []) (drop (suc (length tr)) held)) ∙ ap (λ n. (tr ++ (e ∷ [])) ++ drop n held) (sym (length-one-more tr e))
 
-module _ (ls : List Line) (held : List ℕ) (m : Map) (p : Parts) (s : Hardened) (st : Stands ls held p s) (l : Fields) where
-  pub do-agrees : p .hot .traced < length held → Fits ls (s .running .function) (p .hot .place) (asLine Do l) → Agrees ls held (p .hot .traced) (lineOf m Do l p) (lineStep ls (p .hot .place) (asLine Do l) s)
+module _ (ls : List Line) (held : List ℕ) (m : Map) (p : Parts) (s : Hardened) (st : Stands ls held p s) (l : Declared.Line) where
+  pub do-agrees : p .registers .traced < length held → Fits ls (s .running .function) (p .registers .at) (asLine Do l) → Agrees ls held (p .registers .traced) (lineOf m Do l p) (lineStep ls (p .registers .at) (asLine Do l) s)
   unfolding lineOf lineStep doOf
   do-agrees room f =
       let t = st .traces in
       record {
-        place = p .hot .place + 1;
+        line = p .registers .at + 1;
         went = refl;
         stands = λ n. record {
-          sizes = record { deep = st .sizes .deep; places-are = st .sizes .places-are; functions-are = st .sizes .functions-are; words-are = st .sizes .words-are };
+          sizes = record { deep = st .sizes .deep; resumes-are = st .sizes .resumes-are; functions-are = st .sizes .functions-are; words-are = st .sizes .words-are };
           function-is = st .function-is;
-          at-is = add-one (p .hot .place);
-          inside = inside-line ls (s .running .function) (s .running .at) (suc (p .hot .place)) (st .inside) (f .2);
+          at-is = add-one (p .registers .at);
+          inside = inside-line ls (s .running .function) (s .running .at) (suc (p .registers .at)) (st .inside) (f .2);
           own-is = st .own-is;
           waiting = st .waiting;
           last-is = st .last-is;
-          vars-are = ap (doneOn (operandsOf l)) (st .vars-are);
+          vars-are = ap (doneOn (l .operands)) (st .vars-are);
           traces = record {
-            slots-are = ap (λ x. set x (p .hot .traced) (l .e)) (t .slots-are) ∙ ap (λ i. set (over (s .trace) held) i (l .e)) (t .traced-is)
+            slots-are = ap (λ x. set x (p .registers .traced) (l .e)) (t .slots-are) ∙ ap (λ i. set (over (s .trace) held) i (l .e)) (t .traced-is)
                 ∙ over-more (s .trace) held (l .e) (omega (arith, t .traced-is));
             traced-is = omega (arith, t .traced-is, length-one-more (s .trace) (l .e));
           };

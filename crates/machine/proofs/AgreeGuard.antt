@@ -13,26 +13,26 @@ use Rattle.rules.specs.Variables.{holdsOn}
 use Rattle.rules.specs.Run.{Turn}
 use Rattle.rules.specs.Hardened.{Counters, Hardened, put, clearFrom, moved, lineStep}
 use Rattle.rules.specs.Bounds.{Fits}
-use Rattle.machine.specs.declared.fields.Fields.{Fields}
-use Rattle.machine.specs.declared.fields.LineKind.the-variants.{Tick, Test, Leave, Out, Back}
-use Rattle.machine.specs.Fields.{operandsOf, asLine}
-use Rattle.machine.specs.Words.{withCounter, zeroed}
-use Rattle.machine.specs.Guard.{counted, tickOf, testOf, leaveOf, outOf, backOf}
+use Rattle.line.specs.declared.Line as Declared
+use Rattle.line.specs.declared.kind.LineKind.the-variants.{Tick, Test, Leave, Out, Back}
+use Rattle.line.specs.Read.{asLine}
+use Rattle.guard.specs.Counters.{withCounter, zeroed}
+use Rattle.guard.specs.Guard.{counted, tickOf, testOf, leaveOf, outOf, backOf}
 use Rattle.machine.specs.Step.{Map, Parts, guarded, lineOf}
 use Rattle.machine.specs.Stands.{Own, Stands}
-use Rattle.machine.proofs.Lists.{length-zeroed}
+use Rattle.guard.proofs.Zeroed.{length-zeroed}
 use Rattle.machine.proofs.Own.{SameBelow, set-below, zeroed-below, below-both, own-put, own-clear}
 use Rattle.machine.proofs.Agree.{Agrees, moves-on, both, checks}
 
-module _ (ls : List Line) (held : List ℕ) (m : Map) (p : Parts) (s : Hardened) (st : Stands ls held p s) (l : Fields) where
+module _ (ls : List Line) (held : List ℕ) (m : Map) (p : Parts) (s : Hardened) (st : Stands ls held p s) (l : Declared.Line) where
   abbrev d : ℕ
-  d = p .hot .depth
+  d = p .registers .depth
 
   abbrev ws : List ℕ
   ws = p .words
 
   abbrev k : ℕ
-  k = p .hot .place
+  k = p .registers .at
 
   abbrev own : Counters
   own = s .running .own
@@ -54,14 +54,14 @@ module _ (ls : List Line) (held : List ℕ) (m : Map) (p : Parts) (s : Hardened)
       below-both (64 * d) ws (withCounter ws d r v) (withCounter (withCounter ws d r v) d q w) (put-below r v)
       (set-below (64 * d) (withCounter ws d r v) (64 * d + q) w (omega arith))
 
-  pub tick-agrees : Fits ls (s .running .function) k (asLine Tick l) → Agrees ls held (p .hot .traced) (lineOf m Tick l p) (lineStep ls k (asLine Tick l) s)
+  pub tick-agrees : Fits ls (s .running .function) k (asLine Tick l) → Agrees ls held (p .registers .traced) (lineOf m Tick l p) (lineStep ls k (asLine Tick l) s)
   unfolding lineOf lineStep tickOf
   tick-agrees f =
       checks ls held p s st (l .r) (l .e) (counted (Went (k + 1)) (withCounter ws d (l .r) (l .a))) (moved (suc k) (put (l .r) (l .a)) s) (f .0)
       (moves-on ls held p s st (k + 1) (suc k) (withCounter ws d (l .r) (l .a)) (put (l .r) (l .a) own) (add-one k) (f .3) (simp length-set (st .sizes .words-are))
       (put-below (l .r) (l .a)) (put-own (l .r) (l .a) (f .0)))
 
-  pub back-agrees : Fits ls (s .running .function) k (asLine Back l) → Agrees ls held (p .hot .traced) (lineOf m Back l p) (lineStep ls k (asLine Back l) s)
+  pub back-agrees : Fits ls (s .running .function) k (asLine Back l) → Agrees ls held (p .registers .traced) (lineOf m Back l p) (lineStep ls k (asLine Back l) s)
   unfolding lineOf lineStep backOf
   back-agrees f =
       let w = withCounter ws d (l .r) (l .a) in
@@ -70,7 +70,7 @@ module _ (ls : List Line) (held : List ℕ) (m : Map) (p : Parts) (s : Hardened)
       (moves-on ls held p s st (k + 1) (suc k) w (put (l .r) (l .a) own) (add-one k) (f .4) (simp length-set (st .sizes .words-are))
       (put-below (l .r) (l .a)) (put-own (l .r) (l .a) (f .0))))
 
-  pub leave-agrees : Fits ls (s .running .function) k (asLine Leave l) → Agrees ls held (p .hot .traced) (lineOf m Leave l p) (lineStep ls k (asLine Leave l) s)
+  pub leave-agrees : Fits ls (s .running .function) k (asLine Leave l) → Agrees ls held (p .registers .traced) (lineOf m Leave l p) (lineStep ls k (asLine Leave l) s)
   unfolding lineOf lineStep leaveOf
   leave-agrees f =
       let w = withCounter ws d (l .r) 0 in
@@ -80,7 +80,7 @@ module _ (ls : List Line) (held : List ℕ) (m : Map) (p : Parts) (s : Hardened)
       (moves-on ls held p s st (l .go) (l .go) (withCounter w d (l .s) (l .a)) (put (l .s) (l .a) (put (l .r) 0 own)) refl (f .5)
       (simp length-set (st .sizes .words-are)) (two-below (l .r) 0 (l .s) (l .a)) (put-two (l .r) 0 (l .s) (l .a) (f .0) (f .1))))
 
-  pub out-agrees : Fits ls (s .running .function) k (asLine Out l) → Agrees ls held (p .hot .traced) (lineOf m Out l p) (lineStep ls k (asLine Out l) s)
+  pub out-agrees : Fits ls (s .running .function) k (asLine Out l) → Agrees ls held (p .registers .traced) (lineOf m Out l p) (lineStep ls k (asLine Out l) s)
   unfolding lineOf lineStep outOf
   out-agrees f =
       let from = 64 * d + l .t in
@@ -95,11 +95,11 @@ module _ (ls : List Line) (held : List ℕ) (m : Map) (p : Parts) (s : Hardened)
       (own-put w d (l .s) (l .a) (clearFrom (l .t) (l .r) own) (omega (arith, long, room (l .s) (f .1)))
       (own-clear ws d (l .t) (l .r) own (f .2) (room (l .r) (f .0)) (st .own-is))))
 
-  pub test-agrees : Fits ls (s .running .function) k (asLine Test l) → Agrees ls held (p .hot .traced) (lineOf m Test l p) (lineStep ls k (asLine Test l) s)
+  pub test-agrees : Fits ls (s .running .function) k (asLine Test l) → Agrees ls held (p .registers .traced) (lineOf m Test l p) (lineStep ls k (asLine Test l) s)
   unfolding lineOf lineStep testOf
   test-agrees f = checks ls held p s st (l .r) (l .e) _ _ (f .1)
-      (subst (λ b. Agrees ls held (p .hot .traced) (guarded p (cond b (counted (Went (k + 1)) held-words) (counted (Went (l .go)) failed-words))) (cond (holdsOn (operandsOf l) (s .vars)) held-turn failed-turn))
-      (ap (holdsOn (operandsOf l)) (sym (st .vars-are))) (by (holdsOn (operandsOf l) (s .vars))))
+      (subst (λ b. Agrees ls held (p .registers .traced) (guarded p (cond b (counted (Went (k + 1)) held-words) (counted (Went (l .go)) failed-words))) (cond (holdsOn (l .operands) (s .vars)) held-turn failed-turn))
+      (ap (holdsOn (l .operands)) (sym (st .vars-are))) (by (holdsOn (l .operands) (s .vars))))
     where
       held-words : List ℕ
       held-words = withCounter (withCounter ws d (l .r) (l .a)) d (l .s) (l .b)
@@ -113,7 +113,7 @@ module _ (ls : List Line) (held : List ℕ) (m : Map) (p : Parts) (s : Hardened)
       failed-turn : Turn Counters
       failed-turn = moved (l .go) (λ x. put (l .t) (l .c) (put (l .r) (l .a) x)) s
 
-      by : (b : Bool) → Agrees ls held (p .hot .traced) (guarded p (cond b (counted (Went (k + 1)) held-words) (counted (Went (l .go)) failed-words))) (cond b held-turn failed-turn)
+      by : (b : Bool) → Agrees ls held (p .registers .traced) (guarded p (cond b (counted (Went (k + 1)) held-words) (counted (Went (l .go)) failed-words))) (cond b held-turn failed-turn)
       by true =
           moves-on ls held p s st (k + 1) (suc k) held-words (put (l .s) (l .b) (put (l .r) (l .a) own)) (add-one k) (f .8) (simp length-set (st .sizes .words-are))
           (two-below (l .r) (l .a) (l .s) (l .b)) (put-two (l .r) (l .a) (l .s) (l .b) (f .1) (f .2))

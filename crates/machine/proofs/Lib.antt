@@ -1,9 +1,6 @@
-pub mod Lists
-pub mod Guards
-pub mod Returns
 pub mod Arms
-pub mod Decode
 pub mod Own
+pub mod Fields
 pub mod Agree
 pub mod AgreeGuard
 pub mod AgreeDo
@@ -12,6 +9,3 @@ pub mod Steps
 pub mod Runs
 pub mod Sound
 pub mod Survey
-pub mod Struck
-pub mod Singly
-pub mod Whole

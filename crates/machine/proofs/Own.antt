@@ -12,9 +12,9 @@ use Rattle.rules.specs.Line.{Line}
 use Rattle.rules.specs.State.{Frame}
 use Rattle.rules.specs.Hardened.{Counters, clear, put, clearFrom}
 use Rattle.rules.specs.Calls.{zeros}
-use Rattle.machine.specs.Words.{counter, withCounter, zeroed, freshAt}
+use Rattle.guard.specs.Counters.{counter, withCounter, zeroed, freshAt}
 use Rattle.machine.specs.Stands.{Own, Waiting}
-use Rattle.machine.proofs.Lists.{length-zeros, length-zeroed}
+use Rattle.guard.proofs.Zeroed.{length-zeros, length-zeroed}
 
 -- ---- words that were cleared
 zeros-at : (n i : ℕ) → i < n → getD (zeros n) i 0 ≡ 0

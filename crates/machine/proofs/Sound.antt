@@ -24,12 +24,12 @@ use Rattle.rules.proofs.Place.{function-at-next, function-outside, lines-all, f
 use Rattle.rules.proofs.FunctionLine.{line-number, placed}
 use Rattle.rules.proofs.Bounds.{bounds}
 use Rattle.rules.proofs.Reading.{lines-of, recognises}
-use Rattle.machine.specs.declared.fields.Fields.{Fields}
-use Rattle.machine.specs.declared.fields.LineKind.{LineKind}
-use Rattle.machine.specs.declared.fields.LineKind.the-variants.{Do, Tick, Test, Leave, Out, Call, Back, Ret}
-use Rattle.machine.specs.Fields.{lineKindAt, fieldsAt, asLine}
+use Rattle.line.specs.declared.Line as Declared
+use Rattle.line.specs.declared.kind.LineKind.{LineKind}
+use Rattle.line.specs.declared.kind.LineKind.the-variants.{Do, Tick, Test, Leave, Out, Call, Back, Ret}
+use Rattle.line.specs.Read.{lineKindAt, structAt, asLine}
 use Rattle.machine.specs.Stands.{Inside, Sound}
-use Rattle.machine.proofs.Decode.{line-is}
+use Rattle.line.proofs.Decode.{line-is}
 
 -- ---- an accepted table
 start-zero : (ls : List Line) → 0 < length ls → startOf ls 0 ≡ 0
@@ -104,7 +104,7 @@ module _ (ls : List Line) (so : Sound ls) where
           (ret-by (isRet (lineAt ls k)) (omega (arith, n, function-at-next ls k l, subst (λ x. 0 < functionAt ls x) e reached)))
 
 -- so that its a is the word that the fields have
-ret-a : (kd : LineKind) (l : Fields) → isRet (asLine kd l) ≡ true → l .a ≡ aOfRet (asLine kd l)
+ret-a : (kd : LineKind) (l : Declared.Line) → isRet (asLine kd l) ≡ true → l .a ≡ aOfRet (asLine kd l)
 ret-a Do l e = cc
 ret-a Tick l e = cc
 ret-a Test l e = cc
@@ -117,8 +117,8 @@ ret-a Ret l e = refl
 pub home-in : (bs : List ℕ) → Sound (linesIn bs) → finishOf (linesIn bs) 0 - 1 < length (linesIn bs)
 home-in bs so = omega (arith, some-place (linesIn bs) so, so .finish-in 0 (so .first .known))
 
-pub home-is : (bs : List ℕ) → Sound (linesIn bs) → fieldsAt bs (finishOf (linesIn bs) 0 - 1) .a ≡ retValue (linesIn bs) 0
+pub home-is : (bs : List ℕ) → Sound (linesIn bs) → structAt bs (finishOf (linesIn bs) 0 - 1) .a ≡ retValue (linesIn bs) 0
 home-is bs so =
     let k = finishOf (linesIn bs) 0 - 1 in
     let e = line-is bs k (home-in bs so) in
-    ret-a (lineKindAt bs k) (fieldsAt bs k) (subst (λ x. isRet x ≡ true) e (last-ret (linesIn bs) so)) ∙ ap aOfRet (sym e)
+    ret-a (lineKindAt bs k) (structAt bs k) (subst (λ x. isRet x ≡ true) e (last-ret (linesIn bs) so)) ∙ ap aOfRet (sym e)

@@ -14,13 +14,13 @@ use Rattle.rules.specs.Line.{Line, linesIn, lineAt, isRet}
 use Rattle.rules.specs.Function.{functionAt, startOf}
 use Rattle.rules.proofs.Search.{first-is}
 use Rattle.rules.proofs.Place.{function-at-next, function-at-mono}
-use Rattle.machine.specs.declared.fields.Fields.{Fields}
-use Rattle.machine.specs.declared.fields.LineKind.{LineKind}
-use Rattle.machine.specs.declared.fields.LineKind.the-variants.{Do, Tick, Test, Leave, Out, Call, Back, Ret}
-use Rattle.machine.specs.Fields.{lineKindAt, fieldsAt, asLine}
-use Rattle.machine.specs.Map.{endsFunction, Passed, passed, passedOf}
+use Rattle.line.specs.declared.Line as Declared
+use Rattle.line.specs.declared.kind.LineKind.{LineKind}
+use Rattle.line.specs.declared.kind.LineKind.the-variants.{Do, Tick, Test, Leave, Out, Call, Back, Ret}
+use Rattle.line.specs.Read.{lineKindAt, structAt, asLine, endsFunction}
+use Rattle.machine.specs.Map.{Passed, passed, passedOf}
 use Rattle.machine.specs.Stands.{Sound, Located}
-use Rattle.machine.proofs.Decode.{line-is}
+use Rattle.line.proofs.Decode.{line-is, ends-ret}
 
 pub record Surveyed (ls : List Line) (starts owners : List ℕ) (f k : ℕ) : Type 0 where
   pub function-is : f ≡ functionAt ls k
@@ -29,16 +29,6 @@ pub record Surveyed (ls : List Line) (starts owners : List ℕ) (f k : ℕ) : Ty
   pub owners-are : (j : ℕ) → j < k → getD owners j 0 ≡ functionAt ls j
   pub starts-long : length starts ≡ 33
   pub owners-long : length owners ≡ 2049
-
-pub ends-ret : (kd : LineKind) (l : Fields) → isRet (asLine kd l) ≡ endsFunction kd
-ends-ret Do l = refl
-ends-ret Tick l = refl
-ends-ret Test l = refl
-ends-ret Leave l = refl
-ends-ret Out l = refl
-ends-ret Call l = refl
-ends-ret Back l = refl
-ends-ret Ret l = refl
 
 -- the next line after a ret is the first of the next function
 start-after : (ls : List Line) (k : ℕ) → k < length ls → functionAt ls (suc k) ≡ suc (functionAt ls k) → startOf ls (suc (functionAt ls k)) ≡ suc k
@@ -120,7 +110,7 @@ pub surveyed-next : (bs : List ℕ) → Sound (linesIn bs) → (starts owners : 
     → (g : ℕ) (ss : List ℕ) → passed g ss ≡ passedOf (lineKindAt bs k) k f starts → Surveyed (linesIn bs) ss (set owners k f) g (k + 1)
 unfolding passedOf
 surveyed-next bs so starts owners f k l s g ss e =
-    next-by (linesIn bs) so starts owners f k l s (endsFunction (lineKindAt bs k)) (ap isRet (line-is bs k l) ∙ ends-ret (lineKindAt bs k) (fieldsAt bs k)) (passed g ss) e
+    next-by (linesIn bs) so starts owners f k l s (endsFunction (lineKindAt bs k)) (ap isRet (line-is bs k l) ∙ ends-ret (lineKindAt bs k) (structAt bs k)) (passed g ss) e
 
 pub located : (ls : List Line) (starts owners : List ℕ) (f k : ℕ) → Surveyed ls starts owners f k → length ls ≤ k → Located ls starts owners
 located ls starts owners f k s h =

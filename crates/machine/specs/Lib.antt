@@ -1,9 +1,5 @@
-pub mod Fields
-pub mod Words
-pub mod Guard
 pub mod Ready
 pub mod Step
 pub mod Run
 pub mod Stands
 pub mod Map
-pub mod Struck

@@ -1,47 +1,30 @@
--- A run of at most as many steps as its budget, and the machine that it starts in.
+-- A run of at most as many steps as its budget.
 use Prim.Native.Nat.{ℕ, zero, suc, _+_}
 use mathlib.Core.List.{List}
-use Rattle.rules.specs.declared.step.Step.{Step}
-use Rattle.rules.specs.declared.step.Step.the-variants.{Went, Finished, Alarm, TooManyOpen, Beyond}
-use Rattle.machine.specs.declared.machine.Hot.{Hot}
-use Rattle.machine.specs.declared.machine.Machine.{Machine}
-use Rattle.machine.specs.declared.machine.Stopped.{Stopped}
+use Rattle.rules.specs.declared.step.Step.the-variants.{Went}
+use Rattle.state.specs.declared.machine.Machine.{Machine}
+use Rattle.state.specs.declared.machine.Stopped.{Stopped}
+use Rattle.state.specs.Machine.{registersAt, onward}
 use Rattle.machine.specs.Step.{Map, Parts, partsOf, After, stepOf}
 
 -- the parts of a machine, with the counters and slots that it is lent
 abbrev pub partsIn : Machine → (words slots : List ℕ) → Parts
-partsIn m ws tr = partsOf (m .hot) (m .places) (m .functions) (m .variables) ws tr
+partsIn m ws tr = partsOf (m .registers) (m .resumes) (m .functions) (m .variables) ws tr
 
 abbrev pub stoppedWith : Stopped → (words slots : List ℕ) → After
 stoppedWith x ws tr = record { step = x .step; parts = partsIn (x .machine) ws tr }
 
--- the machine put together where a run stops
-abbrev pub stoppedAt : Step → (places functions vars : List ℕ) → Hot → Stopped
-stoppedAt s ps fs vs h = record { step = s; machine = record { places = ps; functions = fs; variables = vs; hot = h } }
-
--- the numbers with the place and the steps set
-abbrev pub hotAt : Hot → (place steps : ℕ) → Hot
-hotAt h k n =
-    record { depth = h .depth; function = h .function; place = k; last = h .last; steps = n; traced = h .traced }
-
-abbrev pub partsAt : Parts → (place steps : ℕ) → Parts
-partsAt p k n = partsOf (hotAt (p .hot) k n) (p .places) (p .functions) (p .vars) (p .words) (p .slots)
-
--- by whether a step went on
-abbrev pub onward : {A : Type 0} → Step → (ℕ → A) → A → A
-onward (Went k) f z = f k
-onward Finished f z = z
-onward Alarm f z = z
-onward (TooManyOpen n) f z = z
-onward (Beyond n) f z = z
+-- with where the run is and the steps set
+abbrev pub partsAt : Parts → (at steps : ℕ) → Parts
+partsAt p k n = partsOf (registersAt (p .registers) k n) (p .resumes) (p .functions) (p .vars) (p .words) (p .slots)
 
 -- a step that ends a run is counted too
 abbrev pub stopsAfter : (steps : ℕ) → After → After
-stopsAfter n a = record { step = a .step; parts = partsAt (a .parts) (a .parts .hot .place) n }
+stopsAfter n a = record { step = a .step; parts = partsAt (a .parts) (a .parts .registers .at) n }
 
 unfoldable pub runOf : (lines : List ℕ) → Map → (budget : ℕ) → Parts → After
-runOf bs m zero p = record { step = Went (p .hot .place); parts = p }
+runOf bs m zero p = record { step = Went (p .registers .at); parts = p }
 runOf bs m (suc b) p =
     let a = stepOf bs m p in
-    let n = p .hot .steps + 1 in
+    let n = p .registers .steps + 1 in
     onward (a .step) (λ k. runOf bs m b (partsAt (a .parts) k n)) (stopsAfter n a)

@@ -10,7 +10,7 @@ use Rattle.rules.specs.State.{Frame}
 use Rattle.rules.specs.Hardened.{Counters, Hardened}
 use Rattle.rules.specs.Calls.{over}
 use Rattle.rules.specs.Bounds.{Within}
-use Rattle.machine.specs.Words.{counter}
+use Rattle.guard.specs.Counters.{counter}
 use Rattle.machine.specs.Step.{Map, Parts}
 
 -- ---- the table
@@ -48,38 +48,38 @@ abbrev pub Own : List ℕ → (d : ℕ) → Counters → Type 0
 Own ws d own = (r : ℕ) → r < maxRegions → counter ws d r ≡ own r
 
 -- the function that waits at depth d
-pub record WaitsAt (ls : List Line) (places functions words : List ℕ) (d : ℕ) (f : Frame Counters) : Type 0 where
+pub record WaitsAt (ls : List Line) (resumes functions words : List ℕ) (d : ℕ) (f : Frame Counters) : Type 0 where
   pub function-is : getD functions d 0 ≡ f .function
-  pub at-is : getD places d 0 ≡ f .at
+  pub at-is : getD resumes d 0 ≡ f .at
   pub inside : Inside ls (f .function) (f .at)
   pub own-is : Own words d (f .own)
 
 -- the functions that wait below depth d
-abbrev pub Waiting : List Line → (places functions words : List ℕ) → (d : ℕ) → List (Frame Counters) → Type 0
+abbrev pub Waiting : List Line → (resumes functions words : List ℕ) → (d : ℕ) → List (Frame Counters) → Type 0
 Waiting ls ps fs ws zero [] = Unit {0}
 Waiting ls ps fs ws zero (g ∷ gs) = ⊥
 Waiting ls ps fs ws (suc d) [] = ⊥
 Waiting ls ps fs ws (suc d) (g ∷ gs) = WaitsAt ls ps fs ws d g × Waiting ls ps fs ws d gs
 
 pub record Sizes (p : Parts) : Type 0 where
-  pub deep : p .hot .depth < maxOpen
-  pub places-are : length (p .places) ≡ maxOpen
+  pub deep : p .registers .depth < maxOpen
+  pub resumes-are : length (p .resumes) ≡ maxOpen
   pub functions-are : length (p .functions) ≡ maxOpen
   pub words-are : length (p .words) ≡ counterWords
 
 -- the slots, which held this when the run began, hold its trace
 pub record Traced (p : Parts) (held trace : List ℕ) : Type 0 where
   pub slots-are : p .slots ≡ over trace held
-  pub traced-is : p .hot .traced ≡ length trace
+  pub traced-is : p .registers .traced ≡ length trace
 
 pub record Stands (ls : List Line) (held : List ℕ) (p : Parts) (s : Hardened) : Type 0 where
   pub sizes : Sizes p
-  pub function-is : p .hot .function ≡ s .running .function
-  pub at-is : p .hot .place ≡ s .running .at
+  pub function-is : p .registers .function ≡ s .running .function
+  pub at-is : p .registers .at ≡ s .running .at
   pub inside : Inside ls (s .running .function) (s .running .at)
-  pub own-is : Own (p .words) (p .hot .depth) (s .running .own)
-  pub waiting : Waiting ls (p .places) (p .functions) (p .words) (p .hot .depth) (s .callers)
-  pub last-is : p .hot .last ≡ s .last 0
+  pub own-is : Own (p .words) (p .registers .depth) (s .running .own)
+  pub waiting : Waiting ls (p .resumes) (p .functions) (p .words) (p .registers .depth) (s .callers)
+  pub last-is : p .registers .last ≡ s .last 0
   pub vars-are : p .vars ≡ s .vars
   pub traces : Traced p held (s .trace)
 
@@ -88,6 +88,6 @@ pub record Going (ls : List Line) (left : ℕ) (p : Parts) : Type 0 where
   pub state : Hardened
   pub held : List ℕ
   pub stands : Stands ls held p state
-  pub few : p .hot .steps + left ≤ 65535
-  pub slots : p .hot .steps + left ≤ length held
-  pub traced : p .hot .traced ≤ p .hot .steps
+  pub few : p .registers .steps + left ≤ 65535
+  pub slots : p .registers .steps + left ≤ length held
+  pub traced : p .registers .traced ≤ p .registers .steps

@@ -4,17 +4,19 @@ ghost use Rattle.rules.specs.Line.{linesIn};
 ghost use Rattle.machine.specs.Step.{mapOf};
 ghost use Rattle.machine.specs.Run.{partsIn, stoppedWith, runOf};
 ghost use Rattle.machine.specs.Stands.{Ready, Going};
-use crate::line;
-use crate::machine;
-use crate::machine::Machine;
-use crate::machine::Stopped;
+use crate::step;
+use rules::limits::FUNCTIONS;
+use rules::limits::LINES;
 use rules::step::Step;
+use state::machine;
+use state::machine::Machine;
+use state::machine::Stopped;
 
-// Takes the machine apart, so that its numbers stay in registers, and puts it together where it stops.
+// Takes the machine apart, so that its registers stay in those of the processor, and puts it together where it stops.
 pub fn run_lines(
     lines: &[u8],
-    starts: &[u16; 33],
-    owners: &[u8; 2049],
+    starts: &[u16; FUNCTIONS + 1],
+    owners: &[u8; LINES + 1],
     home: u16,
     start: Machine,
     budget: u16,
@@ -24,42 +26,42 @@ pub fn run_lines(
     requires { ⌜ (Ready (now lines) (mapOf (now starts) (now owners) home)) × (Going (linesIn (now lines)) budget (partsIn start (now counters) (now trace))) ⌝ }
     ensures { λ r. ⌜ stoppedWith r (now (counters .exit)) (now (trace .exit)) ≡ runOf (now (lines .entry)) (mapOf (now (starts .entry)) (now (owners .entry)) home) budget (partsIn start (now (counters .entry)) (now (trace .entry))) ⌝ }
 {
-    let mut places = start.places;
+    let mut resumes = start.resumes;
     let mut functions = start.functions;
     let mut variables = start.variables;
-    let mut h = start.hot;
+    let mut h = start.registers;
     let mut left = budget;
     while 0 < left {
         let steps = h.steps + 1;
-        let t = line::line(
+        let t = step::line(
             lines,
             starts,
             owners,
             home,
             h,
-            &mut places,
+            &mut resumes,
             &mut functions,
             &mut variables,
             counters,
             trace,
         );
         let s = t.step;
-        let n = t.hot;
+        let n = t.registers;
         let Step::Went(k) = s else {
-            let e = machine::standing(n, n.place, steps);
-            return machine::at_end(s, places, functions, variables, e);
+            let e = machine::standing(n, n.at, steps);
+            return machine::at_end(s, resumes, functions, variables, e);
         };
         h = machine::standing(n, k, steps);
         left -= 1;
     }
-    machine::at_end(Step::Went(h.place), places, functions, variables, h)
+    machine::at_end(Step::Went(h.at), resumes, functions, variables, h)
 }
 
 // One step is a run of one.
 pub fn step(
     lines: &[u8],
-    starts: &[u16; 33],
-    owners: &[u8; 2049],
+    starts: &[u16; FUNCTIONS + 1],
+    owners: &[u8; LINES + 1],
     home: u16,
     machine: Machine,
     counters: &mut [u16],

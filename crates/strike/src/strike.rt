@@ -1,10 +1,10 @@
 // A run that a jump may strike: to the step that the jump names, there to its place, and on.
 ghost use mathlib.Core.Path.{_≡_};
 ghost use Rattle.rules.specs.Line.{linesIn};
 ghost use Rattle.machine.specs.Step.{mapOf};
 ghost use Rattle.machine.specs.Run.{partsIn, stoppedWith};
 ghost use Rattle.machine.specs.Stands.{Ready, Going};
-ghost use Rattle.machine.specs.Struck.{landOf, struckOf};
+ghost use Rattle.strike.specs.Struck.{landOf, struckOf};
 use crate::machine;
 use crate::machine::Machine;
 use crate::machine::Stopped;
@@ -26,7 +26,7 @@ pub fn land(
     requires { ⌜ (Ready (now lines) (mapOf (now starts) (now owners) home)) × (Going (linesIn (now lines)) left (partsIn machine (now counters) (now trace))) ⌝ }
     ensures { λ r. ⌜ stoppedWith r (now (counters .exit)) (now (trace .exit)) ≡ landOf (now (lines .entry)) (mapOf (now (starts .entry)) (now (owners .entry)) home) left place (partsIn machine (now (counters .entry)) (now (trace .entry))) ⌝ }
 {
-    let f = machine.hot.function as usize;
+    let f = machine.registers.function as usize;
     let first = starts[f];
     let last = starts[f + 1] - first;
     if last < place {

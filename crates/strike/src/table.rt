@@ -7,9 +7,10 @@ ghost use Rattle.rules.specs.ReadBack.{isHardened};
 ghost use Rattle.rules.specs.Run.{outcomeOf};
 ghost use Rattle.rules.specs.Calls.{zeros, countersAfter};
 ghost use Rattle.rules.specs.declared.refusal.Verdict.the-variants.{Accepted};
 ghost use Rattle.machine.specs.Step.{mapOf};
 ghost use Rattle.machine.specs.Stands.{Ready};
-ghost use Rattle.machine.specs.Struck.{ranOf, ranWith, acceptedRun};
+ghost use Rattle.state.specs.Machine.{ranOf};
+ghost use Rattle.strike.specs.Struck.{ranWith, acceptedRun};
 use crate::machine;
 use crate::machine::Stopped;
 use crate::map;
@@ -36,7 +37,7 @@ fn answer(x: Stopped) -> Ran
 {
     let s = x.step;
     let m = x.machine;
-    let h = m.hot;
+    let h = m.registers;
     let variables = m.variables;
     let outcome = outcome_of(s);
     Ran {

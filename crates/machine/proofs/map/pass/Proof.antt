@@ -10,15 +10,16 @@ use denote.Enum.Declared.{tagOf}
 use types.Run.{OneOf}
 use borrow.Author.Needs.{needs}
 use lib.ListN.{set}
-use Rattle.machine.proofs.fields.LineKind.{the-type}
-use Rattle.machine.specs.declared.fields.LineKind.{LineKind}
-use Rattle.machine.specs.declared.fields.LineKind.the-variants.{Do, Tick, Test, Leave, Out, Call, Back, Ret}
-use Rattle.machine.specs.Map.{endsFunction, passed, passedOf}
+use Rattle.line.proofs.kind.LineKind.{the-type}
+use Rattle.line.specs.declared.kind.LineKind.{LineKind}
+use Rattle.line.specs.declared.kind.LineKind.the-variants.{Do, Tick, Test, Leave, Out, Call, Back, Ret}
+use Rattle.line.specs.Read.{endsFunction}
+use Rattle.machine.specs.Map.{passed, passedOf}
 use Rattle.machine.proofs.map.pass.Statement.{statement}
 use Rattle.machine.proofs.map.pass.Tie as tie
 use Rattle.machine.proofs.map.pass.Reads as reads
 use Rattle.machine.proofs.map.pass.Lts as lts
-use Rattle.machine.proofs.fields.kind_at.Reads as kind-at-reads
+use Rattle.line.proofs.read.kind_at.Reads as kind-at-reads
 
 -- a kind that is none of the last variant's
 not-ret : (kd : LineKind) → OneOf (0 ∷ 1 ∷ 2 ∷ 3 ∷ 4 ∷ 5 ∷ 6 ∷ []) (tagOf the-type kd) → endsFunction kd ≡ false

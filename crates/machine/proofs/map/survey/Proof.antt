@@ -5,7 +5,7 @@ use denote.Ref.{now}
 use borrow.Author.Needs.{needs}
 use lib.ListN.{length}
 use Rattle.rules.specs.Line.{linesIn}
-use Rattle.machine.proofs.Decode.{length-lines, line-bytes}
+use Rattle.line.proofs.Decode.{length-lines, line-bytes}
 use Rattle.machine.proofs.Survey.{Surveyed, surveyed-start, surveyed-next, function-few, located}
 use Rattle.machine.proofs.map.survey.Statement.{statement}
 use Rattle.machine.proofs.map.survey.Tie as tie

@@ -4,21 +4,22 @@ use Rattle.machine.specs.Run.{stoppedWith}
 use borrow.Author.Needs.{needs}
 use native.Mathlib.Omega.{arith}
 use Rattle.machine.specs.Step.{mapOf, partsOf}
-use Rattle.machine.proofs.Runs.{Running, run-none, run-stops, going-steps, runs-on, not-went}
+use Rattle.machine.proofs.Runs.{Running, run-none, run-stops, going-steps, runs-on}
+use Rattle.state.proofs.Ends.{not-went}
 use Rattle.machine.proofs.run.run_lines.Statement.{statement}
 use Rattle.machine.proofs.run.run_lines.Tie as tie
 use Rattle.machine.proofs.run.run_lines.Reads as reads
 use Rattle.machine.proofs.run.run_lines.Lts as lts
-use Rattle.machine.proofs.line.line.Reads as line-reads
-use Rattle.machine.proofs.machine.at_end.Reads as at-end-reads
-use Rattle.machine.proofs.machine.standing.Reads as standing-reads
+use Rattle.machine.proofs.step.line.Reads as line-reads
+use Rattle.state.proofs.machine.at_end.Reads as at-end-reads
+use Rattle.state.proofs.machine.standing.Reads as standing-reads
 
 abbrev Inv-loop : tie.InvT-loop
-Inv-loop lines starts owners home budget counters₀ trace₀ places₀ functions₀ variables₀ h₀ left₀ counters trace places functions variables h left =
-    Running lines (mapOf starts owners home) budget (partsOf h₀ places₀ functions₀ variables₀ counters₀ trace₀) left (partsOf h places functions variables counters trace)
+Inv-loop lines starts owners home budget counters₀ trace₀ resumes₀ functions₀ variables₀ h₀ left₀ counters trace resumes functions variables h left =
+    Running lines (mapOf starts owners home) budget (partsOf h₀ resumes₀ functions₀ variables₀ counters₀ trace₀) left (partsOf h resumes functions variables counters trace)
 
 abbrev μ-loop : tie.MeasureT-loop
-μ-loop lines starts owners home budget counters₀ trace₀ places₀ functions₀ variables₀ h₀ left₀ counters trace places functions variables h left =
+μ-loop lines starts owners home budget counters₀ trace₀ resumes₀ functions₀ variables₀ h₀ left₀ counters trace resumes functions variables h left =
     left
 
 loop-holds : tie.Need-loop-holds Inv-loop μ-loop

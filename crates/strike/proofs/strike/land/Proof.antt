@@ -3,17 +3,17 @@ use mathlib.Core.Path.{sym, ap, _∙_, subst}
 use native.Mathlib.Omega.{arith}
 use denote.Ref.{now}
 use Rattle.rules.specs.Line.{linesIn}
 use Rattle.machine.specs.Step.{mapOf}
 use Rattle.machine.specs.Run.{partsIn, runOf}
 use Rattle.machine.specs.Stands.{Going}
-use Rattle.machine.proofs.Struck.{function-in, first-before-last, last-few, going-there, lands-beyond, lands-on}
+use Rattle.strike.proofs.Struck.{function-in, first-before-last, last-few, going-there, lands-beyond, lands-on}
 use borrow.Author.Needs.{needs}
-use Rattle.machine.proofs.strike.land.Statement.{statement}
-use Rattle.machine.proofs.strike.land.Tie as tie
-use Rattle.machine.proofs.strike.land.Reads as reads
-use Rattle.machine.proofs.strike.land.Lts as lts
-use Rattle.machine.proofs.machine.at_place.Reads as at-place-reads
+use Rattle.strike.proofs.strike.land.Statement.{statement}
+use Rattle.strike.proofs.strike.land.Tie as tie
+use Rattle.strike.proofs.strike.land.Reads as reads
+use Rattle.strike.proofs.strike.land.Lts as lts
+use Rattle.state.proofs.machine.at_place.Reads as at-place-reads
 use Rattle.machine.proofs.run.run_lines.Reads as run-lines-reads
 
 cast-f : tie.Need-cast-f
 cast-f c = search needs

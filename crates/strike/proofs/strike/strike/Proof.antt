@@ -1,15 +1,15 @@
 -- `machine::strike::strike` meets its contract. Assumes nothing.
 use mathlib.Core.Path.{_∙_}
 use native.Mathlib.Omega.{arith}
-use Rattle.machine.proofs.Runs.{not-went}
-use Rattle.machine.proofs.Struck.{going-fewer, going-left, struck-none, struck-stopped, struck-there}
+use Rattle.state.proofs.Ends.{not-went}
+use Rattle.strike.proofs.Struck.{going-fewer, going-left, struck-none, struck-stopped, struck-there}
 use borrow.Author.Needs.{needs}
-use Rattle.machine.proofs.strike.strike.Statement.{statement}
-use Rattle.machine.proofs.strike.strike.Tie as tie
-use Rattle.machine.proofs.strike.strike.Reads as reads
-use Rattle.machine.proofs.strike.strike.Lts as lts
+use Rattle.strike.proofs.strike.strike.Statement.{statement}
+use Rattle.strike.proofs.strike.strike.Tie as tie
+use Rattle.strike.proofs.strike.strike.Reads as reads
+use Rattle.strike.proofs.strike.strike.Lts as lts
 use Rattle.machine.proofs.run.run_lines.Reads as run-lines-reads
-use Rattle.machine.proofs.strike.land.Reads as land-reads
+use Rattle.strike.proofs.strike.land.Reads as land-reads
 
 run-lines-requires : tie.Need-run-lines-requires
 run-lines-requires c κs = search needs

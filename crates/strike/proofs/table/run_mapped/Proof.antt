@@ -4,21 +4,21 @@ use native.Mathlib.Omega.{arith}
 use denote.Ref.{now}
 use Rattle.rules.specs.Line.{linesIn}
 use Rattle.rules.specs.Calls.{zeros}
 use Rattle.machine.specs.Step.{mapOf}
 use Rattle.machine.specs.Run.{partsIn}
 use Rattle.machine.specs.Stands.{Going}
-use Rattle.machine.specs.Struck.{struckOf}
-use Rattle.machine.proofs.Whole.{going-start, answer-is}
+use Rattle.strike.specs.Struck.{struckOf}
+use Rattle.strike.proofs.Whole.{going-start, answer-is}
 use borrow.Author.Needs.{needs}
-use Rattle.machine.proofs.table.run_mapped.Statement.{statement}
-use Rattle.machine.proofs.table.run_mapped.Tie as tie
-use Rattle.machine.proofs.table.run_mapped.Reads as reads
-use Rattle.machine.proofs.table.run_mapped.Lts as lts
-use Rattle.machine.proofs.machine.begun.Reads as begun-reads
-use Rattle.machine.proofs.strike.strike.Reads as strike-reads
-use Rattle.machine.proofs.table.answer.Reads as answer-reads
-use Rattle.machine.proofs.words.clear.Reads as clear-reads
-use Rattle.machine.proofs.words.fresh.Reads as fresh-reads
+use Rattle.strike.proofs.table.run_mapped.Statement.{statement}
+use Rattle.strike.proofs.table.run_mapped.Tie as tie
+use Rattle.strike.proofs.table.run_mapped.Reads as reads
+use Rattle.strike.proofs.table.run_mapped.Lts as lts
+use Rattle.state.proofs.machine.begun.Reads as begun-reads
+use Rattle.strike.proofs.strike.strike.Reads as strike-reads
+use Rattle.state.proofs.answer.answer.Reads as answer-reads
+use Rattle.guard.proofs.counters.clear.Reads as clear-reads
+use Rattle.guard.proofs.counters.fresh.Reads as fresh-reads
 
 fresh-requires : tie.Need-fresh-requires
 fresh-requires c κs = search needs

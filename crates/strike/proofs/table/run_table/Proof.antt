@@ -5,19 +5,19 @@ use native.Mathlib.Omega.{arith}
 use denote.Ref.{now}
 use lib.ListN.{drop}
 use lib.Seq.{length-take-le}
-use Rattle.machine.specs.Struck.{acceptedRun}
+use Rattle.strike.specs.Struck.{acceptedRun}
 use Rattle.machine.proofs.Sound.{sound}
-use Rattle.machine.proofs.Whole.{words-after}
+use Rattle.strike.proofs.Whole.{words-after}
 use borrow.Author.Needs.{needs}
-use Rattle.machine.proofs.table.run_table.Statement.{statement}
-use Rattle.machine.proofs.table.run_table.Tie as tie
-use Rattle.machine.proofs.table.run_table.Reads as reads
-use Rattle.machine.proofs.table.run_table.Lts as lts
+use Rattle.strike.proofs.table.run_table.Statement.{statement}
+use Rattle.strike.proofs.table.run_table.Tie as tie
+use Rattle.strike.proofs.table.run_table.Reads as reads
+use Rattle.strike.proofs.table.run_table.Lts as lts
 use Rattle.machine.proofs.map.home_of.Reads as home-of-reads
 use Rattle.machine.proofs.map.survey.Reads as survey-reads
 use Rattle.machine.proofs.map.no_owners.Reads as no-owners-reads
 use Rattle.machine.proofs.map.no_starts.Reads as no-starts-reads
-use Rattle.machine.proofs.table.run_mapped.Reads as run-mapped-reads
+use Rattle.strike.proofs.table.run_mapped.Reads as run-mapped-reads
 
 no-starts-requires : tie.Need-no-starts-requires
 no-starts-requires c κs = search needs

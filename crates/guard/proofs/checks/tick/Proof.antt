@@ -1,10 +1,10 @@
 use Rattle.guard.specs.Guard.{tickOf}
 use borrow.Author.Tests.{ne-eqb, eq-eqb}
 use borrow.Author.Needs.{needs}
-use Rattle.guard.proofs.guard.tick.Statement.{statement}
-use Rattle.guard.proofs.guard.tick.Tie as tie
-use Rattle.guard.proofs.guard.tick.Reads as reads
-use Rattle.guard.proofs.guard.tick.Lts as lts
+use Rattle.guard.proofs.checks.tick.Statement.{statement}
+use Rattle.guard.proofs.checks.tick.Tie as tie
+use Rattle.guard.proofs.checks.tick.Reads as reads
+use Rattle.guard.proofs.checks.tick.Lts as lts
 use Rattle.guard.proofs.counters.index.Reads as index-reads
 
 index-requires : tie.Need-index-requires

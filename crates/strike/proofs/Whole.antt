@@ -11,24 +11,25 @@ use Rattle.rules.specs.Line.{Line, linesIn}
 use Rattle.rules.specs.Run.{outcomeOf}
 use Rattle.rules.specs.Hardened.{clear, put, strikeBy, hardenedStart, hardenedRun}
 use Rattle.rules.specs.Calls.{running, zeros, countersAfter}
-use Rattle.machine.specs.declared.machine.Machine.{Machine}
-use Rattle.machine.specs.declared.machine.Stopped.{Stopped}
-use Rattle.machine.specs.Words.{freshAt}
+use Rattle.state.specs.declared.machine.Machine.{Machine}
+use Rattle.state.specs.declared.machine.Stopped.{Stopped}
+use Rattle.guard.specs.Counters.{freshAt}
 use Rattle.machine.specs.Step.{Map, partsOf}
 use Rattle.machine.specs.Run.{partsIn, stoppedWith}
 use Rattle.machine.specs.Stands.{Own, Sound, Ready, Stands, Going}
-use Rattle.machine.specs.Struck.{firstHot, Begun, struckOf, ranOf, ranWith, acceptedRun}
-use Rattle.machine.proofs.Lists.{length-zeros, length-zeroed}
+use Rattle.state.specs.Machine.{firstRegisters, Begun, ranOf}
+use Rattle.strike.specs.Struck.{struckOf, ranWith, acceptedRun}
+use Rattle.guard.proofs.Zeroed.{length-zeros, length-zeroed}
 use Rattle.machine.proofs.Own.{own-fresh}
 use Rattle.machine.proofs.Runs.{Ended}
-use Rattle.machine.proofs.Struck.{whole-agrees}
+use Rattle.strike.proofs.Struck.{whole-agrees}
 
 -- ---- the start
 stands-first : (ls : List Line) → Sound ls → (ps fs vs ws tr : List ℕ) → length ps ≡ 16 → length fs ≡ 16 → length ws ≡ 1024 → Own ws 0 (put 0 1 clear)
-    → Stands ls tr (partsOf firstHot ps fs vs ws tr) (hardenedStart vs)
+    → Stands ls tr (partsOf firstRegisters ps fs vs ws tr) (hardenedStart vs)
 stands-first ls so ps fs vs ws tr a b c o =
     record {
-      sizes = record { deep = omega arith; places-are = a; functions-are = b; words-are = c };
+      sizes = record { deep = omega arith; resumes-are = a; functions-are = b; words-are = c };
       function-is = refl;
       at-is = refl;
       inside = so .first;
@@ -45,15 +46,15 @@ module _ (bs vs ws tr : List ℕ) (x : Machine) (so : Sound (linesIn bs)) (bg : 
 
   pub stands-start : Stands (linesIn bs) tr (partsIn x (freshAt ws 0 1) tr) (hardenedStart vs)
   stands-start =
-      subst (λ hot. Stands (linesIn bs) tr (partsOf hot (x .places) (x .functions) (x .variables) (freshAt ws 0 1) tr) (hardenedStart vs)) (sym (bg .hot-is))
-      (subst (λ y. Stands (linesIn bs) tr (partsOf firstHot (x .places) (x .functions) y (freshAt ws 0 1) tr) (hardenedStart vs)) (sym (bg .vars-are))
-      (stands-first (linesIn bs) so (x .places) (x .functions) vs (freshAt ws 0 1) tr (bg .places-are) (bg .functions-are) fresh-long (own-fresh ws 0 1 (omega arith))))
+      subst (λ hot. Stands (linesIn bs) tr (partsOf hot (x .resumes) (x .functions) (x .variables) (freshAt ws 0 1) tr) (hardenedStart vs)) (sym (bg .registers-are))
+      (subst (λ y. Stands (linesIn bs) tr (partsOf firstRegisters (x .resumes) (x .functions) y (freshAt ws 0 1) tr) (hardenedStart vs)) (sym (bg .vars-are))
+      (stands-first (linesIn bs) so (x .resumes) (x .functions) vs (freshAt ws 0 1) tr (bg .resumes-are) (bg .functions-are) fresh-long (own-fresh ws 0 1 (omega arith))))
 
-  no-steps : x .hot .steps ≡ 0
-  no-steps = ap (λ hot. hot .steps) (bg .hot-is)
+  no-steps : x .registers .steps ≡ 0
+  no-steps = ap (λ hot. hot .steps) (bg .registers-are)
 
-  none-traced : x .hot .traced ≡ 0
-  none-traced = ap (λ hot. hot .traced) (bg .hot-is)
+  none-traced : x .registers .traced ≡ 0
+  none-traced = ap (λ hot. hot .traced) (bg .registers-are)
 
   pub going-start : Going (linesIn bs) b (partsIn x (freshAt ws 0 1) tr)
   going-start =
@@ -80,7 +81,7 @@ answer-is bs m rd vs ws tr b k place x bg long h few y ws′ tr′ e r q ws″ z
     let st = stands-start bs vs ws tr x (rd .sound) bg long b h few in
     let w : Ended (linesIn bs) tr (stoppedWith y ws′ tr′) (hardenedRun (linesIn bs) (strikeBy k place) b vs) =
     subst (λ a. Ended (linesIn bs) tr a (hardenedRun (linesIn bs) (strikeBy k place) b vs)) (sym e)
-    (whole-agrees bs m rd tr vs b k place (partsIn x (freshAt ws 0 1) tr) st (ap (λ hot. hot .steps) (bg .hot-is)) (ap (λ hot. hot .traced) (bg .hot-is)) h few) in
+    (whole-agrees bs m rd tr vs b k place (partsIn x (freshAt ws 0 1) tr) st (ap (λ hot. hot .steps) (bg .registers-are)) (ap (λ hot. hot .traced) (bg .registers-are)) h few) in
     ap (λ a. ranWith a tr′ ws″) q
     ∙ all-same _ _ _ _ _ _ _ _ _ _ _ _ (ap outcomeOf (w .step-is)) (w .steps-are) (w .traces .traced-is) (w .vars-are) (w .traces .slots-are) z
 

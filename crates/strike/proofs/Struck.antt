@@ -19,13 +19,15 @@ use Rattle.rules.specs.Run.{Turn, on, untaken, next, after, run, outcomeOf}
 use Rattle.rules.specs.Hardened.{Counters, Hardened, hardenedStep, strikeBy, placeLine, struck, strikingStep, hardenedStart, hardenedRun}
 use Rattle.rules.specs.Demands.{before}
 use Rattle.rules.proofs.Jump.{not-now, after-same, not-struck}
 use Rattle.machine.specs.Step.{Map, Parts, After, lastLine, stepOf}
-use Rattle.machine.specs.Run.{partsAt, onward, stopsAfter, runOf}
+use Rattle.machine.specs.Run.{partsAt, stopsAfter, runOf}
+use Rattle.state.specs.Machine.{onward}
 use Rattle.machine.specs.Stands.{Ready, Stands, Going}
-use Rattle.machine.specs.Struck.{firstLine, placesIn, landOf, landsAfter, struckOf}
-use Rattle.machine.proofs.Agree.{GoesOn, IsEnd}
+use Rattle.strike.specs.Struck.{firstLine, placesIn, landOf, landsAfter, struckOf}
+use Rattle.machine.proofs.Agree.{GoesOn}
+use Rattle.state.proofs.Ends.{IsEnd, went-same, onward-end}
 use Rattle.machine.proofs.Steps.{last-line, step-agrees}
-use Rattle.machine.proofs.Runs.{went-same, Ended, onward-end, going-on, ended-by, run-agrees}
+use Rattle.machine.proofs.Runs.{Ended, going-on, ended-by, run-agrees}
 
 -- ---- a run that went on to the end of its budget
 pub going-run : (bs : List ℕ) (m : Map) → Ready bs m → (b c : ℕ) (p : Parts) → Going (linesIn bs) (b + c) p → (j : ℕ) → runOf bs m b p .step ≡ Went j
@@ -34,13 +36,13 @@ unfolding runOf
 going-run bs m rd zero c p g j e = subst (λ n. Going (linesIn bs) n p) (zero-add c) g
 going-run bs m rd (suc b) c p g j e =
     by (stepOf bs m p .step) refl e
-    (λ k q e′. going-run bs m rd b c (partsAt (stepOf bs m p .parts) k (p .hot .steps + 1))
-    (subst (λ n. Going (linesIn bs) n (partsAt (stepOf bs m p .parts) k (p .hot .steps + 1))) (let z : suc b + c - 1 ≡ b + c = omega arith in z)
+    (λ k q e′. going-run bs m rd b c (partsAt (stepOf bs m p .parts) k (p .registers .steps + 1))
+    (subst (λ n. Going (linesIn bs) n (partsAt (stepOf bs m p .parts) k (p .registers .steps + 1))) (let z : suc b + c - 1 ≡ b + c = omega arith in z)
     (going-on bs m rd (suc b + c) p g (omega arith) (stepOf bs m p) refl k q)) j e′)
   where
-    by : (o : Step) → stepOf bs m p .step ≡ o → onward o (λ k. runOf bs m b (partsAt (stepOf bs m p .parts) k (p .hot .steps + 1))) (stopsAfter (p .hot .steps + 1) (stepOf bs m p)) .step ≡ Went j
-        → ((k : ℕ) → stepOf bs m p .step ≡ Went k → runOf bs m b (partsAt (stepOf bs m p .parts) k (p .hot .steps + 1)) .step ≡ Went j → Going (linesIn bs) c (runOf bs m b (partsAt (stepOf bs m p .parts) k (p .hot .steps + 1)) .parts))
-        → Going (linesIn bs) c (onward o (λ k. runOf bs m b (partsAt (stepOf bs m p .parts) k (p .hot .steps + 1))) (stopsAfter (p .hot .steps + 1) (stepOf bs m p)) .parts)
+    by : (o : Step) → stepOf bs m p .step ≡ o → onward o (λ k. runOf bs m b (partsAt (stepOf bs m p .parts) k (p .registers .steps + 1))) (stopsAfter (p .registers .steps + 1) (stepOf bs m p)) .step ≡ Went j
+        → ((k : ℕ) → stepOf bs m p .step ≡ Went k → runOf bs m b (partsAt (stepOf bs m p .parts) k (p .registers .steps + 1)) .step ≡ Went j → Going (linesIn bs) c (runOf bs m b (partsAt (stepOf bs m p .parts) k (p .registers .steps + 1)) .parts))
+        → Going (linesIn bs) c (onward o (λ k. runOf bs m b (partsAt (stepOf bs m p .parts) k (p .registers .steps + 1))) (stopsAfter (p .registers .steps + 1) (stepOf bs m p)) .parts)
     by (Went k) q e ih = ih k q e
     by Finished q e ih = absurd (let z : _≡_ {A = ℕ} 0 1 = cc in omega arith)
     by Alarm q e ih = absurd (let z : _≡_ {A = ℕ} 0 1 = cc in omega arith)
@@ -73,33 +75,33 @@ module _ (bs : List ℕ) (m : Map) (rd : Ready bs m) (held : List ℕ) (p : Part
   abbrev f : ℕ
   f = s .running .function
 
-  first-line : firstLine m (p .hot) ≡ startOf ls f
+  first-line : firstLine m (p .registers) ≡ startOf ls f
   first-line = ap (λ n. getD (m .starts) n 0) (st .function-is) ∙ rd .mapped .located .start-is f (omega (arith, st .inside .known))
 
-  places-are : placesIn m (p .hot) ≡ lastPlace ls f
-  places-are = ap (λ x. x - firstLine m (p .hot)) (last-line bs m rd held p s st) ∙ ap (λ x. finishOf ls f - x) first-line
+  resumes-are : placesIn m (p .registers) ≡ lastPlace ls f
+  resumes-are = ap (λ x. x - firstLine m (p .registers)) (last-line bs m rd held p s st) ∙ ap (λ x. finishOf ls f - x) first-line
 
   -- what the code needs to tell the place
-  pub function-in : p .hot .function < 32
+  pub function-in : p .registers .function < 32
   function-in = omega (arith, st .function-is, st .inside .known, rd .sound .within .few-functions)
 
-  pub first-before-last : firstLine m (p .hot) ≤ lastLine m (p .hot)
+  pub first-before-last : firstLine m (p .registers) ≤ lastLine m (p .registers)
   first-before-last = omega (arith, first-line, last-line bs m rd held p s st, rd .sound .ordered f (st .inside .known))
 
-  pub last-few : lastLine m (p .hot) ≤ 2048
+  pub last-few : lastLine m (p .registers) ≤ 2048
   last-few = omega (arith, last-line bs m rd held p s st, rd .sound .finish-in f (st .inside .known), rd .sound .within .few-lines)
 
-  pub stands-there : (place n : ℕ) → place ≤ placesIn m (p .hot) → Stands ls held (partsAt p (firstLine m (p .hot) + place) n) (goTo (placeLine ls place s) (s .running .own) s)
+  pub stands-there : (place n : ℕ) → place ≤ placesIn m (p .registers) → Stands ls held (partsAt p (firstLine m (p .registers) + place) n) (goTo (placeLine ls place s) (s .running .own) s)
   stands-there place n h =
       record {
-        sizes = record { deep = st .sizes .deep; places-are = st .sizes .places-are; functions-are = st .sizes .functions-are; words-are = st .sizes .words-are };
+        sizes = record { deep = st .sizes .deep; resumes-are = st .sizes .resumes-are; functions-are = st .sizes .functions-are; words-are = st .sizes .words-are };
         function-is = st .function-is;
         at-is = ap (λ x. x + place) first-line;
         inside =
             record {
               known = st .inside .known;
               not-before = omega arith;
-              not-after = omega (arith, places-are, rd .sound .ordered f (st .inside .known));
+              not-after = omega (arith, resumes-are, rd .sound .ordered f (st .inside .known));
             };
         own-is = st .own-is;
         waiting = st .waiting;
@@ -108,13 +110,13 @@ module _ (bs : List ℕ) (m : Map) (rd : Ready bs m) (held : List ℕ) (p : Part
         traces = record { slots-are = st .traces .slots-are; traced-is = st .traces .traced-is };
       }
 
-pub going-there : (bs : List ℕ) (m : Map) → Ready bs m → (left : ℕ) (p : Parts) → Going (linesIn bs) left p → (place : ℕ) → place ≤ placesIn m (p .hot)
-    → Going (linesIn bs) left (partsAt p (firstLine m (p .hot) + place) (p .hot .steps))
+pub going-there : (bs : List ℕ) (m : Map) → Ready bs m → (left : ℕ) (p : Parts) → Going (linesIn bs) left p → (place : ℕ) → place ≤ placesIn m (p .registers)
+    → Going (linesIn bs) left (partsAt p (firstLine m (p .registers) + place) (p .registers .steps))
 going-there bs m rd left p g place h =
     record {
       state = goTo (placeLine (linesIn bs) place (g .state)) (g .state .running .own) (g .state);
       held = g .held;
-      stands = stands-there bs m rd (g .held) p (g .state) (g .stands) place (p .hot .steps) h;
+      stands = stands-there bs m rd (g .held) p (g .state) (g .stands) place (p .registers .steps) h;
       few = g .few;
       slots = g .slots;
       traced = g .traced;
@@ -128,26 +130,26 @@ jump-past ls j place (suc b) k s h =
     rw (not-now ls j place k s (omega arith)) (after-same k (hardenedStep ls s) _ _ (λ s′. jump-past ls j place b (suc k) s′ (omega arith)))
 
 -- ---- the struck step, and all after it
-module _ (bs : List ℕ) (m : Map) (rd : Ready bs m) (held : List ℕ) (b k place : ℕ) (p : Parts) (s : Hardened) (st : Stands (linesIn bs) held p s) (n : p .hot .steps ≡ k) (d : p .hot .traced ≤ k) (h : k + suc b ≤ length held) where
+module _ (bs : List ℕ) (m : Map) (rd : Ready bs m) (held : List ℕ) (b k place : ℕ) (p : Parts) (s : Hardened) (st : Stands (linesIn bs) held p s) (n : p .registers .steps ≡ k) (d : p .registers .traced ≤ k) (h : k + suc b ≤ length held) where
   there : Hardened
   there = goTo (placeLine (linesIn bs) place s) (s .running .own) s
 
-  runs-on : place ≤ placesIn m (p .hot) → Ended (linesIn bs) held (runOf bs m (suc b) (partsAt p (firstLine m (p .hot) + place) (p .hot .steps)))
+  runs-on : place ≤ placesIn m (p .registers) → Ended (linesIn bs) held (runOf bs m (suc b) (partsAt p (firstLine m (p .registers) + place) (p .registers .steps)))
       (after k (hardenedStep (linesIn bs) there) (λ s′. run (strikingStep (linesIn bs) (Jump k place)) b (suc k) s′))
   unfolding run there
   runs-on l =
-      subst (Ended (linesIn bs) held (runOf bs m (suc b) (partsAt p (firstLine m (p .hot) + place) (p .hot .steps))))
+      subst (Ended (linesIn bs) held (runOf bs m (suc b) (partsAt p (firstLine m (p .registers) + place) (p .registers .steps))))
       (sym (after-same k (hardenedStep (linesIn bs) there) _ _ (λ s′. jump-past (linesIn bs) k place b (suc k) s′ (omega arith))))
-      (run-agrees bs m rd held (suc b) k (partsAt p (firstLine m (p .hot) + place) (p .hot .steps)) there (stands-there bs m rd held p s st place (p .hot .steps) l) n d h)
+      (run-agrees bs m rd held (suc b) k (partsAt p (firstLine m (p .registers) + place) (p .registers .steps)) there (stands-there bs m rd held p s st place (p .registers .steps) l) n d h)
 
-  by-place : (c : Bool) → leb place (placesIn m (p .hot)) ≡ c
-      → Ended (linesIn bs) held (cond c (runOf bs m (suc b) (partsAt p (firstLine m (p .hot) + place) (p .hot .steps))) (record { step = Beyond (placesIn m (p .hot)); parts = p }))
+  by-place : (c : Bool) → leb place (placesIn m (p .registers)) ≡ c
+      → Ended (linesIn bs) held (cond c (runOf bs m (suc b) (partsAt p (firstLine m (p .registers) + place) (p .registers .steps))) (record { step = Beyond (placesIn m (p .registers)); parts = p }))
       (after k (next (cond c (on there) (untaken (Beyond (lastPlace (linesIn bs) (s .running .function))) s)) (hardenedStep (linesIn bs)))
       (λ s′. run (strikingStep (linesIn bs) (Jump k place)) b (suc k) s′))
-  by-place true e = runs-on (leb-true place (placesIn m (p .hot)) e)
+  by-place true e = runs-on (leb-true place (placesIn m (p .registers)) e)
   by-place false e =
       record {
-        step-is = ap Beyond (places-are bs m rd held p s st);
+        step-is = ap Beyond (resumes-are bs m rd held p s st);
         steps-are = n;
         vars-are = st .vars-are;
         traces = st .traces;
@@ -162,7 +164,7 @@ module _ (bs : List ℕ) (m : Map) (rd : Ready bs m) (held : List ℕ) (b k plac
       (subst (λ x. Ended (linesIn bs) held (landOf bs m (suc b) place p)
       (after k (next (cond (leb place x) (on there) (untaken (Beyond (lastPlace (linesIn bs) (s .running .function))) s)) (hardenedStep (linesIn bs)))
       (λ s′. run (strikingStep (linesIn bs) (Jump k place)) b (suc k) s′)))
-      (places-are bs m rd held p s st) (by-place (leb place (placesIn m (p .hot))) refl))
+      (resumes-are bs m rd held p s st) (by-place (leb place (placesIn m (p .registers))) refl))
 
 -- ---- the steps before it
 lands-inside : (bs : List ℕ) (m : Map) (left place : ℕ) (o : Step) (f : ℕ → After) (z : After) → z .step ≡ o
@@ -178,7 +180,7 @@ module _ (bs : List ℕ) (m : Map) (rd : Ready bs m) (held : List ℕ) (b place 
   abbrev machine : (j : ℕ) → ℕ → Hardened → Turn Counters
   machine j = strikingStep (linesIn bs) (Jump j place)
 
-  struck-agrees : (d k : ℕ) (p : Parts) (s : Hardened) → Stands (linesIn bs) held p s → p .hot .steps ≡ k → p .hot .traced ≤ k → k + (d + suc b) ≤ length held
+  struck-agrees : (d k : ℕ) (p : Parts) (s : Hardened) → Stands (linesIn bs) held p s → p .registers .steps ≡ k → p .registers .traced ≤ k → k + (d + suc b) ≤ length held
       → Ended (linesIn bs) held (landsAfter bs m (suc b) place (runOf bs m d p)) (run (machine (k + d)) (d + suc b) k s)
   unfolding runOf run landsAfter
   struck-agrees zero k p s st n t h =
@@ -190,21 +192,21 @@ module _ (bs : List ℕ) (m : Map) (rd : Ready bs m) (held : List ℕ) (b place 
       (subst (λ r. Ended (linesIn bs) held (landsAfter bs m (suc b) place (runOf bs m (suc d) p)) (after k (next r (hardenedStep (linesIn bs))) (λ s′. run (machine (k + suc d)) (d + suc b) (suc k) s′)))
       (sym (not-now (linesIn bs) (k + suc d) place k s (omega arith)))
       (subst (λ x. Ended (linesIn bs) held x (after k (hardenedStep (linesIn bs) s) (λ s′. run (machine (k + suc d)) (d + suc b) (suc k) s′)))
-      (sym (lands-inside bs m (suc b) place (stepOf bs m p .step) (λ j. runOf bs m d (partsAt (stepOf bs m p .parts) j (p .hot .steps + 1))) (stopsAfter (p .hot .steps + 1) (stepOf bs m p)) refl))
+      (sym (lands-inside bs m (suc b) place (stepOf bs m p .step) (λ j. runOf bs m d (partsAt (stepOf bs m p .parts) j (p .registers .steps + 1))) (stopsAfter (p .registers .steps + 1) (stepOf bs m p)) refl))
       (ended-by (linesIn bs) held p k n (stepOf bs m p) _ _ (hardenedStep (linesIn bs) s) (step-agrees bs m rd held p s st (omega arith))
       (λ j s′ z r. again j s′ r (went-same (sym (r .went) ∙ z)) (λ p′ s″ st′ n′ t′. struck-agrees d (suc k) p′ s″ st′ n′ t′ (omega arith))))))
     where
-      again : (j : ℕ) (s′ : Hardened) (r : GoesOn (linesIn bs) held (p .hot .traced) (stepOf bs m p) s′) → r .place ≡ j
-          → ((p′ : Parts) (s″ : Hardened) → Stands (linesIn bs) held p′ s″ → p′ .hot .steps ≡ suc k → p′ .hot .traced ≤ suc k → Ended (linesIn bs) held (landsAfter bs m (suc b) place (runOf bs m d p′)) (run (machine (suc k + d)) (d + suc b) (suc k) s″))
-          → Ended (linesIn bs) held (landsAfter bs m (suc b) place (runOf bs m d (partsAt (stepOf bs m p .parts) j (p .hot .steps + 1)))) (run (machine (k + suc d)) (d + suc b) (suc k) s′)
+      again : (j : ℕ) (s′ : Hardened) (r : GoesOn (linesIn bs) held (p .registers .traced) (stepOf bs m p) s′) → r .place ≡ j
+          → ((p′ : Parts) (s″ : Hardened) → Stands (linesIn bs) held p′ s″ → p′ .registers .steps ≡ suc k → p′ .registers .traced ≤ suc k → Ended (linesIn bs) held (landsAfter bs m (suc b) place (runOf bs m d p′)) (run (machine (suc k + d)) (d + suc b) (suc k) s″))
+          → Ended (linesIn bs) held (landsAfter bs m (suc b) place (runOf bs m d (partsAt (stepOf bs m p .parts) j (p .registers .steps + 1)))) (run (machine (k + suc d)) (d + suc b) (suc k) s′)
       again j s′ r e ih =
-          subst (λ i. Ended (linesIn bs) held (landsAfter bs m (suc b) place (runOf bs m d (partsAt (stepOf bs m p .parts) j (p .hot .steps + 1)))) (run (machine i) (d + suc b) (suc k) s′))
+          subst (λ i. Ended (linesIn bs) held (landsAfter bs m (suc b) place (runOf bs m d (partsAt (stepOf bs m p .parts) j (p .registers .steps + 1)))) (run (machine i) (d + suc b) (suc k) s′))
           (let q : suc k + d ≡ k + suc d = omega arith in q)
-          (ih (partsAt (stepOf bs m p .parts) j (p .hot .steps + 1)) s′
-          (subst (λ i. Stands (linesIn bs) held (partsAt (stepOf bs m p .parts) i (p .hot .steps + 1)) s′) e (r .stands (p .hot .steps + 1))) (omega arith) (omega (arith, r .traced-more)))
+          (ih (partsAt (stepOf bs m p .parts) j (p .registers .steps + 1)) s′
+          (subst (λ i. Stands (linesIn bs) held (partsAt (stepOf bs m p .parts) i (p .registers .steps + 1)) s′) e (r .stands (p .registers .steps + 1))) (omega arith) (omega (arith, r .traced-more)))
 
 -- ---- the whole run
-module _ (bs : List ℕ) (m : Map) (rd : Ready bs m) (held vs : List ℕ) (b k place : ℕ) (p : Parts) (st : Stands (linesIn bs) held p (hardenedStart vs)) (n : p .hot .steps ≡ 0) (t : p .hot .traced ≡ 0) (h : b ≤ length held) (few : b ≤ 65535) where
+module _ (bs : List ℕ) (m : Map) (rd : Ready bs m) (held vs : List ℕ) (b k place : ℕ) (p : Parts) (st : Stands (linesIn bs) held p (hardenedStart vs)) (n : p .registers .steps ≡ 0) (t : p .registers .traced ≡ 0) (h : b ≤ length held) (few : b ≤ 65535) where
   not-held : b ≤ k → hardenedRun (linesIn bs) (strikeBy k place) b vs ≡ hardenedRun (linesIn bs) None b vs
   not-held l =
       not-struck (linesIn bs) vs b k place
@@ -237,15 +239,15 @@ module _ (bs : List ℕ) (m : Map) (rd : Ready bs m) (held vs : List ℕ) (b k p
   whole-agrees = whole-by (leb b k) refl
 
 -- ---- what the code's branches come to
-pub lands-beyond : (bs : List ℕ) (m : Map) (left place : ℕ) (p : Parts) → placesIn m (p .hot) < place
-    → record { step = Beyond (placesIn m (p .hot)); parts = p } ≡ landOf bs m left place p
+pub lands-beyond : (bs : List ℕ) (m : Map) (left place : ℕ) (p : Parts) → placesIn m (p .registers) < place
+    → record { step = Beyond (placesIn m (p .registers)); parts = p } ≡ landOf bs m left place p
 unfolding landOf
-lands-beyond bs m left place p h = rw (lt-leb place (placesIn m (p .hot)) h)
+lands-beyond bs m left place p h = rw (lt-leb place (placesIn m (p .registers)) h)
 
-pub lands-on : (bs : List ℕ) (m : Map) (left place : ℕ) (p : Parts) → place ≤ placesIn m (p .hot)
-    → runOf bs m left (partsAt p (firstLine m (p .hot) + place) (p .hot .steps)) ≡ landOf bs m left place p
+pub lands-on : (bs : List ℕ) (m : Map) (left place : ℕ) (p : Parts) → place ≤ placesIn m (p .registers)
+    → runOf bs m left (partsAt p (firstLine m (p .registers) + place) (p .registers .steps)) ≡ landOf bs m left place p
 unfolding landOf
-lands-on bs m left place p h = rw (le-leb place (placesIn m (p .hot)) h)
+lands-on bs m left place p h = rw (le-leb place (placesIn m (p .registers)) h)
 
 pub struck-none : (bs : List ℕ) (m : Map) (b k place : ℕ) (p : Parts) → b ≤ k → runOf bs m b p ≡ struckOf bs m b k place p
 unfolding struckOf

@@ -1,10 +1,10 @@
 use Rattle.guard.specs.Guard.{outOf}
 use borrow.Author.Tests.{ne-eqb, eq-eqb}
 use borrow.Author.Needs.{needs}
-use Rattle.guard.proofs.guard.out.Statement.{statement}
-use Rattle.guard.proofs.guard.out.Tie as tie
-use Rattle.guard.proofs.guard.out.Reads as reads
-use Rattle.guard.proofs.guard.out.Lts as lts
+use Rattle.guard.proofs.checks.out.Statement.{statement}
+use Rattle.guard.proofs.checks.out.Tie as tie
+use Rattle.guard.proofs.checks.out.Reads as reads
+use Rattle.guard.proofs.checks.out.Lts as lts
 use Rattle.guard.proofs.counters.index.Reads as index-reads
 use Rattle.guard.proofs.counters.put.Reads as put-reads
 use Rattle.guard.proofs.counters.zero_part.Reads as zero-part-reads

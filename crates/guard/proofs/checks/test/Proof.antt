@@ -4,10 +4,10 @@ use borrow.Author.Tests.{ne-eqb}
 use lib.ListN.{length-set}
 use mathlib.Core.Path.{_∙_}
 use borrow.Author.Needs.{needs}
-use Rattle.guard.proofs.guard.test.Statement.{statement}
-use Rattle.guard.proofs.guard.test.Tie as tie
-use Rattle.guard.proofs.guard.test.Reads as reads
-use Rattle.guard.proofs.guard.test.Lts as lts
+use Rattle.guard.proofs.checks.test.Statement.{statement}
+use Rattle.guard.proofs.checks.test.Tie as tie
+use Rattle.guard.proofs.checks.test.Reads as reads
+use Rattle.guard.proofs.checks.test.Lts as lts
 use Rattle.guard.proofs.counters.index.Reads as index-reads
 use Rattle.guard.proofs.counters.put.Reads as put-reads
 

@@ -1,10 +1,10 @@
 use Rattle.guard.specs.Guard.{backOf}
 use borrow.Author.Tests.{ne-eqb, eq-eqb}
 use borrow.Author.Needs.{needs}
-use Rattle.guard.proofs.guard.back.Statement.{statement}
-use Rattle.guard.proofs.guard.back.Tie as tie
-use Rattle.guard.proofs.guard.back.Reads as reads
-use Rattle.guard.proofs.guard.back.Lts as lts
+use Rattle.guard.proofs.checks.back.Statement.{statement}
+use Rattle.guard.proofs.checks.back.Tie as tie
+use Rattle.guard.proofs.checks.back.Reads as reads
+use Rattle.guard.proofs.checks.back.Lts as lts
 use Rattle.guard.proofs.counters.index.Reads as index-reads
 
 index-requires : tie.Need-index-requires

@@ -3,10 +3,10 @@ use borrow.Author.Tests.{ne-eqb, eq-eqb}
 use lib.ListN.{length-set}
 use native.Mathlib.Omega.{arith}
 use borrow.Author.Needs.{needs}
-use Rattle.guard.proofs.guard.leave.Statement.{statement}
-use Rattle.guard.proofs.guard.leave.Tie as tie
-use Rattle.guard.proofs.guard.leave.Reads as reads
-use Rattle.guard.proofs.guard.leave.Lts as lts
+use Rattle.guard.proofs.checks.leave.Statement.{statement}
+use Rattle.guard.proofs.checks.leave.Tie as tie
+use Rattle.guard.proofs.checks.leave.Reads as reads
+use Rattle.guard.proofs.checks.leave.Lts as lts
 use Rattle.guard.proofs.counters.index.Reads as index-reads
 
 index-requires : tie.Need-index-requires

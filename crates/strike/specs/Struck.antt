@@ -13,46 +13,47 @@ use Rattle.rules.specs.Line.{linesIn}
 use Rattle.rules.specs.Run.{outcomeOf}
 use Rattle.rules.specs.Hardened.{strikeBy, hardenedRun}
 use Rattle.rules.specs.Calls.{running, HardenedRunning}
-use Rattle.machine.specs.declared.machine.Hot.{Hot}
-use Rattle.machine.specs.declared.machine.Machine.{Machine}
-use Rattle.machine.specs.declared.machine.Stopped.{Stopped}
+use Rattle.state.specs.declared.machine.Registers.{Registers}
+use Rattle.state.specs.declared.machine.Machine.{Machine}
+use Rattle.state.specs.declared.machine.Stopped.{Stopped}
 use Rattle.machine.specs.Step.{Map, Parts, lastLine, After}
-use Rattle.machine.specs.Run.{partsAt, onward, runOf}
+use Rattle.machine.specs.Run.{partsAt, runOf}
+use Rattle.state.specs.Machine.{onward}
 
 -- ---- the machine that a run starts in
-abbrev pub firstHot : Hot
-firstHot = record { depth = 0; function = 0; place = 0; last = 0; steps = 0; traced = 0 }
+abbrev pub firstRegisters : Registers
+firstRegisters = record { depth = 0; function = 0; place = 0; last = 0; steps = 0; traced = 0 }
 
 pub record Begun (m : Machine) (vars : List ℕ) : Type 0 where
-  pub hot-is : m .hot ≡ firstHot
+  pub registers-are : m .registers ≡ firstRegisters
   pub vars-are : m .variables ≡ vars
-  pub places-are : length (m .places) ≡ maxOpen
+  pub resumes-are : length (m .resumes) ≡ maxOpen
   pub functions-are : length (m .functions) ≡ maxOpen
 
 -- the machine with its place set
 abbrev pub machineAt : Machine → (place : ℕ) → Machine
 machineAt m k =
-    let h = m .hot in
+    let h = m .registers in
     record {
-      places = m .places;
+      resumes = m .resumes;
       functions = m .functions;
       variables = m .variables;
-      hot = record { depth = h .depth; function = h .function; place = k; last = h .last; steps = h .steps; traced = h .traced };
+      registers = record { depth = h .depth; function = h .function; place = k; last = h .last; steps = h .steps; traced = h .traced };
     }
 
 -- ---- the jump
 -- the first line of the running function, and its place m
-abbrev pub firstLine : Map → Hot → ℕ
+abbrev pub firstLine : Map → Registers → ℕ
 firstLine m h = getD (m .starts) (h .function) 0
 
-abbrev pub placesIn : Map → Hot → ℕ
+abbrev pub placesIn : Map → Registers → ℕ
 placesIn m h = lastLine m h - firstLine m h
 
 -- the running function goes to the place, and at most `left` steps are made from there
 unfoldable pub landOf : (lines : List ℕ) → Map → (left place : ℕ) → Parts → After
 landOf bs m left place p =
-    cond (leb place (placesIn m (p .hot))) (runOf bs m left (partsAt p (firstLine m (p .hot) + place) (p .hot .steps)))
-    (record { step = Beyond (placesIn m (p .hot)); parts = p })
+    cond (leb place (placesIn m (p .registers))) (runOf bs m left (partsAt p (firstLine m (p .registers) + place) (p .registers .steps)))
+    (record { step = Beyond (placesIn m (p .registers)); parts = p })
 
 -- a run that came to the jump's step goes to its place; one that stopped before stays stopped
 unfoldable pub landsAfter : (lines : List ℕ) → Map → (left place : ℕ) → After → After
@@ -68,8 +69,8 @@ ranOf x =
     record {
       number = 0;
       outcome = outcomeOf (x .step);
-      steps = x .machine .hot .steps;
-      traced = x .machine .hot .traced;
+      steps = x .machine .registers .steps;
+      traced = x .machine .registers .traced;
       variables = x .machine .variables;
     }
 

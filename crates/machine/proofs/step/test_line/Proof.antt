@@ -1,11 +1,11 @@
 use borrow.Author.Needs.{needs}
-use Rattle.machine.proofs.line.test_line.Statement.{statement}
-use Rattle.machine.proofs.line.test_line.Tie as tie
-use Rattle.machine.proofs.line.test_line.Reads as reads
-use Rattle.machine.proofs.line.test_line.Lts as lts
-use Rattle.machine.proofs.guard.test.Reads as test-reads
-use Rattle.machine.proofs.machine.stay.Reads as stay-reads
-use Rattle.machine.proofs.variables.holds.Reads as holds-reads
+use Rattle.machine.proofs.step.test_line.Statement.{statement}
+use Rattle.machine.proofs.step.test_line.Tie as tie
+use Rattle.machine.proofs.step.test_line.Reads as reads
+use Rattle.machine.proofs.step.test_line.Lts as lts
+use Rattle.guard.proofs.checks.test.Reads as test-reads
+use Rattle.state.proofs.machine.stay.Reads as stay-reads
+use Rattle.state.proofs.variables.holds.Reads as holds-reads
 
 holds-requires : tie.Need-holds-requires
 holds-requires c κs = search needs

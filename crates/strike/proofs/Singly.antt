@@ -10,13 +10,13 @@ use borrow.Author.Tests.{leb-true}
 use Rattle.rules.specs.declared.step.Step.{Step}
 use Rattle.rules.specs.declared.step.Step.the-variants.{Went, Finished, Alarm, TooManyOpen, Beyond}
 use Rattle.rules.specs.Line.{linesIn}
 use Rattle.machine.specs.Step.{Map, Parts, After, stepOf}
-use Rattle.machine.specs.Run.{partsAt, onward, stopsAfter, runOf}
+use Rattle.machine.specs.Run.{partsAt, stopsAfter, runOf}
+use Rattle.state.specs.Machine.{onward}
 use Rattle.machine.specs.Stands.{Ready, Going}
-use Rattle.machine.specs.Struck.{firstLine, placesIn, landOf}
-use Rattle.machine.proofs.Agree.{IsEnd}
-use Rattle.machine.proofs.Runs.{onward-end}
-use Rattle.machine.proofs.Struck.{going-run, going-fewer, going-there}
+use Rattle.strike.specs.Struck.{firstLine, placesIn, landOf}
+use Rattle.state.proofs.Ends.{IsEnd, onward-end}
+use Rattle.strike.proofs.Struck.{going-run, going-fewer, going-there}
 
 -- a run of b + c steps is one of b and, where that went on, one of c from there
 abbrev Splits : (bs : List ℕ) → Map → (b c : ℕ) → Parts → Type 0
@@ -39,8 +39,8 @@ unfolding runOf
 run-sum bs m zero c p = ap (λ n. runOf bs m n p) (zero-add c)
 run-sum bs m (suc b) c p =
     ap (λ n. runOf bs m n p) (suc-add b c)
-    ∙ splits-by bs m b c (λ k. partsAt (stepOf bs m p .parts) k (p .hot .steps + 1)) (stopsAfter (p .hot .steps + 1) (stepOf bs m p)) (stepOf bs m p .step) refl
-    (λ k. run-sum bs m b c (partsAt (stepOf bs m p .parts) k (p .hot .steps + 1)))
+    ∙ splits-by bs m b c (λ k. partsAt (stepOf bs m p .parts) k (p .registers .steps + 1)) (stopsAfter (p .registers .steps + 1) (stepOf bs m p)) (stepOf bs m p .step) refl
+    (λ k. run-sum bs m b c (partsAt (stepOf bs m p .parts) k (p .registers .steps + 1)))
 
 -- ---- a step out of a run with `left` to come
 module _ (bs : List ℕ) (m : Map) (left : ℕ) (p : Parts) (h : 0 < left) (a : After) (e : a ≡ runOf bs m 1 p) where
@@ -66,15 +66,15 @@ module _ (bs : List ℕ) (m : Map) (left : ℕ) (p : Parts) (h : 0 < left) (a : 
 -- ---- a jump, and no step after it
 module _ (bs : List ℕ) (m : Map) (left place : ℕ) (p : Parts) (a : After) (e : a ≡ landOf bs m 0 place p) where
   abbrev there : Parts
-  there = partsAt p (firstLine m (p .hot) + place) (p .hot .steps)
+  there = partsAt p (firstLine m (p .registers) + place) (p .registers .steps)
 
   abbrev landed : Bool → (left : ℕ) → After
-  landed b n = cond b (runOf bs m n there) (record { step = Beyond (placesIn m (p .hot)); parts = p })
+  landed b n = cond b (runOf bs m n there) (record { step = Beyond (placesIn m (p .registers)); parts = p })
 
   lands-first : landOf bs m left place p ≡ onward (a .step) (λ k. runOf bs m left (a .parts)) a
   unfolding landOf runOf
   lands-first =
-      by (leb place (placesIn m (p .hot)))
+      by (leb place (placesIn m (p .registers)))
       ∙ ap (λ x. onward (x .step) (λ k. runOf bs m left (x .parts)) x) (sym e)
     where
       by : (b : Bool) → landed b left ≡ onward (landed b 0 .step) (λ k. runOf bs m left (landed b 0 .parts)) (landed b 0)
@@ -90,8 +90,8 @@ module _ (bs : List ℕ) (m : Map) (left place : ℕ) (p : Parts) (a : After) (e
   pub going-landed : Ready bs m → Going (linesIn bs) left p → (k : ℕ) → a .step ≡ Went k → Going (linesIn bs) left (a .parts)
   unfolding landOf runOf
   going-landed rd g k z =
-      subst (λ x. Going (linesIn bs) left (x .parts)) (sym e) (by (leb place (placesIn m (p .hot))) refl (ap (λ x. x .step) (sym e) ∙ z))
+      subst (λ x. Going (linesIn bs) left (x .parts)) (sym e) (by (leb place (placesIn m (p .registers))) refl (ap (λ x. x .step) (sym e) ∙ z))
     where
-      by : (b : Bool) → leb place (placesIn m (p .hot)) ≡ b → landed b 0 .step ≡ Went k → Going (linesIn bs) left (landed b 0 .parts)
-      by true q y = going-there bs m rd left p g place (leb-true place (placesIn m (p .hot)) q)
+      by : (b : Bool) → leb place (placesIn m (p .registers)) ≡ b → landed b 0 .step ≡ Went k → Going (linesIn bs) left (landed b 0 .parts)
+      by true q y = going-there bs m rd left p g place (leb-true place (placesIn m (p .registers)) q)
       by false q y = absurd (let w : _≡_ {A = ℕ} 0 1 = cc in omega arith)
