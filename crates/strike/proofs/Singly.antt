@@ -16,7 +16,7 @@ use Rattle.state.specs.Machine.{onward}
 use Rattle.machine.specs.Stands.{Ready, Going}
 use Rattle.strike.specs.Struck.{firstLine, placesIn, landOf}
 use Rattle.state.proofs.Ends.{IsEnd, onward-end}
-use Rattle.strike.proofs.Struck.{going-run, going-fewer, going-there}
+use Rattle.strike.proofs.Jumps.{going-run, going-fewer, going-there}
 
 -- a run of b + c steps is one of b and, where that went on, one of c from there
 abbrev Splits : (bs : List ℕ) → Map → (b c : ℕ) → Parts → Type 0

@@ -1,45 +1,21 @@
--- A run that a jump strikes: to the step that the jump names, there to its place, and on. The machine that a run starts in.
+-- A run that something may strike. A jump: to the step that it names, there to its place, and on.
 use Prim.Native.Nat.{ℕ, _+_, _-_}
-use mathlib.Core.Path.{_≡_}
 use mathlib.Core.Bool.{cond}
 use mathlib.Core.List.{List}
 use lib.Dec.{leb}
-use lib.ListN.{length, getD}
+use lib.ListN.{getD}
 use Rattle.rules.specs.declared.answer.Ran.{Ran}
 use Rattle.rules.specs.declared.step.Step.the-variants.{Beyond}
+use Rattle.rules.specs.declared.strike.Strike.{Strike}
+use Rattle.rules.specs.declared.strike.Strike.the-variants.{None, Jump}
 use Rattle.rules.specs.declared.refusal.Verdict.the-variants.{Accepted}
-use Rattle.rules.specs.Limits.{maxOpen}
 use Rattle.rules.specs.Line.{linesIn}
-use Rattle.rules.specs.Run.{outcomeOf}
-use Rattle.rules.specs.Hardened.{strikeBy, hardenedRun}
+use Rattle.rules.specs.Hardened.{hardenedRun}
 use Rattle.rules.specs.Calls.{running, HardenedRunning}
 use Rattle.state.specs.declared.machine.Registers.{Registers}
-use Rattle.state.specs.declared.machine.Machine.{Machine}
-use Rattle.state.specs.declared.machine.Stopped.{Stopped}
 use Rattle.machine.specs.Step.{Map, Parts, lastLine, After}
 use Rattle.machine.specs.Run.{partsAt, runOf}
 use Rattle.state.specs.Machine.{onward}
-
--- ---- the machine that a run starts in
-abbrev pub firstRegisters : Registers
-firstRegisters = record { depth = 0; function = 0; place = 0; last = 0; steps = 0; traced = 0 }
-
-pub record Begun (m : Machine) (vars : List ℕ) : Type 0 where
-  pub registers-are : m .registers ≡ firstRegisters
-  pub vars-are : m .variables ≡ vars
-  pub resumes-are : length (m .resumes) ≡ maxOpen
-  pub functions-are : length (m .functions) ≡ maxOpen
-
--- the machine with its place set
-abbrev pub machineAt : Machine → (place : ℕ) → Machine
-machineAt m k =
-    let h = m .registers in
-    record {
-      resumes = m .resumes;
-      functions = m .functions;
-      variables = m .variables;
-      registers = record { depth = h .depth; function = h .function; place = k; last = h .last; steps = h .steps; traced = h .traced };
-    }
 
 -- ---- the jump
 -- the first line of the running function, and its place m
@@ -60,25 +36,18 @@ unfoldable pub landsAfter : (lines : List ℕ) → Map → (left place : ℕ) �
 landsAfter bs m left place a = onward (a .step) (λ k. landOf bs m left place (a .parts)) a
 
 -- a jump before step k
-unfoldable pub struckOf : (lines : List ℕ) → Map → (budget k place : ℕ) → Parts → After
-struckOf bs m b k place p = cond (leb b k) (runOf bs m b p) (landsAfter bs m (b - k) place (runOf bs m k p))
+unfoldable pub jumpOf : (lines : List ℕ) → Map → (budget k place : ℕ) → Parts → After
+jumpOf bs m b k place p = cond (leb b k) (runOf bs m b p) (landsAfter bs m (b - k) place (runOf bs m k p))
+
+unfoldable pub struckOf : (lines : List ℕ) → Map → (budget : ℕ) → Strike → Parts → After
+struckOf bs m b None p = runOf bs m b p
+struckOf bs m b (Jump k place) p = jumpOf bs m b k place p
 
 -- ---- the answer
-abbrev pub ranOf : Stopped → Ran
-ranOf x =
-    record {
-      number = 0;
-      outcome = outcomeOf (x .step);
-      steps = x .machine .registers .steps;
-      traced = x .machine .registers .traced;
-      variables = x .machine .variables;
-    }
-
 -- an answer with the slots and the counter words after it
 abbrev pub ranWith : Ran → (slots words : List ℕ) → HardenedRunning
 ranWith r tr ws = record { run = record { ran = r; trace = tr }; words = ws }
 
 -- what an accepted hardened run answers and leaves in the slots, with these words
-abbrev pub acceptedRun : (lines vars : List ℕ) → (budget k place : ℕ) → (slots words : List ℕ) → HardenedRunning
-acceptedRun bs vs b k place tr ws =
-    record { run = running Accepted (hardenedRun (linesIn bs) (strikeBy k place) b vs) vs tr; words = ws }
+abbrev pub acceptedRun : (lines vars : List ℕ) → (budget : ℕ) → Strike → (slots words : List ℕ) → HardenedRunning
+acceptedRun bs vs b j tr ws = record { run = running Accepted (hardenedRun (linesIn bs) j b vs) vs tr; words = ws }

@@ -1,4 +1,4 @@
--- `machine::table::run_mapped` meets its contract. Assumes nothing.
+-- `strike::table::run_mapped` meets its contract. Assumes nothing.
 use mathlib.Core.Path.{sym, ap, _∙_, subst}
 use native.Mathlib.Omega.{arith}
 use denote.Ref.{now}
@@ -15,7 +15,7 @@ use Rattle.strike.proofs.table.run_mapped.Tie as tie
 use Rattle.strike.proofs.table.run_mapped.Reads as reads
 use Rattle.strike.proofs.table.run_mapped.Lts as lts
 use Rattle.state.proofs.machine.begun.Reads as begun-reads
-use Rattle.strike.proofs.strike.strike.Reads as strike-reads
+use Rattle.strike.proofs.struck.strike.Reads as strike-reads
 use Rattle.state.proofs.answer.answer.Reads as answer-reads
 use Rattle.guard.proofs.counters.clear.Reads as clear-reads
 use Rattle.guard.proofs.counters.fresh.Reads as fresh-reads
@@ -50,10 +50,10 @@ returns : tie.Need-returns
 returns c =
     let a = c .before .before .before .before .before .before .before .before .before .before .before .before .before .before .before .before .before .before .before .before .args in
     let m = mapOf (now (a .starts)) (now (a .owners)) (a .home) in
-    answer-is (now (a .lines)) m (c .before .before .before .before .before .before .before .before .before .before .before .before .before .before .before .before .before .before .before .before .pre .0) (a .variables) (now (a .words)) (now (a .trace)) (a .budget) (a .step) (a .place) (c .before .before .before .before .before .before .before .before .before .before .before .before .begun .result) (c .before .before .before .before .before .before .before .before .before .before .before .before .begun .ensures) (c .before .before .before .before .before .before .before .before .before .before .before .before .before .before .before .before .before .before .before .before .pre .2) (c .before .before .before .before .before .before .before .before .before .before .before .before .before .before .before .before .before .before .before .before .pre .1)
+    answer-is (now (a .lines)) m (c .before .before .before .before .before .before .before .before .before .before .before .before .before .before .before .before .before .before .before .before .pre .0) (a .variables) (now (a .words)) (now (a .trace)) (a .budget) (a .strike) (c .before .before .before .before .before .before .before .before .before .before .before .before .begun .result) (c .before .before .before .before .before .before .before .before .before .before .before .before .begun .ensures) (c .before .before .before .before .before .before .before .before .before .before .before .before .before .before .before .before .before .before .before .before .pre .2) (c .before .before .before .before .before .before .before .before .before .before .before .before .before .before .before .before .before .before .before .before .pre .1)
     (omega (arith, c .before .before .before .before .before .before .before .before .before .before .before .before .before .before .before .before .before .before .before .before .fits)) _ _ _
-    (c .before .before .before .before .before .before .before .before .before .strike .ensures ∙ ap (λ w. struckOf (now (a .lines)) m (a .budget) (a .step) (a .place) (partsIn (c .before .before .before .before .before .before .before .before .before .before .before .before .begun .result) w (now (a .trace)))) (c .before .before .before .before .before .before .before .before .before .before .before .before .before .before .before .fresh .ensures))
-    _ (c .answer .ensures) _ (c .before .before .before .clear .ensures ∙ ap zeros (c .before .before .before .before .before .before .before .before .before .strike .kept .1 .1 .1 .1 .1 .1 .1 .1 .0 ∙ c .before .before .before .before .before .before .before .before .before .before .before .before .before .before .before .fresh .kept .0 ∙ c .before .before .before .before .before .before .before .before .before .before .before .before .before .before .before .before .before .before .before .before .pre .2))
+    (c .before .before .before .before .before .before .before .before .before .strike .ensures ∙ ap (λ w. struckOf (now (a .lines)) m (a .budget) (a .strike) (partsIn (c .before .before .before .before .before .before .before .before .before .before .before .before .begun .result) w (now (a .trace)))) (c .before .before .before .before .before .before .before .before .before .before .before .before .before .before .before .fresh .ensures))
+    _ (c .answer .ensures) _ (c .before .before .before .clear .ensures ∙ ap zeros (c .before .before .before .before .before .before .before .before .before .strike .kept .1 .1 .1 .1 .1 .1 .1 .0 ∙ c .before .before .before .before .before .before .before .before .before .before .before .before .before .before .before .fresh .kept .0 ∙ c .before .before .before .before .before .before .before .before .before .before .before .before .before .before .before .before .before .before .before .before .pre .2))
 
 pub run-mapped-spec : {M : Type 1} → statement M
 run-mapped-spec =

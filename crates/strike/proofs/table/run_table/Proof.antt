@@ -1,4 +1,4 @@
--- `machine::table::run_table` meets its contract. Assumes nothing.
+-- `strike::table::run_table` meets its contract. Assumes nothing.
 use mathlib.Core.Path.{sym, ap, _∙_}
 use mathlib.Core.List.{_++_}
 use native.Mathlib.Omega.{arith}
@@ -54,7 +54,7 @@ returns : tie.Need-returns
 returns c =
     let a = c .before .before .before .before .before .before .before .before .before .before .before .before .before .before .before .before .before .before .before .before .args in
     ap (λ y. record { run = y .run; words = y .words ++ drop 1024 (now (a .counters)) }) (c .before .before .before .before .run-mapped .ensures)
-    ∙ ap (acceptedRun (now (a .lines)) (a .variables) (a .budget) (a .step) (a .place) (now (a .trace))) (words-after (now (a .counters)))
+    ∙ ap (acceptedRun (now (a .lines)) (a .variables) (a .budget) (a .strike) (now (a .trace))) (words-after (now (a .counters)))
 
 pub run-table-spec : {M : Type 1} → statement M
 run-table-spec =

@@ -8,6 +8,7 @@ use native.Mathlib.Omega.{arith}
 use lib.Dec.{eqb, leb}
 use lib.ListN.{length, getD}
 use borrow.Author.Tests.{eq-eqb, ne-eqb, leb-true, leb-false, le-ltb, le-leb, lt-leb}
+use Rattle.rules.specs.declared.strike.Strike.{Strike}
 use Rattle.rules.specs.declared.strike.Strike.the-variants.{None, Jump}
 use Rattle.rules.specs.declared.step.Step.{Step}
 use Rattle.rules.specs.declared.step.Step.the-variants.{Went, Finished, Alarm, TooManyOpen, Beyond}
@@ -18,12 +19,12 @@ use Rattle.rules.specs.State.{goTo}
 use Rattle.rules.specs.Run.{Turn, on, untaken, next, after, run, outcomeOf}
 use Rattle.rules.specs.Hardened.{Counters, Hardened, hardenedStep, strikeBy, placeLine, struck, strikingStep, hardenedStart, hardenedRun}
 use Rattle.rules.specs.Demands.{before}
-use Rattle.rules.proofs.Jump.{not-now, after-same, not-struck}
+use Rattle.rules.proofs.Jump.{not-now, after-same, not-reached}
 use Rattle.machine.specs.Step.{Map, Parts, After, lastLine, stepOf}
 use Rattle.machine.specs.Run.{partsAt, stopsAfter, runOf}
 use Rattle.state.specs.Machine.{onward}
 use Rattle.machine.specs.Stands.{Ready, Stands, Going}
-use Rattle.strike.specs.Struck.{firstLine, placesIn, landOf, landsAfter, struckOf}
+use Rattle.strike.specs.Struck.{firstLine, placesIn, landOf, landsAfter, jumpOf, struckOf}
 use Rattle.machine.proofs.Agree.{GoesOn}
 use Rattle.state.proofs.Ends.{IsEnd, went-same, onward-end}
 use Rattle.machine.proofs.Steps.{last-line, step-agrees}
@@ -189,14 +190,14 @@ module _ (bs : List ℕ) (m : Map) (rd : Ready bs m) (held : List ℕ) (b place 
       (land-agrees bs m rd held b k place p s st n t (omega arith)))
   struck-agrees (suc d) k p s st n t h =
       subst (λ c. Ended (linesIn bs) held (landsAfter bs m (suc b) place (runOf bs m (suc d) p)) (run (machine (k + suc d)) c k s)) (sym (suc-add d (suc b)))
-      (subst (λ r. Ended (linesIn bs) held (landsAfter bs m (suc b) place (runOf bs m (suc d) p)) (after k (next r (hardenedStep (linesIn bs))) (λ s′. run (machine (k + suc d)) (d + suc b) (suc k) s′)))
+      (subst (λ r. Ended (linesIn bs) held (landsAfter bs m (suc b) place (runOf bs m (suc d) p)) (after k r (λ s′. run (machine (k + suc d)) (d + suc b) (suc k) s′)))
       (sym (not-now (linesIn bs) (k + suc d) place k s (omega arith)))
       (subst (λ x. Ended (linesIn bs) held x (after k (hardenedStep (linesIn bs) s) (λ s′. run (machine (k + suc d)) (d + suc b) (suc k) s′)))
       (sym (lands-inside bs m (suc b) place (stepOf bs m p .step) (λ j. runOf bs m d (partsAt (stepOf bs m p .parts) j (p .registers .steps + 1))) (stopsAfter (p .registers .steps + 1) (stepOf bs m p)) refl))
       (ended-by (linesIn bs) held p k n (stepOf bs m p) _ _ (hardenedStep (linesIn bs) s) (step-agrees bs m rd held p s st (omega arith))
       (λ j s′ z r. again j s′ r (went-same (sym (r .went) ∙ z)) (λ p′ s″ st′ n′ t′. struck-agrees d (suc k) p′ s″ st′ n′ t′ (omega arith))))))
     where
-      again : (j : ℕ) (s′ : Hardened) (r : GoesOn (linesIn bs) held (p .registers .traced) (stepOf bs m p) s′) → r .place ≡ j
+      again : (j : ℕ) (s′ : Hardened) (r : GoesOn (linesIn bs) held (p .registers .traced) (stepOf bs m p) s′) → r .line ≡ j
           → ((p′ : Parts) (s″ : Hardened) → Stands (linesIn bs) held p′ s″ → p′ .registers .steps ≡ suc k → p′ .registers .traced ≤ suc k → Ended (linesIn bs) held (landsAfter bs m (suc b) place (runOf bs m d p′)) (run (machine (suc k + d)) (d + suc b) (suc k) s″))
           → Ended (linesIn bs) held (landsAfter bs m (suc b) place (runOf bs m d (partsAt (stepOf bs m p .parts) j (p .registers .steps + 1)))) (run (machine (k + suc d)) (d + suc b) (suc k) s′)
       again j s′ r e ih =
@@ -206,37 +207,28 @@ module _ (bs : List ℕ) (m : Map) (rd : Ready bs m) (held : List ℕ) (b place 
           (subst (λ i. Stands (linesIn bs) held (partsAt (stepOf bs m p .parts) i (p .registers .steps + 1)) s′) e (r .stands (p .registers .steps + 1))) (omega arith) (omega (arith, r .traced-more)))
 
 -- ---- the whole run
-module _ (bs : List ℕ) (m : Map) (rd : Ready bs m) (held vs : List ℕ) (b k place : ℕ) (p : Parts) (st : Stands (linesIn bs) held p (hardenedStart vs)) (n : p .registers .steps ≡ 0) (t : p .registers .traced ≡ 0) (h : b ≤ length held) (few : b ≤ 65535) where
-  not-held : b ≤ k → hardenedRun (linesIn bs) (strikeBy k place) b vs ≡ hardenedRun (linesIn bs) None b vs
-  not-held l =
-      not-struck (linesIn bs) vs b k place
-      (ap (λ x. not (eqb k noStep) && x && eqb (outcomeOf ((before (linesIn bs) vs k) .step)) 0) (le-ltb k b l) ∙ never (not (eqb k noStep)) (eqb (outcomeOf ((before (linesIn bs) vs k) .step)) 0))
-    where
-      never : (x y : Bool) → x && false && y ≡ false
-      never true y = refl
-      never false y = refl
+module _ (bs : List ℕ) (m : Map) (rd : Ready bs m) (held vs : List ℕ) (b : ℕ) (p : Parts) (st : Stands (linesIn bs) held p (hardenedStart vs)) (n : p .registers .steps ≡ 0) (t : p .registers .traced ≡ 0) (h : b ≤ length held) where
+  unstruck-agrees : Ended (linesIn bs) held (runOf bs m b p) (hardenedRun (linesIn bs) None b vs)
+  unstruck-agrees = run-agrees bs m rd held b 0 p (hardenedStart vs) st n (omega arith) (omega arith)
 
-  whole-by : (c : Bool) → leb b k ≡ c
-      → Ended (linesIn bs) held (cond c (runOf bs m b p) (landsAfter bs m (b - k) place (runOf bs m k p))) (hardenedRun (linesIn bs) (strikeBy k place) b vs)
-  whole-by true e =
-      subst (Ended (linesIn bs) held (runOf bs m b p)) (sym (not-held (leb-true b k e))) (run-agrees bs m rd held b 0 p (hardenedStart vs) st n (omega arith) (omega arith))
-  whole-by false e =
+  jump-by : (k place : ℕ) (c : Bool) → leb b k ≡ c
+      → Ended (linesIn bs) held (cond c (runOf bs m b p) (landsAfter bs m (b - k) place (runOf bs m k p))) (hardenedRun (linesIn bs) (Jump k place) b vs)
+  jump-by k place true e =
+      subst (Ended (linesIn bs) held (runOf bs m b p))
+      (sym (not-reached (linesIn bs) (Jump k place) k (not-now (linesIn bs) k place) b 0 (hardenedStart vs) (omega (arith, leb-true b k e)))) unstruck-agrees
+  jump-by k place false e =
       let l = leb-false b k e in
       let left : suc (b - suc k) ≡ b - k = omega arith in
       let all : k + suc (b - suc k) ≡ b = omega arith in
-      let q : Jump k place ≡ strikeBy k place = rw (ne-eqb k noStep (λ z. less z l)) in
-      subst (λ x. Ended (linesIn bs) held (landsAfter bs m x place (runOf bs m k p)) (hardenedRun (linesIn bs) (strikeBy k place) b vs)) left
-      (subst (λ j. Ended (linesIn bs) held (landsAfter bs m (suc (b - suc k)) place (runOf bs m k p)) (hardenedRun (linesIn bs) j b vs)) q
+      subst (λ x. Ended (linesIn bs) held (landsAfter bs m x place (runOf bs m k p)) (hardenedRun (linesIn bs) (Jump k place) b vs)) left
       (subst (λ x. Ended (linesIn bs) held (landsAfter bs m (suc (b - suc k)) place (runOf bs m k p)) (run (strikingStep (linesIn bs) (Jump k place)) x 0 (hardenedStart vs))) all
       (subst (λ j. Ended (linesIn bs) held (landsAfter bs m (suc (b - suc k)) place (runOf bs m k p)) (run (strikingStep (linesIn bs) (Jump j place)) (k + suc (b - suc k)) 0 (hardenedStart vs))) (zero-add k)
-      (struck-agrees bs m rd held (b - suc k) place k 0 p (hardenedStart vs) st n (omega arith) (omega arith)))))
-    where
-      less : k ≡ 65535 → k < b → ⊥
-      less x y = omega arith
+      (struck-agrees bs m rd held (b - suc k) place k 0 p (hardenedStart vs) st n (omega arith) (omega arith))))
 
-  pub whole-agrees : Ended (linesIn bs) held (struckOf bs m b k place p) (hardenedRun (linesIn bs) (strikeBy k place) b vs)
-  unfolding struckOf
-  whole-agrees = whole-by (leb b k) refl
+  pub whole-agrees : (j : Strike) → Ended (linesIn bs) held (struckOf bs m b j p) (hardenedRun (linesIn bs) j b vs)
+  unfolding struckOf jumpOf
+  whole-agrees None = unstruck-agrees
+  whole-agrees (Jump k place) = jump-by k place (leb b k) refl
 
 -- ---- what the code's branches come to
 pub lands-beyond : (bs : List ℕ) (m : Map) (left place : ℕ) (p : Parts) → placesIn m (p .registers) < place
@@ -249,16 +241,16 @@ pub lands-on : (bs : List ℕ) (m : Map) (left place : ℕ) (p : Parts) → plac
 unfolding landOf
 lands-on bs m left place p h = rw (le-leb place (placesIn m (p .registers)) h)
 
-pub struck-none : (bs : List ℕ) (m : Map) (b k place : ℕ) (p : Parts) → b ≤ k → runOf bs m b p ≡ struckOf bs m b k place p
-unfolding struckOf
-struck-none bs m b k place p h = rw (le-leb b k h)
+pub jump-none : (bs : List ℕ) (m : Map) (b k place : ℕ) (p : Parts) → b ≤ k → runOf bs m b p ≡ jumpOf bs m b k place p
+unfolding jumpOf
+jump-none bs m b k place p h = rw (le-leb b k h)
 
 module _ (bs : List ℕ) (m : Map) (b k place : ℕ) (p : Parts) (h : k < b) (a : After) (e : a ≡ runOf bs m k p) where
-  pub struck-stopped : IsEnd (a .step) → a ≡ struckOf bs m b k place p
-  unfolding struckOf landsAfter
-  struck-stopped n =
+  pub jump-stopped : IsEnd (a .step) → a ≡ jumpOf bs m b k place p
+  unfolding jumpOf landsAfter
+  jump-stopped n =
       rw (lt-leb b k h, ← e) (sym (onward-end (a .step) n (λ j. landOf bs m (b - k) place (a .parts)) a))
 
-  pub struck-there : (j : ℕ) → a .step ≡ Went j → landOf bs m (b - k) place (a .parts) ≡ struckOf bs m b k place p
-  unfolding struckOf landsAfter
-  struck-there j w = rw (lt-leb b k h, ← e, w)
+  pub jump-there : (j : ℕ) → a .step ≡ Went j → landOf bs m (b - k) place (a .parts) ≡ jumpOf bs m b k place p
+  unfolding jumpOf landsAfter
+  jump-there j w = rw (lt-leb b k h, ← e, w)

@@ -1,15 +1,15 @@
--- `machine::strike::strike` meets its contract. Assumes nothing.
+-- `strike::struck::jump` meets its contract. Assumes nothing.
 use mathlib.Core.Path.{_∙_}
 use native.Mathlib.Omega.{arith}
 use Rattle.state.proofs.Ends.{not-went}
-use Rattle.strike.proofs.Struck.{going-fewer, going-left, struck-none, struck-stopped, struck-there}
+use Rattle.strike.proofs.Jumps.{going-fewer, going-left, jump-none, jump-stopped, jump-there}
 use borrow.Author.Needs.{needs}
-use Rattle.strike.proofs.strike.strike.Statement.{statement}
-use Rattle.strike.proofs.strike.strike.Tie as tie
-use Rattle.strike.proofs.strike.strike.Reads as reads
-use Rattle.strike.proofs.strike.strike.Lts as lts
+use Rattle.strike.proofs.struck.jump.Statement.{statement}
+use Rattle.strike.proofs.struck.jump.Tie as tie
+use Rattle.strike.proofs.struck.jump.Reads as reads
+use Rattle.strike.proofs.struck.jump.Lts as lts
 use Rattle.machine.proofs.run.run_lines.Reads as run-lines-reads
-use Rattle.strike.proofs.strike.land.Reads as land-reads
+use Rattle.strike.proofs.struck.land.Reads as land-reads
 
 run-lines-requires : tie.Need-run-lines-requires
 run-lines-requires c κs = search needs
@@ -21,7 +21,7 @@ same-length-2 : tie.Need-same-length-2
 same-length-2 c = search needs
 
 returns : tie.Need-returns
-returns c = c .before .before .before .before .run-lines .ensures ∙ struck-none _ _ _ _ _ _ (c .before .before .before .before .before .before .before .if1 .taken)
+returns c = c .before .before .before .before .run-lines .ensures ∙ jump-none _ _ _ _ _ _ (c .before .before .before .before .before .before .before .if1 .taken)
 
 run-lines-requires-2 : tie.Need-run-lines-requires-2
 run-lines-requires-2 c κs = (c .before .before .before .before .before .before .pre .0, going-fewer _ _ _ _ (c .before .before .before .before .before .before .pre .1) (omega (arith, c .before .before .if1 .left)))
@@ -36,7 +36,7 @@ same-length-4 : tie.Need-same-length-4
 same-length-4 c = search needs
 
 returns-2 : tie.Need-returns-2
-returns-2 c = struck-stopped _ _ _ _ _ _ (c .before .before .before .before .before .before .before .before .if1 .left) _ (c .before .before .before .before .before .run-lines2 .ensures) (not-went _ (c .match .keys2))
+returns-2 c = jump-stopped _ _ _ _ _ _ (c .before .before .before .before .before .before .before .before .if1 .left) _ (c .before .before .before .before .before .run-lines2 .ensures) (not-went _ (c .match .keys2))
 
 sub-left : tie.Need-sub-left
 sub-left c = search needs
@@ -51,10 +51,10 @@ same-length-6 : tie.Need-same-length-6
 same-length-6 c = search needs
 
 returns-3 : tie.Need-returns-3
-returns-3 c = c .before .before .before .before .land .ensures ∙ struck-there _ _ _ _ _ _ (c .before .before .before .before .before .before .before .before .before .before .before .before .before .before .before .before .if1 .left) _ (c .before .before .before .before .before .before .before .before .before .before .before .before .before .run-lines2 .ensures) _ (c .before .before .before .before .before .before .before .enum-told .given .1)
+returns-3 c = c .before .before .before .before .land .ensures ∙ jump-there _ _ _ _ _ _ (c .before .before .before .before .before .before .before .before .before .before .before .before .before .before .before .before .if1 .left) _ (c .before .before .before .before .before .before .before .before .before .before .before .before .before .run-lines2 .ensures) _ (c .before .before .before .before .before .before .before .enum-told .given .1)
 
-pub strike-spec : {M : Type 1} → statement M
-strike-spec =
+pub jump-spec : {M : Type 1} → statement M
+jump-spec =
     tie.close
     (tie.spec
     run-lines-requires

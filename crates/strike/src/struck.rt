@@ -1,21 +1,24 @@
-// A run that a jump may strike: to the step that the jump names, there to its place, and on.
+// A run that something may strike.
 ghost use mathlib.Core.Path.{_≡_};
 ghost use Rattle.rules.specs.Line.{linesIn};
 ghost use Rattle.machine.specs.Step.{mapOf};
 ghost use Rattle.machine.specs.Run.{partsIn, stoppedWith};
 ghost use Rattle.machine.specs.Stands.{Ready, Going};
-ghost use Rattle.strike.specs.Struck.{landOf, struckOf};
-use crate::machine;
-use crate::machine::Machine;
-use crate::machine::Stopped;
-use crate::run::run_lines;
+ghost use Rattle.strike.specs.Struck.{landOf, jumpOf, struckOf};
+use machine::run::run_lines;
+use rules::limits::FUNCTIONS;
+use rules::limits::LINES;
 use rules::step::Step;
+use rules::strike::Strike;
+use state::machine::Machine;
+use state::machine::Stopped;
+use state::machine::at_line;
 
 // The running function goes to a place of its own, and the run goes on from there; a place beyond its last ends the run.
 pub fn land(
     lines: &[u8],
-    starts: &[u16; 33],
-    owners: &[u8; 2049],
+    starts: &[u16; FUNCTIONS + 1],
+    owners: &[u8; LINES + 1],
     home: u16,
     machine: Machine,
     left: u16,
@@ -35,15 +38,15 @@ pub fn land(
             machine,
         };
     }
-    let struck = machine::at_place(machine, first + place);
+    let struck = at_line(machine, first + place);
     run_lines(lines, starts, owners, home, struck, left, counters, trace)
 }
 
-// A jump before a step that the budget does not hold is none: no budget holds step 65,535.
-pub fn strike(
+// A jump: to the step that it names, there to its place, and on. One before a step that the budget does not hold is none.
+fn jump(
     lines: &[u8],
-    starts: &[u16; 33],
-    owners: &[u8; 2049],
+    starts: &[u16; FUNCTIONS + 1],
+    owners: &[u8; LINES + 1],
     home: u16,
     start: Machine,
     budget: u16,
@@ -53,7 +56,7 @@ pub fn strike(
     trace: &mut [u16],
 ) -> Stopped
     requires { ⌜ (Ready (now lines) (mapOf (now starts) (now owners) home)) × (Going (linesIn (now lines)) budget (partsIn start (now counters) (now trace))) ⌝ }
-    ensures { λ r. ⌜ stoppedWith r (now (counters .exit)) (now (trace .exit)) ≡ struckOf (now (lines .entry)) (mapOf (now (starts .entry)) (now (owners .entry)) home) budget step place (partsIn start (now (counters .entry)) (now (trace .entry))) ⌝ }
+    ensures { λ r. ⌜ stoppedWith r (now (counters .exit)) (now (trace .exit)) ≡ jumpOf (now (lines .entry)) (mapOf (now (starts .entry)) (now (owners .entry)) home) budget step place (partsIn start (now (counters .entry)) (now (trace .entry))) ⌝ }
 {
     if budget <= step {
         return run_lines(lines, starts, owners, home, start, budget, counters, trace);
@@ -75,4 +78,35 @@ pub fn strike(
         counters,
         trace,
     )
+}
+
+pub fn strike(
+    lines: &[u8],
+    starts: &[u16; FUNCTIONS + 1],
+    owners: &[u8; LINES + 1],
+    home: u16,
+    start: Machine,
+    budget: u16,
+    strike: Strike,
+    counters: &mut [u16],
+    trace: &mut [u16],
+) -> Stopped
+    requires { ⌜ (Ready (now lines) (mapOf (now starts) (now owners) home)) × (Going (linesIn (now lines)) budget (partsIn start (now counters) (now trace))) ⌝ }
+    ensures { λ r. ⌜ stoppedWith r (now (counters .exit)) (now (trace .exit)) ≡ struckOf (now (lines .entry)) (mapOf (now (starts .entry)) (now (owners .entry)) home) budget strike (partsIn start (now (counters .entry)) (now (trace .entry))) ⌝ }
+{
+    match strike {
+        Strike::None => run_lines(lines, starts, owners, home, start, budget, counters, trace),
+        Strike::Jump(step, place) => jump(
+            lines,
+            starts,
+            owners,
+            home,
+            start,
+            budget,
+            step,
+            place,
+            counters,
+            trace,
+        ),
+    }
 }

@@ -1,0 +1,3 @@
+pub mod Jumps
+pub mod Singly
+pub mod Whole

@@ -1,0 +1,3 @@
+// Whole runs of hardened tables, and what may strike them.
+pub mod struck;
+pub mod table;
