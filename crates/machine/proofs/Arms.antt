@@ -15,9 +15,9 @@ use Rattle.line.specs.Read.{structAt, lineKindAt}
 use Rattle.guard.specs.Fields.{FieldsIn}
 use Rattle.machine.specs.Ready.{CanStep}
 use Rattle.guard.specs.Guard.{Counted, counted, tickOf, leaveOf, outOf, backOf}
-use Rattle.state.specs.Machine.{moved}
+use Rattle.state.specs.Machine.{done, moved}
 use Rattle.guard.specs.Call.{returnOf, callOf, shifted, Settled, settled, retOf, testedOf}
-use Rattle.machine.specs.Step.{done, doOf, Map, Parts, after, guarded, settling, lineOf, lastLine, stepOf}
+use Rattle.machine.specs.Step.{doOf, Map, Parts, after, guarded, settling, lineOf, lastLine, stepOf}
 
 -- ---- the fields of a line of a known kind are in range
 pub fields-in : (bs ss ws tr : List ℕ) (h : Registers) → CanStep bs ss h ws tr → h .at ≢ getD ss (h .function + 1) 0

@@ -12,19 +12,11 @@ use Rattle.line.specs.declared.kind.LineKind.the-variants.{Do, Tick, Test, Leav
 use Rattle.line.specs.Read.{structAt, lineKindAt}
 use Rattle.state.specs.declared.machine.Registers.{Registers}
 use Rattle.state.specs.declared.machine.Moved.{Moved}
-use Rattle.state.specs.Machine.{moved, didOf}
+use Rattle.state.specs.Machine.{moved, didOf, Done, done}
 use Rattle.guard.specs.Guard.{Counted, tickOf, leaveOf, outOf, backOf}
 use Rattle.guard.specs.Call.{callOf, returnOf, Settled, retOf, testedOf}
 
 -- ---- a do
-pub record Done : Type 0 where
-  pub to : Moved
-  pub vars : List ℕ
-  pub slots : List ℕ
-
-abbrev pub done : Moved → (vars slots : List ℕ) → Done
-done x vs tr = record { to = x; vars = vs; slots = tr }
-
 unfoldable pub doOf : Line → Registers → (vars slots : List ℕ) → Done
 doOf l h vs tr =
     let x = didOf (l .operands) (l .e) h vs tr in

@@ -2,11 +2,11 @@
 ghost use mathlib.Core.Path.{_≡_};
 ghost use Prim.Native.Nat.{_<_};
 ghost use Rattle.rules.specs.Bounds.{VariablesIn};
-ghost use Rattle.state.specs.Machine.{HasSlot};
+ghost use Rattle.state.specs.Machine.{done, HasSlot};
 ghost use Rattle.guard.specs.Fields.{RegionsIn, Room};
 ghost use Rattle.guard.specs.Call.{settled, testedOf};
 ghost use Rattle.machine.specs.Ready.{CanStep};
-ghost use Rattle.machine.specs.Step.{done, doOf, mapOf, partsOf, after, stepOf};
+ghost use Rattle.machine.specs.Step.{doOf, mapOf, partsOf, after, stepOf};
 use guard::call;
 use guard::checks;
 use guard::ret;

@@ -6,6 +6,7 @@ use native.Mathlib.Numerals.{add-one}
 use native.Mathlib.Omega.{arith}
 use lib.ListN.{length, take, drop, length-replicate, take-append-drop}
 use lib.Seq.{length-take-le}
+use Rattle.rules.specs.declared.answer.Ran.{Ran}
 use Rattle.rules.specs.declared.refusal.Verdict.the-variants.{Accepted}
 use Rattle.rules.specs.declared.step.Step.{Step}
 use Rattle.rules.specs.declared.step.Step.the-variants.{Went, Finished, Alarm, TooManyOpen, Beyond}
@@ -15,14 +16,14 @@ use Rattle.rules.specs.Run.{on, ends, outcomeOf, run}
 use Rattle.rules.specs.Run as Runs
 use Rattle.rules.specs.Source.{sourceStep, sourceRun}
 use Rattle.rules.specs.Calls.{over, running}
-use Rattle.machine.specs.declared.machine.Hot.{Hot}
-use Rattle.machine.specs.declared.machine.Machine.{Machine}
-use Rattle.machine.specs.declared.machine.Stopped.{Stopped}
-use Rattle.machine.specs.Run.{stoppedAt, hotAt, onward}
-use Rattle.machine.proofs.Agree.{IsEnd}
+use Rattle.state.specs.declared.machine.Registers.{Registers}
+use Rattle.state.specs.declared.machine.Machine.{Machine}
+use Rattle.state.specs.declared.machine.Stopped.{Stopped}
+use Rattle.state.specs.Machine.{stoppedAt, registersAt, onward, firstRegisters, Begun, ranOf}
+use Rattle.state.proofs.Ends.{IsEnd}
 use Rattle.source.specs.Goes.{Known}
 use Rattle.source.specs.Step.{CanStep, Parts, After, stepOf, partsOf}
-use Rattle.source.specs.Run.{partsIn, stoppedWith, partsAt, stateOf, turnOf, answerOf, runFrom, Going, Kept, Ended, startOf, ranWith}
+use Rattle.source.specs.Run.{partsIn, stoppedWith, partsAt, stateOf, turnOf, answerOf, runFrom, Going, Kept, Ended, ranWith}
 use Rattle.source.proofs.Rows.{first-inside}
 use Rattle.source.proofs.Steps.{Steps, steps}
 
@@ -34,44 +35,44 @@ onward-end Alarm n f z = refl
 onward-end (TooManyOpen k) n f z = refl
 onward-end (Beyond k) n f z = refl
 
-run-none : (t : Table) (b : ℕ) (p : Parts) → b ≤ 0 → runFrom t b p ≡ answerOf (record { step = Went (p .hot .place); parts = p })
+run-none : (t : Table) (b : ℕ) (p : Parts) → b ≤ 0 → runFrom t b p ≡ answerOf (record { step = Went (p .registers .at); parts = p })
 unfolding run
 run-none t zero p h = refl
 run-none t (suc b) p h = absurd (let z : ⊥ = omega arith in z)
 
 run-went : (t : Table) (p : Parts) (left : ℕ) → 0 < left → (a : After) → turnOf a ≡ sourceStep t (stateOf p) → (i : ℕ) → a .step ≡ Went i
-    → runFrom t left p ≡ runFrom t (left - 1) (partsAt (a .parts) i (p .hot .steps + 1))
+    → runFrom t left p ≡ runFrom t (left - 1) (partsAt (a .parts) i (p .registers .steps + 1))
 unfolding run
 run-went t p zero h a e i z = absurd (let q : ⊥ = omega arith in q)
 run-went t p (suc b) h a e i z =
     let q : suc b - 1 ≡ b = omega arith in
-    ap (λ u. Runs.after (p .hot .steps) u (λ s. run (λ k s. sourceStep t s) b (suc (p .hot .steps)) s)) (sym e)
-    ∙ ap (λ o. Runs.after (p .hot .steps) (onward o (λ j. on (stateOf (partsAt (a .parts) j 0))) (ends (a .step) (stateOf (a .parts)))) (λ s. run (λ k s. sourceStep t s) b (suc (p .hot .steps)) s)) z
-    ∙ ap (λ c. run (λ k s. sourceStep t s) c (suc (p .hot .steps)) (stateOf (partsAt (a .parts) i 0))) (sym q)
-    ∙ ap (λ c. run (λ k s. sourceStep t s) (suc b - 1) c (stateOf (partsAt (a .parts) i 0))) (sym (add-one (p .hot .steps)))
+    ap (λ u. Runs.after (p .registers .steps) u (λ s. run (λ k s. sourceStep t s) b (suc (p .registers .steps)) s)) (sym e)
+    ∙ ap (λ o. Runs.after (p .registers .steps) (onward o (λ j. on (stateOf (partsAt (a .parts) j 0))) (ends (a .step) (stateOf (a .parts)))) (λ s. run (λ k s. sourceStep t s) b (suc (p .registers .steps)) s)) z
+    ∙ ap (λ c. run (λ k s. sourceStep t s) c (suc (p .registers .steps)) (stateOf (partsAt (a .parts) i 0))) (sym q)
+    ∙ ap (λ c. run (λ k s. sourceStep t s) (suc b - 1) c (stateOf (partsAt (a .parts) i 0))) (sym (add-one (p .registers .steps)))
 
 -- a step that ends a run is counted too
-abbrev countedHot : Parts → After → Hot
-countedHot p a = hotAt (a .parts .hot) (a .parts .hot .place) (p .hot .steps + 1)
+abbrev countedHot : Parts → After → Registers
+countedHot p a = registersAt (a .parts .registers) (a .parts .registers .at) (p .registers .steps + 1)
 
 abbrev counted : Parts → After → After
-counted p a = record { step = a .step; parts = partsAt (a .parts) (a .parts .hot .place) (p .hot .steps + 1) }
+counted p a = record { step = a .step; parts = partsAt (a .parts) (a .parts .registers .at) (p .registers .steps + 1) }
 
 run-stops : (t : Table) (p : Parts) (left : ℕ) → 0 < left → (a : After) → turnOf a ≡ sourceStep t (stateOf p) → IsEnd (a .step)
     → runFrom t left p ≡ answerOf (counted p a)
 unfolding run
 run-stops t p zero h a e n = absurd (let q : ⊥ = omega arith in q)
 run-stops t p (suc b) h a e n =
-    ap (λ u. Runs.after (p .hot .steps) u (λ s. run (λ k s. sourceStep t s) b (suc (p .hot .steps)) s)) (sym e)
-    ∙ ap (λ u. Runs.after (p .hot .steps) u (λ s. run (λ k s. sourceStep t s) b (suc (p .hot .steps)) s))
+    ap (λ u. Runs.after (p .registers .steps) u (λ s. run (λ k s. sourceStep t s) b (suc (p .registers .steps)) s)) (sym e)
+    ∙ ap (λ u. Runs.after (p .registers .steps) u (λ s. run (λ k s. sourceStep t s) b (suc (p .registers .steps)) s))
     (onward-end (a .step) n (λ j. on (stateOf (partsAt (a .parts) j 0))) (ends (a .step) (stateOf (a .parts))))
-    ∙ ap (λ c. record { step = a .step; steps = c; state = stateOf (a .parts) }) (sym (add-one (p .hot .steps)))
+    ∙ ap (λ c. record { step = a .step; steps = c; state = stateOf (a .parts) }) (sym (add-one (p .registers .steps)))
 
 -- ---- what the loop keeps
 pub record Running (bs : List ℕ) (budget : ℕ) (start : Parts) (left : ℕ) (p : Parts) : Type 0 where
   pub going : Going bs left p
   pub same : runFrom (tableOf bs) budget start ≡ runFrom (tableOf bs) left p
-  pub kept : Kept (p .hot .traced) (start .slots) (p .slots)
+  pub kept : Kept (p .registers .traced) (start .slots) (p .slots)
   pub longer : (more : ℕ) → runFrom (tableOf bs) (budget + more) start ≡ runFrom (tableOf bs) (left + more) p
   pub further : (more : ℕ) → Going bs (budget + more) start → Going bs (left + more) p
 
@@ -79,7 +80,7 @@ pub run-starts : {bs : List ℕ} {budget : ℕ} {start : Parts} → Going bs bud
 run-starts g = record { going = g; same = refl; kept = record { in-slots = omega (arith, g .room); same-length = refl; same-rest = refl }; longer = λ more. refl; further = λ more x. x }
 
 module _ {bs goes : List ℕ} (k : Known bs goes) {budget left : ℕ} {start p : Parts} (r : Running bs budget start left p) where
-  pub can-step : 0 < left → CanStep bs (p .hot) (p .slots)
+  pub can-step : 0 < left → CanStep bs (p .registers) (p .slots)
   can-step h =
       record {
         standing = record { accepted = k .accepted; here = r .going .fits .here };
@@ -91,10 +92,10 @@ module _ {bs goes : List ℕ} (k : Known bs goes) {budget left : ℕ} {start p :
     step-is : Steps bs p a (sourceStep (tableOf bs) (stateOf p))
     step-is = subst (λ x. Steps bs p x (sourceStep (tableOf bs) (stateOf p))) (sym e) (steps bs (k .accepted) p (r .going .fits) (omega (arith, r .going .room)))
 
-    kept-on : Kept (a .parts .hot .traced) (start .slots) (a .parts .slots)
+    kept-on : Kept (a .parts .registers .traced) (start .slots) (a .parts .slots)
     kept-on = step-is .keeps (start .slots) (r .kept)
 
-    going-on : (n i : ℕ) → 0 < n → Going bs n p → a .step ≡ Went i → Going bs (n - 1) (partsAt (a .parts) i (p .hot .steps + 1))
+    going-on : (n i : ℕ) → 0 < n → Going bs n p → a .step ≡ Went i → Going bs (n - 1) (partsAt (a .parts) i (p .registers .steps + 1))
     going-on n i l g z =
         let s = step-is in
         record {
@@ -104,7 +105,7 @@ module _ {bs goes : List ℕ} (k : Known bs goes) {budget left : ℕ} {start p :
           traced = omega (arith, g .traced, s .traced-more);
         }
 
-    pub run-again : (i : ℕ) → a .step ≡ Went i → Running bs budget start (left - 1) (partsAt (a .parts) i (p .hot .steps + 1))
+    pub run-again : (i : ℕ) → a .step ≡ Went i → Running bs budget start (left - 1) (partsAt (a .parts) i (p .registers .steps + 1))
     run-again i z =
         let s = step-is in
         record {
@@ -114,21 +115,21 @@ module _ {bs goes : List ℕ} (k : Known bs goes) {budget left : ℕ} {start p :
           longer =
               λ more.
               r .longer more ∙ run-went (tableOf bs) p (left + more) (omega arith) a (s .turn) i z
-              ∙ ap (λ n. runFrom (tableOf bs) n (partsAt (a .parts) i (p .hot .steps + 1))) (let q : left + more - 1 ≡ left - 1 + more = omega arith in q);
+              ∙ ap (λ n. runFrom (tableOf bs) n (partsAt (a .parts) i (p .registers .steps + 1))) (let q : left + more - 1 ≡ left - 1 + more = omega arith in q);
           further =
               λ more g.
-              subst (λ n. Going bs n (partsAt (a .parts) i (p .hot .steps + 1))) (let q : left + more - 1 ≡ left - 1 + more = omega arith in q)
+              subst (λ n. Going bs n (partsAt (a .parts) i (p .registers .steps + 1))) (let q : left + more - 1 ≡ left - 1 + more = omega arith in q)
               (going-on (left + more) i (omega arith) (r .further more g) z);
         }
 
     -- the same with the numbers made anew
-    pub run-on : (i : ℕ) → a .step ≡ Went i → (n : Hot) → n ≡ countedHot p a
-        → Running bs budget start (left - 1) (partsOf n (a .parts .places) (a .parts .functions) (a .parts .vars) (a .parts .slots))
+    pub run-on : (i : ℕ) → a .step ≡ Went i → (n : Registers) → n ≡ countedHot p a
+        → Running bs budget start (left - 1) (partsOf n (a .parts .resumes) (a .parts .functions) (a .parts .vars) (a .parts .slots))
     run-on i z n q =
-        subst (λ y. Running bs budget start (left - 1) (partsOf y (a .parts .places) (a .parts .functions) (a .parts .vars) (a .parts .slots)))
-        (sym (q ∙ ap (λ k. hotAt (a .parts .hot) k (p .hot .steps + 1)) (step-is .stands i z))) (run-again i z)
+        subst (λ y. Running bs budget start (left - 1) (partsOf y (a .parts .resumes) (a .parts .functions) (a .parts .vars) (a .parts .slots)))
+        (sym (q ∙ ap (λ k. registersAt (a .parts .registers) k (p .registers .steps + 1)) (step-is .stands i z))) (run-again i z)
 
-    pub run-ends : IsEnd (a .step) → (x : Stopped) → x ≡ stoppedAt (a .step) (a .parts .places) (a .parts .functions) (a .parts .vars) (countedHot p a)
+    pub run-ends : IsEnd (a .step) → (x : Stopped) → x ≡ stoppedAt (a .step) (a .parts .resumes) (a .parts .functions) (a .parts .vars) (countedHot p a)
         → Ended bs budget start (stoppedWith x (a .parts .slots))
     run-ends n x q =
         subst (λ y. Ended bs budget start (stoppedWith y (a .parts .slots))) (sym q)
@@ -142,12 +143,12 @@ module _ {bs goes : List ℕ} (k : Known bs goes) {budget left : ℕ} {start p :
           goes-on = λ more k g z. absurd (n k z);
         })
 
-    pub run-ends-with : IsEnd (a .step) → (n : Hot) → n ≡ countedHot p a → (x : Stopped)
-        → x ≡ stoppedAt (a .step) (a .parts .places) (a .parts .functions) (a .parts .vars) n
+    pub run-ends-with : IsEnd (a .step) → (n : Registers) → n ≡ countedHot p a → (x : Stopped)
+        → x ≡ stoppedAt (a .step) (a .parts .resumes) (a .parts .functions) (a .parts .vars) n
         → Ended bs budget start (stoppedWith x (a .parts .slots))
-    run-ends-with e n m x q = run-ends e x (q ∙ ap (stoppedAt (a .step) (a .parts .places) (a .parts .functions) (a .parts .vars)) m)
+    run-ends-with e n m x q = run-ends e x (q ∙ ap (stoppedAt (a .step) (a .parts .resumes) (a .parts .functions) (a .parts .vars)) m)
 
-  pub run-spent : left ≤ 0 → (x : Stopped) → x ≡ stoppedAt (Went (p .hot .place)) (p .places) (p .functions) (p .vars) (p .hot)
+  pub run-spent : left ≤ 0 → (x : Stopped) → x ≡ stoppedAt (Went (p .registers .at)) (p .resumes) (p .functions) (p .vars) (p .registers)
       → Ended bs budget start (stoppedWith x (p .slots))
   run-spent h x q =
       subst (λ y. Ended bs budget start (stoppedWith y (p .slots))) (sym q)
@@ -159,15 +160,15 @@ module _ {bs goes : List ℕ} (k : Known bs goes) {budget left : ℕ} {start p :
       })
 
 -- ---- the whole run
-pub starts : {bs slots vs : List ℕ} {budget : ℕ} {m : Machine} → verdictOf bs ≡ Accepted → budget ≤ length slots → budget < 65536 → m ≡ startOf vs
+pub starts : {bs slots vs : List ℕ} {budget : ℕ} {m : Machine} → verdictOf bs ≡ Accepted → budget ≤ length slots → budget < 65536 → Begun m 1 vs
     → Going bs budget (partsIn m slots)
-starts {bs} {slots} {vs} {budget} a h l e =
-    subst (λ m. Going bs budget (partsIn m slots)) (sym e)
+starts {bs} {slots} {vs} {budget} {m} a h l b =
+    subst (λ x. Going bs budget (partsOf x (m .resumes) (m .functions) (m .variables) slots)) (sym (b .registers-are))
     (record {
       fits = record {
         deep = omega arith;
-        places-are = length-replicate {A = ℕ} 16 0;
-        functions-are = length-replicate {A = ℕ} 16 0;
+        resumes-are = b .resumes-are;
+        functions-are = b .functions-are;
         here = first-inside bs a;
         waiting = λ d x. absurd (let z : ⊥ = omega arith in z);
       };
@@ -176,16 +177,21 @@ starts {bs} {slots} {vs} {budget} a h l e =
       traced = omega arith;
     })
 
-pub answers : (bs slots vs held : List ℕ) (budget o : ℕ) (m : Machine) (x : Stopped) → m ≡ startOf vs → Ended bs budget (partsIn m held) (stoppedWith x slots) → o ≡ outcomeOf (x .step)
-    → ranWith (record { number = 0; outcome = o; steps = x .machine .hot .steps; traced = x .machine .hot .traced; variables = x .machine .variables }) slots
-    ≡ running Accepted (sourceRun (tableOf bs) budget vs) vs held
+-- the run from there is the source's
+first-run : (bs vs held : List ℕ) (budget : ℕ) (m : Machine) → Begun m 1 vs → runFrom (tableOf bs) budget (partsIn m held) ≡ sourceRun (tableOf bs) budget vs
+first-run bs vs held budget m b =
+    ap (λ x. runFrom (tableOf bs) budget (partsOf x (m .resumes) (m .functions) (m .variables) held)) (b .registers-are)
+    ∙ ap (λ x. runFrom (tableOf bs) budget (partsOf (firstRegisters 1) (m .resumes) (m .functions) x held)) (b .vars-are)
+
+pub answers : (bs slots vs held : List ℕ) (budget : ℕ) (m : Machine) (x : Stopped) (r : Ran) → Begun m 1 vs → Ended bs budget (partsIn m held) (stoppedWith x slots) → r ≡ ranOf x
+    → ranWith r slots ≡ running Accepted (sourceRun (tableOf bs) budget vs) vs held
 unfolding running
-answers bs slots vs held budget o m x b e q =
-    let n = x .machine .hot .traced in
+answers bs slots vs held budget m x r b e q =
+    let n = x .machine .registers .traced in
     let l : length (take n slots) ≡ n = length-take-le n slots (e .kept .in-slots) in
     let w : slots ≡ over (take n slots) held
     = sym (take-append-drop n slots) ∙ ap (λ y. take n slots ++ y) (e .kept .same-rest) ∙ ap (λ y. take n slots ++ drop y held) (sym l) in
-    ap (λ y. ranWith (record { number = 0; outcome = y; steps = x .machine .hot .steps; traced = n; variables = x .machine .variables }) slots) q
-    ∙ ap (λ y. ranWith (record { number = 0; outcome = outcomeOf (x .step); steps = x .machine .hot .steps; traced = y; variables = x .machine .variables }) slots) (sym l)
-    ∙ ap (λ y. ranWith (record { number = 0; outcome = outcomeOf (x .step); steps = x .machine .hot .steps; traced = length (take n slots); variables = x .machine .variables }) y) w
-    ∙ sym (ap (λ y. running Accepted y vs held) (ap (λ y. runFrom (tableOf bs) budget (partsIn y held)) (sym b) ∙ e .answer-is))
+    ap (λ y. ranWith y slots) q
+    ∙ ap (λ y. ranWith (record { number = 0; outcome = outcomeOf (x .step); steps = x .machine .registers .steps; traced = y; variables = x .machine .variables }) slots) (sym l)
+    ∙ ap (λ y. ranWith (record { number = 0; outcome = outcomeOf (x .step); steps = x .machine .registers .steps; traced = length (take n slots); variables = x .machine .variables }) y) w
+    ∙ sym (ap (λ y. running Accepted y vs held) (sym (first-run bs vs held budget m b) ∙ e .answer-is))

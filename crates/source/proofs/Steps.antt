@@ -30,20 +30,21 @@ use Rattle.rules.proofs.Accepted.{proper, table-length}
 use Rattle.rules.proofs.Function.{isBody, not-silent, not-unknown}
 use Rattle.layout.specs.Spot.{Inside}
 use Rattle.layout.proofs.Survey.{some-open}
-use Rattle.machine.specs.Step.{moved, openedOf, closedOf}
-use Rattle.machine.proofs.Agree.{IsEnd, finished-ends, too-many-ends}
+use Rattle.state.specs.Machine.{moved}
+use Rattle.state.specs.Open.{Opened, opened, openedOf, closedOf}
+use Rattle.state.proofs.Ends.{IsEnd, finished-ends, too-many-ends}
 use Rattle.source.specs.Goes.{endGoes, goesBy, goOf}
-use Rattle.source.specs.Step.{goesTo, afterTest, afterJump, afterReturn, afterEnd, Called, called, afterCall, afterDo, Parts, After, after, moving, rowOf, stepOf}
+use Rattle.source.specs.Step.{goesTo, afterTest, afterJump, afterReturn, afterEnd, afterCall, afterDo, Parts, After, after, moving, rowOf, stepOf}
 use Rattle.source.specs.Run.{framesOf, stateOf, turnOf, Fits, Kept}
 use Rattle.source.proofs.Rows.{not-first, stays-inside, pushes-inside, passes-inside, past-inside, false-inside, repeats-inside, continue-inside, callee-inside, else-inside, break-inside}
 
 -- ---- a step of both
 pub record Steps (bs : List ℕ) (p : Parts) (a : After) (u : Turn (Unit {0})) : Type 0 where
   pub turn : turnOf a ≡ u
-  pub next : (i : ℕ) → a .step ≡ Went i → Fits bs (a .parts .hot .depth) i (a .parts .places) (a .parts .functions)
-  pub stands : (i : ℕ) → a .step ≡ Went i → a .parts .hot .place ≡ i
-  pub traced-more : a .parts .hot .traced ≤ p .hot .traced + 1
-  pub keeps : (held : List ℕ) → Kept (p .hot .traced) held (p .slots) → Kept (a .parts .hot .traced) held (a .parts .slots)
+  pub next : (i : ℕ) → a .step ≡ Went i → Fits bs (a .parts .registers .depth) i (a .parts .resumes) (a .parts .functions)
+  pub stands : (i : ℕ) → a .step ≡ Went i → a .parts .registers .at ≡ i
+  pub traced-more : a .parts .registers .traced ≤ p .registers .traced + 1
+  pub keeps : (held : List ℕ) → Kept (p .registers .traced) held (p .slots) → Kept (a .parts .registers .traced) held (a .parts .slots)
 
 -- ---- the functions that wait
 frames-length : (ps fs : List ℕ) (d : ℕ) → length (framesOf ps fs d) ≡ d
@@ -64,21 +65,21 @@ frames-more ps fs k f d a b =
 went-same : {x y : ℕ} → Went x ≡ Went y → x ≡ y
 went-same e = cc
 
-module _ (bs : List ℕ) (a : verdictOf bs ≡ Accepted) (p : Parts) (v : Fits bs (p .hot .depth) (p .hot .place) (p .places) (p .functions)) where
+module _ (bs : List ℕ) (a : verdictOf bs ≡ Accepted) (p : Parts) (v : Fits bs (p .registers .depth) (p .registers .at) (p .resumes) (p .functions)) where
   abbrev t : Table
   t = tableOf bs
 
   abbrev i : ℕ
-  i = p .hot .place
+  i = p .registers .at
 
   -- ---- a row that changes nothing but where the run goes on
-  goes : (j : ℕ) → Inside bs j → Steps bs p (moving p (goesTo (p .hot) j)) (on (toRow j (stateOf p)))
+  goes : (j : ℕ) → Inside bs j → Steps bs p (moving p (goesTo (p .registers) j)) (on (toRow j (stateOf p)))
   goes j n =
       record {
         turn = refl;
         next = λ k e. record {
           deep = v .deep;
-          places-are = v .places-are;
+          resumes-are = v .resumes-are;
           functions-are = v .functions-are;
           here = subst (Inside bs) (went-same e) n;
           waiting = v .waiting;
@@ -89,7 +90,7 @@ module _ (bs : List ℕ) (a : verdictOf bs ≡ Accepted) (p : Parts) (v : Fits b
       }
 
   -- ---- the run ends
-  stops : (o : Step) → IsEnd o → turnOf (moving p (moved o (p .hot))) ≡ ends o (stateOf p) → Steps bs p (moving p (moved o (p .hot))) (ends o (stateOf p))
+  stops : (o : Step) → IsEnd o → turnOf (moving p (moved o (p .registers))) ≡ ends o (stateOf p) → Steps bs p (moving p (moved o (p .registers))) (ends o (stateOf p))
   stops o n e = record { turn = e; next = λ k z. absurd (n k z); stands = λ k z. absurd (n k z); traced-more = omega arith; keeps = λ held k. k }
 
   -- ---- where the row goes
@@ -102,46 +103,46 @@ module _ (bs : List ℕ) (a : verdictOf bs ≡ Accepted) (p : Parts) (v : Fits b
   by-test false x y m n = n
 
   tests : (j : ℕ) → goOf t i ≡ j → Inside bs (suc i) → Inside bs j
-      → Steps bs p (moving p (afterTest t (p .hot) (p .vars))) (on (toRow (cond (holdsOn (operandsAt t i) (p .vars)) (suc i) j) (stateOf p)))
+      → Steps bs p (moving p (afterTest t (p .registers) (p .vars))) (on (toRow (cond (holdsOn (operandsAt t i) (p .vars)) (suc i) j) (stateOf p)))
   unfolding afterTest
   tests j e m n =
       subst
-      (λ g. Steps bs p (moving p (goesTo (p .hot) (cond (holdsOn (operandsAt t i) (p .vars)) (suc i) g)))
+      (λ g. Steps bs p (moving p (goesTo (p .registers) (cond (holdsOn (operandsAt t i) (p .vars)) (suc i) g)))
       (on (toRow (cond (holdsOn (operandsAt t i) (p .vars)) (suc i) j) (stateOf p)))) (sym e)
       (goes (cond (holdsOn (operandsAt t i) (p .vars)) (suc i) j) (by-test (holdsOn (operandsAt t i) (p .vars)) (suc i) j m n))
 
-  jumps : (j : ℕ) → goOf t i ≡ j → Inside bs j → Steps bs p (moving p (afterJump t (p .hot))) (on (toRow j (stateOf p)))
+  jumps : (j : ℕ) → goOf t i ≡ j → Inside bs j → Steps bs p (moving p (afterJump t (p .registers))) (on (toRow j (stateOf p)))
   unfolding afterJump
-  jumps j e n = subst (λ g. Steps bs p (moving p (goesTo (p .hot) g)) (on (toRow j (stateOf p)))) (sym e) (goes j n)
+  jumps j e n = subst (λ g. Steps bs p (moving p (goesTo (p .registers) g)) (on (toRow j (stateOf p)))) (sym e) (goes j n)
 
   -- ---- a do
-  do-keeps : p .hot .traced < length (p .slots) → (held : List ℕ) → Kept (p .hot .traced) held (p .slots)
-      → Kept (p .hot .traced + 1) held (set (p .slots) (p .hot .traced) i)
+  do-keeps : p .registers .traced < length (p .slots) → (held : List ℕ) → Kept (p .registers .traced) held (p .slots)
+      → Kept (p .registers .traced + 1) held (set (p .slots) (p .registers .traced) i)
   do-keeps h held k =
       record {
-        in-slots = omega (arith, length-set (p .slots) (p .hot .traced) i);
-        same-length = length-set (p .slots) (p .hot .traced) i ∙ k .same-length;
+        in-slots = omega (arith, length-set (p .slots) (p .registers .traced) i);
+        same-length = length-set (p .slots) (p .registers .traced) i ∙ k .same-length;
         same-rest =
-            drop-set-lt (p .hot .traced + 1) (p .slots) (p .hot .traced) i (omega arith) ∙ sym (drop-drop 1 (p .hot .traced) (p .slots))
-            ∙ ap (drop 1) (k .same-rest) ∙ drop-drop 1 (p .hot .traced) held;
+            drop-set-lt (p .registers .traced + 1) (p .slots) (p .registers .traced) i (omega arith) ∙ sym (drop-drop 1 (p .registers .traced) (p .slots))
+            ∙ ap (drop 1) (k .same-rest) ∙ drop-drop 1 (p .registers .traced) held;
       }
 
-  does : p .hot .traced < length (p .slots) → kindAt t i ≡ Do → Steps bs p (rowOf t Do p) (on (toRow (suc i) (did (operandsAt t i) i (stateOf p))))
+  does : p .registers .traced < length (p .slots) → kindAt t i ≡ Do → Steps bs p (rowOf t Do p) (on (toRow (suc i) (did (operandsAt t i) i (stateOf p))))
   unfolding rowOf afterDo
   does h e =
       record {
         turn = ap
             (λ tr. on (record {
-              running = frame (p .hot .function) (suc i) tt;
-              callers = framesOf (p .places) (p .functions) (p .hot .depth);
+              running = frame (p .registers .function) (suc i) tt;
+              callers = framesOf (p .resumes) (p .functions) (p .registers .depth);
               last = tt;
               vars = doneOn (operandsAt t i) (p .vars);
               trace = tr;
             }))
-            (ap (λ n. take n (set (p .slots) (p .hot .traced) i)) (add-one (p .hot .traced)) ∙ take-suc-set (p .slots) (p .hot .traced) i h);
+            (ap (λ n. take n (set (p .slots) (p .registers .traced) i)) (add-one (p .registers .traced)) ∙ take-suc-set (p .slots) (p .registers .traced) i h);
         next = λ k z. record {
           deep = v .deep;
-          places-are = v .places-are;
+          resumes-are = v .resumes-are;
           functions-are = v .functions-are;
           here = subst (Inside bs) (went-same z) (stays-inside bs a (v .here) Do e refl);
           waiting = v .waiting;
@@ -152,25 +153,25 @@ module _ (bs : List ℕ) (a : verdictOf bs ≡ Accepted) (p : Parts) (v : Fits b
       }
 
   -- ---- a return
-  closes : (d : ℕ) → p .hot .depth ≡ suc d
-      → Steps bs p (moving p (closedOf (p .hot) (getD (p .functions) (p .hot .depth - 1) 0) (getD (p .places) (p .hot .depth - 1) 0) 0))
-      (returnRow (stateOf p) (framesOf (p .places) (p .functions) (suc d)))
+  closes : (d : ℕ) → p .registers .depth ≡ suc d
+      → Steps bs p (moving p (closedOf (p .registers) 0 (p .resumes) (p .functions)))
+      (returnRow (stateOf p) (framesOf (p .resumes) (p .functions) (suc d)))
   closes d e =
-      let q : p .hot .depth - 1 ≡ d = omega arith in
+      let q : p .registers .depth - 1 ≡ d = omega arith in
       record {
         turn = ap
             (λ n. on (record {
-              running = frame (getD (p .functions) n 0) (getD (p .places) n 0) tt;
-              callers = framesOf (p .places) (p .functions) n;
+              running = frame (getD (p .functions) n 0) (getD (p .resumes) n 0) tt;
+              callers = framesOf (p .resumes) (p .functions) n;
               last = tt;
               vars = p .vars;
-              trace = take (p .hot .traced) (p .slots);
+              trace = take (p .registers .traced) (p .slots);
             })) q;
         next = λ k z. record {
           deep = omega (arith, v .deep);
-          places-are = v .places-are;
+          resumes-are = v .resumes-are;
           functions-are = v .functions-are;
-          here = subst (Inside bs) (went-same z) (v .waiting (p .hot .depth - 1) (omega arith));
+          here = subst (Inside bs) (went-same z) (v .waiting (p .registers .depth - 1) (omega arith));
           waiting = λ n l. v .waiting n (omega arith);
         };
         stands = λ k. went-same;
@@ -178,25 +179,25 @@ module _ (bs : List ℕ) (a : verdictOf bs ≡ Accepted) (p : Parts) (v : Fits b
         keeps = λ held k. k;
       }
 
-  by-depth : (d : ℕ) → p .hot .depth ≡ d → Steps bs p (moving p (afterReturn (p .hot) (p .places) (p .functions))) (returnRow (stateOf p) (framesOf (p .places) (p .functions) d))
+  by-depth : (d : ℕ) → p .registers .depth ≡ d → Steps bs p (moving p (afterReturn (p .registers) (p .resumes) (p .functions))) (returnRow (stateOf p) (framesOf (p .resumes) (p .functions) d))
   unfolding afterReturn
-  by-depth zero e = rw (le-ltb 0 (p .hot .depth) (omega arith)) (stops Finished finished-ends refl)
-  by-depth (suc d) e = rw (lt-ltb 0 (p .hot .depth) (omega arith)) (closes d e)
+  by-depth zero e = rw (le-ltb 0 (p .registers .depth) (omega arith)) (stops Finished finished-ends refl)
+  by-depth (suc d) e = rw (lt-ltb 0 (p .registers .depth) (omega arith)) (closes d e)
 
   -- ---- an end
   abbrev ending : (g : ℕ) → After
-  ending g = moving p (cond (eqb g 0) (afterReturn (p .hot) (p .places) (p .functions)) (goesTo (p .hot) g))
+  ending g = moving p (cond (eqb g 0) (afterReturn (p .registers) (p .resumes) (p .functions)) (goesTo (p .registers) g))
 
   passes : (j : ℕ) → Inside bs j → Steps bs p (ending j) (on (toRow j (stateOf p)))
   passes j n = rw (ne-eqb j 0 (not-first bs a n)) (goes j n)
 
   by-part : kindAt t i ≡ End → (q : Part) → partOf (openAt t i) ≡ q → Steps bs p (ending (endGoes t i q)) (endRow i (openAt t i) q (stateOf p))
-  by-part e body q = by-depth (p .hot .depth) refl
+  by-part e body q = by-depth (p .registers .depth) refl
   by-part e thenPart q = passes (suc i) (passes-inside bs a (v .here) e (ap isBody q))
   by-part e elsePart q = passes (suc i) (passes-inside bs a (v .here) e (ap isBody q))
   by-part e loopBody q = passes (openerOf (openAt t i)) (repeats-inside bs a (v .here) (ap isBody q))
 
-  closing : kindAt t i ≡ End → Steps bs p (moving p (afterEnd t (p .hot) (p .places) (p .functions))) (endRow i (openAt t i) (partOf (openAt t i)) (stateOf p))
+  closing : kindAt t i ≡ End → Steps bs p (moving p (afterEnd t (p .registers) (p .resumes) (p .functions))) (endRow i (openAt t i) (partOf (openAt t i)) (stateOf p))
   unfolding afterEnd
   closing e =
       subst (λ g. Steps bs p (ending g) (endRow i (openAt t i) (partOf (openAt t i)) (stateOf p))) (sym (goes-by End e))
@@ -206,40 +207,37 @@ module _ (bs : List ℕ) (a : verdictOf bs ≡ Accepted) (p : Parts) (v : Fits b
   abbrev n : ℕ
   n = operandsAt t i .n
 
-  abbrev calling : Called → After
-  calling x = after (x .to) (x .places) (x .functions) (p .vars) (p .slots)
+  abbrev calling : Opened → After
+  calling x = after (x .to) (x .resumes) (x .functions) (p .vars) (p .slots)
 
-  abbrev openedAt : (g : ℕ) → Called
-  openedAt g = called (openedOf (p .hot) n g) (set (p .places) (p .hot .depth) (i + 1)) (set (p .functions) (p .hot .depth) (p .hot .function))
-
-  abbrev opened : Called
-  opened = openedAt (suc (functionRow t n))
+  abbrev openedAt : (g : ℕ) → Opened
+  openedAt g = openedOf (p .registers) n g (p .resumes) (p .functions)
 
   abbrev callingAt : (room : Bool) (g : ℕ) → After
-  callingAt b g = calling (cond b (openedAt g) (called (moved (TooManyOpen 16) (p .hot)) (p .places) (p .functions)))
+  callingAt b g = calling (cond b (openedAt g) (opened (moved (TooManyOpen 16) (p .registers)) (p .resumes) (p .functions)))
 
-  saved : kindAt t i ≡ Call → (d : ℕ) → d < p .hot .depth + 1 → Inside bs (getD (set (p .places) (p .hot .depth) (i + 1)) d 0)
-  saved e d l = by (eq-or-lt-of-le (subst (λ x. d < x) (add-one (p .hot .depth)) l))
+  saved : kindAt t i ≡ Call → (d : ℕ) → d < p .registers .depth + 1 → Inside bs (getD (set (p .resumes) (p .registers .depth) (i + 1)) d 0)
+  saved e d l = by (eq-or-lt-of-le (subst (λ x. d < x) (add-one (p .registers .depth)) l))
     where
-      by : (suc d ≡ suc (p .hot .depth)) ⊎ (suc d < suc (p .hot .depth)) → Inside bs (getD (set (p .places) (p .hot .depth) (i + 1)) d 0)
+      by : (suc d ≡ suc (p .registers .depth)) ⊎ (suc d < suc (p .registers .depth)) → Inside bs (getD (set (p .resumes) (p .registers .depth) (i + 1)) d 0)
       by (inl x) =
-          let q : d ≡ p .hot .depth = omega arith in
+          let q : d ≡ p .registers .depth = omega arith in
           subst (Inside bs)
-          (sym (ap (λ y. getD (set (p .places) (p .hot .depth) (i + 1)) y 0) q ∙ getD-set-same (p .places) (p .hot .depth) (i + 1) 0 (omega (arith, v .deep, v .places-are)) ∙ add-one i))
+          (sym (ap (λ y. getD (set (p .resumes) (p .registers .depth) (i + 1)) y 0) q ∙ getD-set-same (p .resumes) (p .registers .depth) (i + 1) 0 (omega (arith, v .deep, v .resumes-are)) ∙ add-one i))
           (stays-inside bs a (v .here) Call e refl)
-      by (inr x) = subst (Inside bs) (sym (getD-set-other (p .places) (p .hot .depth) d (i + 1) 0 (λ y. omega arith))) (v .waiting d (omega arith))
+      by (inr x) = subst (Inside bs) (sym (getD-set-other (p .resumes) (p .registers .depth) d (i + 1) 0 (λ y. omega arith))) (v .waiting d (omega arith))
 
-  opens : kindAt t i ≡ Call → p .hot .depth + 1 < 16 → Steps bs p (calling opened) (on (opening n (suc (functionRow t n)) tt (toRow (suc i) (stateOf p))))
+  opens : kindAt t i ≡ Call → p .registers .depth + 1 < 16 → Steps bs p (calling (openedAt (suc (functionRow t n)))) (on (opening n (suc (functionRow t n)) tt (toRow (suc i) (stateOf p))))
   opens e l =
       record {
         turn = ap
-            (λ fs. on (record { running = frame n (suc (functionRow t n)) tt; callers = fs; last = tt; vars = p .vars; trace = take (p .hot .traced) (p .slots) }))
-            (frames-more (p .places) (p .functions) (i + 1) (p .hot .function) (p .hot .depth) (omega (arith, v .deep, v .places-are)) (omega (arith, v .deep, v .functions-are))
-            ∙ ap (λ k. frame (p .hot .function) k tt ∷ framesOf (p .places) (p .functions) (p .hot .depth)) (add-one i));
+            (λ fs. on (record { running = frame n (suc (functionRow t n)) tt; callers = fs; last = tt; vars = p .vars; trace = take (p .registers .traced) (p .slots) }))
+            (frames-more (p .resumes) (p .functions) (i + 1) (p .registers .function) (p .registers .depth) (omega (arith, v .deep, v .resumes-are)) (omega (arith, v .deep, v .functions-are))
+            ∙ ap (λ k. frame (p .registers .function) k tt ∷ framesOf (p .resumes) (p .functions) (p .registers .depth)) (add-one i));
         next = λ k z. record {
           deep = l;
-          places-are = length-set (p .places) (p .hot .depth) (i + 1) ∙ v .places-are;
-          functions-are = length-set (p .functions) (p .hot .depth) (p .hot .function) ∙ v .functions-are;
+          resumes-are = length-set (p .resumes) (p .registers .depth) (i + 1) ∙ v .resumes-are;
+          functions-are = length-set (p .functions) (p .registers .depth) (p .registers .function) ∙ v .functions-are;
           here = subst (Inside bs) (went-same z) (callee-inside bs a (v .here) e);
           waiting = saved e;
         };
@@ -248,26 +246,26 @@ module _ (bs : List ℕ) (a : verdictOf bs ≡ Accepted) (p : Parts) (v : Fits b
         keeps = λ held k. k;
       }
 
-  by-room : kindAt t i ≡ Call → (b : Bool) → ltb (p .hot .depth + 1) 16 ≡ b
+  by-room : kindAt t i ≡ Call → (b : Bool) → ltb (p .registers .depth + 1) 16 ≡ b
       → Steps bs p (callingAt b (suc (functionRow t n)))
       (cond b (on (opening n (suc (functionRow t n)) tt (toRow (suc i) (stateOf p)))) (ends (TooManyOpen 16) (stateOf p)))
-  by-room e true q = opens e (ltb-true (p .hot .depth + 1) 16 q)
+  by-room e true q = opens e (ltb-true (p .registers .depth + 1) 16 q)
   by-room e false q = stops (TooManyOpen 16) (too-many-ends 16) refl
 
-  depth-is : p .hot .depth + 1 ≡ depth (stateOf p)
-  depth-is = omega (arith, frames-length (p .places) (p .functions) (p .hot .depth))
+  depth-is : p .registers .depth + 1 ≡ depth (stateOf p)
+  depth-is = omega (arith, frames-length (p .resumes) (p .functions) (p .registers .depth))
 
   calls : kindAt t i ≡ Call → Steps bs p (rowOf t Call p) (callRow t i n (stateOf p))
   unfolding rowOf afterCall
   calls e =
-      subst (λ g. Steps bs p (callingAt (ltb (p .hot .depth + 1) 16) g) (callRow t i n (stateOf p))) (sym (goes-by Call e))
+      subst (λ g. Steps bs p (callingAt (ltb (p .registers .depth + 1) 16) g) (callRow t i n (stateOf p))) (sym (goes-by Call e))
       (subst
-      (λ m. Steps bs p (callingAt (ltb (p .hot .depth + 1) 16) (suc (functionRow t n)))
+      (λ m. Steps bs p (callingAt (ltb (p .registers .depth + 1) 16) (suc (functionRow t n)))
       (cond (ltb m 16) (on (opening n (suc (functionRow t n)) tt (toRow (suc i) (stateOf p)))) (ends (TooManyOpen 16) (stateOf p)))) depth-is
-      (by-room e (ltb (p .hot .depth + 1) 16) refl))
+      (by-room e (ltb (p .registers .depth + 1) 16) refl))
 
   -- ---- every row
-  by-kind : p .hot .traced < length (p .slots) → (k : Kind) → kindAt t i ≡ k → Steps bs p (rowOf t k p) (rowStep t i (openAt t i) k (stateOf p))
+  by-kind : p .registers .traced < length (p .slots) → (k : Kind) → kindAt t i ≡ k → Steps bs p (rowOf t k p) (rowStep t i (openAt t i) k (stateOf p))
   unfolding rowOf rowStep
   by-kind h Function e =
       let f = some-open (openAt t i) (v .here .within) in
@@ -282,6 +280,6 @@ module _ (bs : List ℕ) (a : verdictOf bs ≡ Accepted) (p : Parts) (v : Fits b
   by-kind h Call e = calls e
   by-kind h Unknown e = absurd (not-unknown t (proper bs a) i (omega (arith, v .here .row, table-length bs)) e)
 
-  pub steps : p .hot .traced < length (p .slots) → Steps bs p (stepOf t p) (sourceStep t (stateOf p))
+  pub steps : p .registers .traced < length (p .slots) → Steps bs p (stepOf t p) (sourceStep t (stateOf p))
   unfolding stepOf sourceStep
   steps h = by-kind h (kindAt t i) refl

@@ -2,7 +2,7 @@
 use Prim.Native.Nat.{ℕ, zero, suc, _+_, _≤_, _<_}
 use mathlib.Core.Path.{_≡_}
 use mathlib.Core.List.{List, [], _∷_}
-use lib.ListN.{length, getD, take, drop, replicate}
+use lib.ListN.{length, getD, take, drop}
 use Rattle.rules.specs.declared.answer.Ran.{Ran}
 use Rattle.rules.specs.declared.step.Step.the-variants.{Went}
 use Rattle.rules.specs.Limits.{maxOpen}
@@ -12,36 +12,36 @@ use Rattle.rules.specs.Run.{Turn, on, ends, Answer, run}
 use Rattle.rules.specs.Source.{Source, sourceStep}
 use Rattle.rules.specs.Calls.{Running}
 use Rattle.layout.specs.Spot.{Inside}
-use Rattle.machine.specs.declared.machine.Machine.{Machine}
-use Rattle.machine.specs.declared.machine.Stopped.{Stopped}
-use Rattle.machine.specs.Run.{hotAt, onward}
+use Rattle.state.specs.declared.machine.Machine.{Machine}
+use Rattle.state.specs.declared.machine.Stopped.{Stopped}
+use Rattle.state.specs.Machine.{registersAt, onward}
 use Rattle.source.specs.Step.{Parts, partsOf, After}
 
 -- ---- the parts of a machine, with the slots that it is lent
 abbrev pub partsIn : Machine → (slots : List ℕ) → Parts
-partsIn m tr = partsOf (m .hot) (m .places) (m .functions) (m .variables) tr
+partsIn m tr = partsOf (m .registers) (m .resumes) (m .functions) (m .variables) tr
 
 abbrev pub stoppedWith : Stopped → (slots : List ℕ) → After
 stoppedWith x tr = record { step = x .step; parts = partsIn (x .machine) tr }
 
 -- with the row and the steps set
 abbrev pub partsAt : Parts → (row steps : ℕ) → Parts
-partsAt p i n = partsOf (hotAt (p .hot) i n) (p .places) (p .functions) (p .vars) (p .slots)
+partsAt p i n = partsOf (registersAt (p .registers) i n) (p .resumes) (p .functions) (p .vars) (p .slots)
 
 -- ---- the state
 -- the functions that wait below depth d, the newest first
-abbrev pub framesOf : (places functions : List ℕ) → (d : ℕ) → List (Frame (Unit {0}))
-framesOf ps fs zero = []
-framesOf ps fs (suc d) = frame (getD fs d 0) (getD ps d 0) tt ∷ framesOf ps fs d
+abbrev pub framesOf : (resumes functions : List ℕ) → (d : ℕ) → List (Frame (Unit {0}))
+framesOf ks fs zero = []
+framesOf ks fs (suc d) = frame (getD fs d 0) (getD ks d 0) tt ∷ framesOf ks fs d
 
 abbrev pub stateOf : Parts → Source
 stateOf p =
     record {
-      running = frame (p .hot .function) (p .hot .place) tt;
-      callers = framesOf (p .places) (p .functions) (p .hot .depth);
+      running = frame (p .registers .function) (p .registers .at) tt;
+      callers = framesOf (p .resumes) (p .functions) (p .registers .depth);
       last = tt;
       vars = p .vars;
-      trace = take (p .hot .traced) (p .slots);
+      trace = take (p .registers .traced) (p .slots);
     }
 
 -- what a step came to, and a run
@@ -49,25 +49,25 @@ abbrev pub turnOf : After → Turn (Unit {0})
 turnOf a = onward (a .step) (λ i. on (stateOf (partsAt (a .parts) i 0))) (ends (a .step) (stateOf (a .parts)))
 
 abbrev pub answerOf : After → Answer (Unit {0})
-answerOf a = record { step = a .step; steps = a .parts .hot .steps; state = stateOf (a .parts) }
+answerOf a = record { step = a .step; steps = a .parts .registers .steps; state = stateOf (a .parts) }
 
 abbrev pub runFrom : Table → (budget : ℕ) → Parts → Answer (Unit {0})
-runFrom t b p = run (λ k s. sourceStep t s) b (p .hot .steps) (stateOf p)
+runFrom t b p = run (λ k s. sourceStep t s) b (p .registers .steps) (stateOf p)
 
 -- ---- what holds of a machine before each step: every open function is at a row of the table
-pub record Fits (bs : List ℕ) (depth row : ℕ) (places functions : List ℕ) : Type 0 where
+pub record Fits (bs : List ℕ) (depth row : ℕ) (resumes functions : List ℕ) : Type 0 where
   pub deep : depth < maxOpen
-  pub places-are : length places ≡ maxOpen
+  pub resumes-are : length resumes ≡ maxOpen
   pub functions-are : length functions ≡ maxOpen
   pub here : Inside bs row
-  pub waiting : (d : ℕ) → d < depth → Inside bs (getD places d 0)
+  pub waiting : (d : ℕ) → d < depth → Inside bs (getD resumes d 0)
 
 -- at most `left` steps are to come, and there are slots for them
 pub record Going (bs : List ℕ) (left : ℕ) (p : Parts) : Type 0 where
-  pub fits : Fits bs (p .hot .depth) (p .hot .place) (p .places) (p .functions)
-  pub few : p .hot .steps + left ≤ 65535
-  pub room : p .hot .traced + left ≤ length (p .slots)
-  pub traced : p .hot .traced ≤ p .hot .steps
+  pub fits : Fits bs (p .registers .depth) (p .registers .at) (p .resumes) (p .functions)
+  pub few : p .registers .steps + left ≤ 65535
+  pub room : p .registers .traced + left ≤ length (p .slots)
+  pub traced : p .registers .traced ≤ p .registers .steps
 
 -- the slots past the first n are as they were
 pub record Kept (n : ℕ) (held slots : List ℕ) : Type 0 where
@@ -79,19 +79,10 @@ pub record Kept (n : ℕ) (held slots : List ℕ) : Type 0 where
 -- many steps as were to come
 pub record Ended (bs : List ℕ) (budget : ℕ) (p : Parts) (a : After) : Type 0 where
   pub answer-is : runFrom (tableOf bs) budget p ≡ answerOf a
-  pub kept : Kept (a .parts .hot .traced) (p .slots) (a .parts .slots)
+  pub kept : Kept (a .parts .registers .traced) (p .slots) (a .parts .slots)
   pub with-more : (more : ℕ) → runFrom (tableOf bs) (budget + more) p ≡ onward (a .step) (λ k. runFrom (tableOf bs) more (a .parts)) (answerOf a)
   pub goes-on : (more k : ℕ) → Going bs (budget + more) p → a .step ≡ Went k → Going bs more (a .parts)
 
--- ---- the start, and what is given back
-abbrev pub startOf : (vars : List ℕ) → Machine
-startOf vs =
-    record {
-      places = replicate 16 0;
-      functions = replicate 16 0;
-      variables = vs;
-      hot = record { depth = 0; function = 0; place = 1; last = 0; steps = 0; traced = 0 };
-    }
-
+-- ---- what is given back
 abbrev pub ranWith : Ran → (slots : List ℕ) → Running
 ranWith r tr = record { ran = r; trace = tr }

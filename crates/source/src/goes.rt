@@ -4,6 +4,7 @@ ghost use Prim.Native.Nat.{suc, _/_, _<_};
 ghost use lib.ListN.{length};
 ghost use Rattle.rules.specs.declared.kind.Kind.{Kind};
 ghost use Rattle.rules.specs.declared.refusal.Verdict.the-variants.{Accepted};
+ghost use Rattle.rules.specs.Limits.{maxRows};
 ghost use Rattle.rules.specs.Row.{tableOf, kindAt};
 ghost use Rattle.rules.specs.Scan.{openAt, partOf, endOf};
 ghost use Rattle.rules.specs.Check.{verdictOf};
@@ -16,6 +17,8 @@ use layout::place;
 use layout::row;
 use layout::spot;
 use rules::kind::Kind;
+use rules::limits::FUNCTIONS;
+use rules::limits::ROWS;
 
 // Past the end of what row o opens.
 fn past(rows: &[u8], ends: &[u16], o: usize) -> u16
@@ -80,9 +83,9 @@ fn fill(
     ends: &[u16],
     elses: &[u16],
     heads: &[u16],
-    goes: &mut [u16; 1024],
+    goes: &mut [u16; ROWS],
 )
-    requires { ⌜ (Surveyed (now rows) (now map)) × (length (now goes) ≡ 1024) ⌝ }
+    requires { ⌜ (Surveyed (now rows) (now map)) × (length (now goes) ≡ maxRows) ⌝ }
     requires { ⌜ (Ends (now rows) (now ends)) × (Elses (now rows) (now elses)) × (Heads (now rows) (now heads)) ⌝ }
     ensures { λ _. ⌜ Known (now (rows .entry)) (now (goes .exit)) ⌝ }
 {
@@ -97,13 +100,13 @@ fn fill(
 // Where every row of an accepted table goes.
 pub fn find(
     rows: &[u8],
-    ends: &[u16; 1024],
-    elses: &[u16; 1024],
-    heads: &[u16; 32],
-    goes: &mut [u16; 1024],
+    ends: &[u16; ROWS],
+    elses: &[u16; ROWS],
+    heads: &[u16; FUNCTIONS],
+    goes: &mut [u16; ROWS],
 )
     requires { ⌜ (verdictOf (now rows) ≡ Accepted) × (Links (tableOf (now rows)) (now ends) (now elses) (now heads)) ⌝ }
-    requires { ⌜ length (now goes) ≡ 1024 ⌝ }
+    requires { ⌜ length (now goes) ≡ maxRows ⌝ }
     ensures { λ _. ⌜ Known (now (rows .entry)) (now (goes .exit)) ⌝ }
 {
     let mut map = [0u16; 6150];

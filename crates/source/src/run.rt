@@ -2,16 +2,17 @@
 ghost use Rattle.source.specs.Goes.{Known};
 ghost use Rattle.source.specs.Run.{partsIn, stoppedWith, Going, Ended};
 use crate::step;
-use machine::machine::Machine;
-use machine::machine::Stopped;
-use machine::machine::at_end;
-use machine::machine::standing;
+use state::machine::Machine;
+use state::machine::Stopped;
+use state::machine::at_end;
+use state::machine::standing;
+use rules::limits::ROWS;
 use rules::step::Step;
 
-// Takes the machine apart, so that its numbers stay in registers, and puts it together where it stops.
+// Takes the machine apart, so that its registers stay in those of the processor, and puts it together where it stops.
 pub fn run_rows(
     rows: &[u8],
-    goes: &[u16; 1024],
+    goes: &[u16; ROWS],
     start: Machine,
     budget: u16,
     trace: &mut [u16],
@@ -19,10 +20,10 @@ pub fn run_rows(
     requires { ⌜ (Known (now rows) (now goes)) × (Going (now rows) budget (partsIn start (now trace))) ⌝ }
     ensures { λ r. ⌜ Ended (now (rows .entry)) budget (partsIn start (now (trace .entry))) (stoppedWith r (now (trace .exit))) ⌝ }
 {
-    let mut places = start.places;
+    let mut resumes = start.resumes;
     let mut functions = start.functions;
     let mut variables = start.variables;
-    let mut h = start.hot;
+    let mut h = start.registers;
     let mut left = budget;
     while 0 < left {
         let steps = h.steps + 1;
@@ -30,24 +31,24 @@ pub fn run_rows(
             rows,
             goes,
             h,
-            &mut places,
+            &mut resumes,
             &mut functions,
             &mut variables,
             trace,
         );
         let s = t.step;
-        let n = t.hot;
-        h = standing(n, n.place, steps);
+        let n = t.registers;
+        h = standing(n, n.at, steps);
         let Step::Went(_) = s else {
-            return at_end(s, places, functions, variables, h);
+            return at_end(s, resumes, functions, variables, h);
         };
         left -= 1;
     }
-    at_end(Step::Went(h.place), places, functions, variables, h)
+    at_end(Step::Went(h.at), resumes, functions, variables, h)
 }
 
 // One step is a run of one.
-pub fn step(rows: &[u8], goes: &[u16; 1024], machine: Machine, trace: &mut [u16]) -> Stopped
+pub fn step(rows: &[u8], goes: &[u16; ROWS], machine: Machine, trace: &mut [u16]) -> Stopped
     requires { ⌜ (Known (now rows) (now goes)) × (Going (now rows) 1 (partsIn machine (now trace))) ⌝ }
     ensures { λ r. ⌜ Ended (now (rows .entry)) 1 (partsIn machine (now (trace .entry))) (stoppedWith r (now (trace .exit))) ⌝ }
 {

@@ -56,6 +56,15 @@ did h vs tr = record { registers = h; vars = vs; slots = tr }
 abbrev pub didOf : Operands → (row : ℕ) → Registers → (vars slots : List ℕ) → Did
 didOf o row h vs tr = did (tracedOf h) (doneOn o vs) (set tr (h .traced) row)
 
+-- an answer with the variables and the slots after it
+pub record Done : Type 0 where
+  pub to : Moved
+  pub vars : List ℕ
+  pub slots : List ℕ
+
+abbrev pub done : Moved → (vars slots : List ℕ) → Done
+done x vs tr = record { to = x; vars = vs; slots = tr }
+
 -- ---- the machine
 -- put together where a run stops
 abbrev pub stoppedAt : Step → (resumes functions vars : List ℕ) → Registers → Stopped

@@ -6,8 +6,8 @@ use Rattle.rules.specs.declared.step.Step.the-variants.{Went}
 use Rattle.line.specs.declared.Line.{Line}
 use Rattle.state.specs.declared.machine.Registers.{Registers}
 use Rattle.state.specs.declared.machine.Moved.{Moved}
-use Rattle.state.specs.Machine.{moved, did, didOf}
-use Rattle.machine.specs.Step.{done, doOf}
+use Rattle.state.specs.Machine.{done, moved, did, didOf}
+use Rattle.machine.specs.Step.{doOf}
 use borrow.Author.Needs.{needs}
 use Rattle.machine.proofs.step.do_line.Statement.{statement}
 use Rattle.machine.proofs.step.do_line.Tie as tie

@@ -1,13 +1,13 @@
 use mathlib.Core.Path.{ap, _∙_}
 use Rattle.rules.specs.declared.step.Step.the-variants.{Went}
-use Rattle.machine.specs.Step.{moved}
+use Rattle.state.specs.Machine.{moved}
 use borrow.Author.Needs.{needs}
 use Rattle.source.proofs.kinds.to_row.Statement.{statement}
 use Rattle.source.proofs.kinds.to_row.Tie as tie
 use Rattle.source.proofs.kinds.to_row.Reads as reads
 use Rattle.source.proofs.kinds.to_row.Lts as lts
-use Rattle.machine.proofs.machine.standing.Reads as standing-reads
-use Rattle.machine.proofs.machine.stay.Reads as stay-reads
+use Rattle.state.proofs.machine.standing.Reads as standing-reads
+use Rattle.state.proofs.machine.stay.Reads as stay-reads
 
 standing-requires : tie.Need-standing-requires
 standing-requires c κs = search needs

@@ -1,23 +1,23 @@
 use native.Mathlib.Omega.{arith}
 use mathlib.Core.Path.{_∙_}
 use borrow.Author.Needs.{needs}
-use Rattle.machine.proofs.Runs.{not-went}
+use Rattle.state.proofs.Ends.{not-went}
 use Rattle.source.specs.Step.{partsOf}
 use Rattle.source.proofs.Runs.{Running, run-starts, can-step, run-on, run-ends-with, run-spent}
 use Rattle.source.proofs.run.run_rows.Statement.{statement}
 use Rattle.source.proofs.run.run_rows.Tie as tie
 use Rattle.source.proofs.run.run_rows.Reads as reads
 use Rattle.source.proofs.run.run_rows.Lts as lts
-use Rattle.machine.proofs.machine.at_end.Reads as at-end-reads
-use Rattle.machine.proofs.machine.standing.Reads as standing-reads
+use Rattle.state.proofs.machine.at_end.Reads as at-end-reads
+use Rattle.state.proofs.machine.standing.Reads as standing-reads
 use Rattle.source.proofs.step.row.Reads as row-reads
 
 abbrev Inv-loop : tie.InvT-loop
-Inv-loop rows goes budget trace₀ places₀ functions₀ variables₀ h₀ left₀ trace places functions variables h left =
-    Running rows budget (partsOf h₀ places₀ functions₀ variables₀ trace₀) left (partsOf h places functions variables trace)
+Inv-loop rows goes budget trace₀ resumes₀ functions₀ variables₀ h₀ left₀ trace resumes functions variables h left =
+    Running rows budget (partsOf h₀ resumes₀ functions₀ variables₀ trace₀) left (partsOf h resumes functions variables trace)
 
 abbrev μ-loop : tie.MeasureT-loop
-μ-loop rows goes budget trace₀ places₀ functions₀ variables₀ h₀ left₀ trace places functions variables h left = left
+μ-loop rows goes budget trace₀ resumes₀ functions₀ variables₀ h₀ left₀ trace resumes functions variables h left = left
 
 loop-holds : tie.Need-loop-holds Inv-loop μ-loop
 loop-holds c = run-starts (c .before .before .before .before .before .before .pre .1)
