@@ -15,13 +15,11 @@ use Rattle.rules.specs.Line.{Line, retLine, lineWidth, linesIn, lineAt, isRet}
 use Rattle.rules.specs.Function.{functionAt}
 use Rattle.rules.specs.ReadBack.{bare, leavesTo, rowFor, begins, functionRowIf}
 use Rattle.rules.proofs.Logic.{clash}
-use Rattle.machine.specs.declared.fields.Fields.{Fields}
-use Rattle.machine.specs.declared.fields.LineKind as Lk
-use Rattle.machine.specs.Fields.{lineKindAt, fieldsAt, asLine}
-use Rattle.machine.proofs.Decode.{length-lines, line-is}
-use Rattle.machine.proofs.Survey.{ends-ret}
+use Rattle.line.specs.declared.Line.{Line}
+use Rattle.line.specs.declared.kind.LineKind as Lk
+use Rattle.line.specs.Read.{lineKindAt, structAt, asLine, endsFunction}
+use Rattle.line.proofs.Decode.{length-lines, line-is, ends-ret}
 use Rattle.reader.specs.declared.row.Row.{Row}
-use Rattle.machine.specs.Map.{endsFunction}
 use Rattle.reader.specs.Functions.{Short}
 use Rattle.reader.specs.Row.{six, bareRow, copiedRow, callRow, Added}
 use Rattle.reader.specs.Candidate.{isLeave, testKind, leaveKind, outKind, Here}
@@ -39,27 +37,27 @@ module _ {bs : List ℕ} {k : ℕ} (h : Here bs k) where
   inside : k < length (linesIn bs)
   inside = omega (arith, length-lines bs, h .inside)
 
-  row-is : (kd : Lk.LineKind) → lineKindAt bs k ≡ kd → rowFor (linesIn bs) k (asLine kd (fieldsAt bs k)) ≡ rowFor (linesIn bs) k (lineAt (linesIn bs) k)
-  row-is kd e = ap (rowFor (linesIn bs) k) (sym (line-is bs k inside ∙ ap (λ x. asLine x (fieldsAt bs k)) e))
+  row-is : (kd : Lk.LineKind) → lineKindAt bs k ≡ kd → rowFor (linesIn bs) k (asLine kd (structAt bs k)) ≡ rowFor (linesIn bs) k (lineAt (linesIn bs) k)
+  row-is kd e = ap (rowFor (linesIn bs) k) (sym (line-is bs k inside ∙ ap (λ x. asLine x (structAt bs k)) e))
 
   -- the two bytes of n
-  low-is : low (fieldsAt bs k .n) ≡ getD bs (lineWidth * k + 4) 0
-  unfolding fieldsAt
+  low-is : low (structAt bs k .n) ≡ getD bs (lineWidth * k + 4) 0
+  unfolding structAt
   low-is = omega (arith, h .table .bytes .each (lineWidth * k + 4))
 
-  high-is : high (fieldsAt bs k .n) ≡ getD bs (lineWidth * k + 5) 0
-  unfolding fieldsAt
+  high-is : high (structAt bs k .n) ≡ getD bs (lineWidth * k + 5) 0
+  unfolding structAt
   high-is =
       let q : lineWidth * k + 4 + 1 ≡ lineWidth * k + 5 = omega arith in
-      let r : high (fieldsAt bs k .n) ≡ getD bs (lineWidth * k + 4 + 1) 0 = omega (arith, h .table .bytes .each (lineWidth * k + 4)) in
+      let r : high (structAt bs k .n) ≡ getD bs (lineWidth * k + 4 + 1) 0 = omega (arith, h .table .bytes .each (lineWidth * k + 4)) in
       r ∙ ap (λ i. getD bs i 0) q
 
   -- ---- the bytes of the row
   copied-bytes : (kind : ℕ) → six (copiedRow kind bs k)
-      ≡ kind ∷ fieldsAt bs k .op ∷ fieldsAt bs k .p ∷ fieldsAt bs k .q ∷ low (fieldsAt bs k .n) ∷ high (fieldsAt bs k .n) ∷ []
-  unfolding fieldsAt
+      ≡ kind ∷ structAt bs k .op ∷ structAt bs k .p ∷ structAt bs k .q ∷ low (structAt bs k .n) ∷ high (structAt bs k .n) ∷ []
+  unfolding structAt
   copied-bytes kind =
-      let l = fieldsAt bs k in
+      let l = structAt bs k in
       ap (λ x. kind ∷ l .op ∷ l .p ∷ l .q ∷ x ∷ getD bs (lineWidth * k + 5) 0 ∷ []) (sym low-is)
       ∙ ap (λ x. kind ∷ l .op ∷ l .p ∷ l .q ∷ low (l .n) ∷ x ∷ []) (sym high-is)
 
@@ -77,7 +75,7 @@ module _ {bs : List ℕ} {k : ℕ} (h : Here bs k) where
         → Added (tableBytes (rowFor (linesIn bs) k (lineAt (linesIn bs) k))) rows rows′ at to
     unfolding rowFor tableBytes rowBytes kindByte
     test-row e q a =
-        let l = fieldsAt bs k in
+        let l = structAt bs k in
         added-as q
         (copied-bytes (testKind bs k)
         ∙ first-byte (l .op ∷ l .p ∷ l .q ∷ low (l .n) ∷ high (l .n) ∷ []) (byte-of (leavesTo k (lineAt (linesIn bs) (l .go - 1))) Loop If)
@@ -89,7 +87,7 @@ module _ {bs : List ℕ} {k : ℕ} (h : Here bs k) where
     unfolding rowFor tableBytes rowBytes kindByte
     leave-row e q a =
         added-as q
-        (first-byte (0 ∷ 0 ∷ 0 ∷ 0 ∷ 0 ∷ []) (byte-of (ltb (suc k) (fieldsAt bs k .go)) Else End) ∙ ap tableBytes (row-is Lk.the-variants.Leave e))
+        (first-byte (0 ∷ 0 ∷ 0 ∷ 0 ∷ 0 ∷ []) (byte-of (ltb (suc k) (structAt bs k .go)) Else End) ∙ ap tableBytes (row-is Lk.the-variants.Leave e))
         a
 
     pub out-row : lineKindAt bs k ≡ Lk.the-variants.Out → r ≡ bareRow (outKind bs k) → Added (six r) rows rows′ at to
@@ -97,10 +95,10 @@ module _ {bs : List ℕ} {k : ℕ} (h : Here bs k) where
     unfolding rowFor tableBytes rowBytes kindByte
     out-row e q a =
         added-as q
-        (first-byte (0 ∷ 0 ∷ 0 ∷ 0 ∷ 0 ∷ []) (byte-of (ltb k (fieldsAt bs k .go)) Break Continue) ∙ ap tableBytes (row-is Lk.the-variants.Out e))
+        (first-byte (0 ∷ 0 ∷ 0 ∷ 0 ∷ 0 ∷ []) (byte-of (ltb k (structAt bs k .go)) Break Continue) ∙ ap tableBytes (row-is Lk.the-variants.Out e))
         a
 
-    pub call-row : {n : ℕ} → lineKindAt bs k ≡ Lk.the-variants.Call → n ≡ functionAt (linesIn bs) (fieldsAt bs k .go) → r ≡ callRow 9 n
+    pub call-row : {n : ℕ} → lineKindAt bs k ≡ Lk.the-variants.Call → n ≡ functionAt (linesIn bs) (structAt bs k .go) → r ≡ callRow 9 n
         → Added (six r) rows rows′ at to → Added (tableBytes (rowFor (linesIn bs) k (lineAt (linesIn bs) k))) rows rows′ at to
     unfolding rowFor tableBytes rowBytes kindByte
     call-row e f q a = added-as (q ∙ ap (callRow 9) f) (ap tableBytes (row-is Lk.the-variants.Call e)) a
@@ -124,7 +122,7 @@ module _ {bs : List ℕ} {k : ℕ} (h : Here bs k) where
   -- ---- the function row before it
   pub begins-next : {b : Bool} → b ≡ endsFunction (lineKindAt bs k) → b ≡ begins (linesIn bs) (k + 1)
   begins-next {b} e =
-      e ∙ sym (ap (begins (linesIn bs)) (add-one k) ∙ ap isRet (line-is bs k inside) ∙ ends-ret (lineKindAt bs k) (fieldsAt bs k))
+      e ∙ sym (ap (begins (linesIn bs)) (add-one k) ∙ ap isRet (line-is bs k inside) ∙ ends-ret (lineKindAt bs k) (structAt bs k))
 
 pub function-row : {rows rows′ : List ℕ} {at to : ℕ} {r : Row} {b : Bool} → b ≡ true → r ≡ bareRow 1 → Added (six r) rows rows′ at to
     → Added (tableBytes (functionRowIf b)) rows rows′ at to
@@ -161,8 +159,8 @@ module _ (bs : List ℕ) (j k : ℕ) where
   pub leaves-beyond : length bs / lineWidth ≤ j → false ≡ leavesTo k (lineAt (linesIn bs) j)
   leaves-beyond h = sym (ap (leavesTo k) (List·getD-eq-default (linesIn bs) (retLine 0 0) {n = j} (omega (arith, length-lines bs))))
 
-  pub leaves-there : j < length bs / lineWidth → isLeave (lineKindAt bs j) ≡ true → eqb (fieldsAt bs j .go) k ≡ leavesTo k (lineAt (linesIn bs) j)
-  leaves-there h e = sym (ap (leavesTo k) (line-is bs j (omega (arith, length-lines bs))) ∙ leave-is k (lineKindAt bs j) (fieldsAt bs j) e)
+  pub leaves-there : j < length bs / lineWidth → isLeave (lineKindAt bs j) ≡ true → eqb (structAt bs j .go) k ≡ leavesTo k (lineAt (linesIn bs) j)
+  leaves-there h e = sym (ap (leavesTo k) (line-is bs j (omega (arith, length-lines bs))) ∙ leave-is k (lineKindAt bs j) (structAt bs j) e)
 
   pub leaves-nowhere : j < length bs / lineWidth → isLeave (lineKindAt bs j) ≡ false → false ≡ leavesTo k (lineAt (linesIn bs) j)
-  leaves-nowhere h e = sym (ap (leavesTo k) (line-is bs j (omega (arith, length-lines bs))) ∙ leave-not k (lineKindAt bs j) (fieldsAt bs j) e)
+  leaves-nowhere h e = sym (ap (leavesTo k) (line-is bs j (omega (arith, length-lines bs))) ∙ leave-not k (lineKindAt bs j) (structAt bs j) e)

@@ -11,16 +11,14 @@ use Rattle.rules.specs.Line.{Line, lineWidth, linesIn, lineAt, isRet}
 use Rattle.rules.specs.Function.{functionAt}
 use Rattle.rules.proofs.Logic.{Order, less, same, more, order}
 use Rattle.rules.proofs.Place.{one-if, function-at-next}
-use Rattle.machine.specs.Fields.{lineKindAt, fieldsAt}
-use Rattle.machine.proofs.Decode.{length-lines, line-is}
-use Rattle.machine.specs.Map.{endsFunction}
-use Rattle.machine.proofs.Survey.{ends-ret}
+use Rattle.line.specs.Read.{lineKindAt, structAt, endsFunction}
+use Rattle.line.proofs.Decode.{length-lines, line-is, ends-ret}
 use Rattle.reader.specs.Functions.{passed, Short, Numbered}
 
 function-next : (bs : List ℕ) (k : ℕ) → k < length (linesIn bs) → passed (lineKindAt bs k) (functionAt (linesIn bs) k) ≡ functionAt (linesIn bs) (suc k)
 function-next bs k h =
     by (endsFunction (lineKindAt bs k)) (functionAt (linesIn bs) k)
-    ∙ ap (λ b. functionAt (linesIn bs) k + one-if b) (sym (ap isRet (line-is bs k h) ∙ ends-ret (lineKindAt bs k) (fieldsAt bs k)))
+    ∙ ap (λ b. functionAt (linesIn bs) k + one-if b) (sym (ap isRet (line-is bs k h) ∙ ends-ret (lineKindAt bs k) (structAt bs k)))
     ∙ sym (function-at-next (linesIn bs) k h)
   where
     by : (b : Bool) (f : ℕ) → cond b (f + 1) f ≡ f + one-if b

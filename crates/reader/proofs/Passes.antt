@@ -9,11 +9,10 @@ use Rattle.rules.specs.Row.{Table, rowBytes, tableBytes}
 use Rattle.rules.specs.Line.{Line, doLine, tickLine, testLine, leaveLine, outLine, callLine, backLine, retLine, lineWidth, linesIn, lineAt, isRet}
 use Rattle.rules.specs.ReadBack.{rowFor, begins, functionRowIf, unreadTo, unread, sourceBytes}
 use Rattle.rules.proofs.Logic.{append-nil, clash}
-use Rattle.machine.specs.declared.fields.LineKind.the-variants.{Do, Tick}
-use Rattle.machine.specs.Fields.{lineKindAt, fieldsAt, asLine}
-use Rattle.machine.proofs.Decode.{length-lines, line-is}
+use Rattle.line.specs.declared.kind.LineKind.the-variants.{Do, Tick}
+use Rattle.line.specs.Read.{lineKindAt, structAt, asLine, endsFunction}
+use Rattle.line.proofs.Decode.{length-lines, line-is}
 use Rattle.reader.specs.Functions.{Short}
-use Rattle.machine.specs.Map.{endsFunction}
 use Rattle.reader.specs.declared.row.Row as Row
 use Rattle.reader.specs.Row.{Added, six, copiedRow}
 use Rattle.reader.specs.Candidate.{Here, Reading, Pair, DosRead, Fronted}
@@ -98,7 +97,7 @@ reading-skip {bs} {rows₀} {rows} {at} {line} r h e =
     let ls = linesIn bs in
     let q : suc line ≡ line + 1 = omega arith in
     let within : line < length ls = omega (arith, length-lines bs) in
-    let is : lineAt ls line ≡ asLine Tick (fieldsAt bs line) = line-is bs line within ∙ ap (λ k. asLine k (fieldsAt bs line)) e in
+    let is : lineAt ls line ≡ asLine Tick (structAt bs line) = line-is bs line within ∙ ap (λ k. asLine k (structAt bs line)) e in
     record {
       opens = sym (ap (begins ls) (sym q) ∙ ap isRet is);
       few = omega (arith, length-lines bs);

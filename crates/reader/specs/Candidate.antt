@@ -8,9 +8,9 @@ use lib.ListN.{length, take}
 use Rattle.rules.specs.Line.{lineWidth, linesIn, lineAt}
 use Rattle.rules.specs.Row.{tableBytes}
 use Rattle.rules.specs.ReadBack.{leavesTo, begins, unreadTo, sourceBytes}
-use Rattle.machine.specs.declared.fields.LineKind.{LineKind}
-use Rattle.machine.specs.declared.fields.LineKind.the-variants.{Do, Tick, Test, Leave, Out, Call, Back, Ret}
-use Rattle.machine.specs.Fields.{lineKindAt, fieldsAt}
+use Rattle.line.specs.declared.kind.LineKind.{LineKind}
+use Rattle.line.specs.declared.kind.LineKind.the-variants.{Do, Tick, Test, Leave, Out, Call, Back, Ret}
+use Rattle.line.specs.Read.{lineKindAt, structAt}
 use Rattle.reader.specs.declared.candidate.Candidate.{Candidate}
 use Rattle.reader.specs.declared.candidate.Candidate.the-variants.{TooLong, Bytes}
 use Rattle.reader.specs.Functions.{Short}
@@ -33,13 +33,13 @@ pub record Here (bs : List ℕ) (k : ℕ) : Type 0 where
 
 -- the kind bytes of the rows that a test, a leave and an out in line k stand for
 abbrev pub testKind : List ℕ → (k : ℕ) → ℕ
-testKind bs k = cond (leavesTo k (lineAt (linesIn bs) (fieldsAt bs k .go - 1))) 0x05 0x03
+testKind bs k = cond (leavesTo k (lineAt (linesIn bs) (structAt bs k .go - 1))) 0x05 0x03
 
 abbrev pub leaveKind : List ℕ → (k : ℕ) → ℕ
-leaveKind bs k = cond (ltb (suc k) (fieldsAt bs k .go)) 0x04 0x06
+leaveKind bs k = cond (ltb (suc k) (structAt bs k .go)) 0x04 0x06
 
 abbrev pub outKind : List ℕ → (k : ℕ) → ℕ
-outKind bs k = cond (ltb k (fieldsAt bs k .go)) 0x07 0x08
+outKind bs k = cond (ltb k (structAt bs k .go)) 0x07 0x08
 
 -- the rows of the lines before this one are written, and whether a function row is the next
 pub record Reading (bs rows₀ rows : List ℕ) (at : ℕ) (opening : Bool) (line : ℕ) : Type 0 where

@@ -7,8 +7,8 @@ use lib.ListN.{length, getD}
 use Rattle.rules.specs.Bytes.{AreBytes}
 use Rattle.rules.specs.Line.{linesIn}
 use Rattle.rules.specs.Function.{functionAt}
-use Rattle.machine.specs.declared.fields.LineKind.{LineKind}
-use Rattle.machine.specs.Map.{endsFunction}
+use Rattle.line.specs.declared.kind.LineKind.{LineKind}
+use Rattle.line.specs.Read.{endsFunction}
 
 -- a line of function f is passed: the function of the next line
 abbrev pub passed : LineKind → (f : ℕ) → ℕ

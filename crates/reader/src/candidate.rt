@@ -6,7 +6,7 @@ ghost use Rattle.rules.specs.Row.{tableBytes};
 ghost use Rattle.rules.specs.Line.{linesIn, lineAt};
 ghost use Rattle.rules.specs.Function.{functionAt};
 ghost use Rattle.rules.specs.ReadBack.{leavesTo, begins, functionRowIf, rowFor};
-ghost use Rattle.machine.specs.Fields.{fieldsAt};
+ghost use Rattle.line.specs.Read.{structAt};
 ghost use Rattle.reader.specs.Functions.{Short, Numbered};
 ghost use Rattle.reader.specs.Row.{Added};
 ghost use Rattle.reader.specs.Candidate.{isLeave, testKind, leaveKind, outKind, Here, DosRead, CandidateIs};
@@ -64,7 +64,7 @@ fn is_leave(kind: LineKind) -> bool
 // Where a line goes.
 fn go_of(lines: &[u8], line: u16) -> u16
     requires { ⌜ 20 * line + 20 ≤ length (now lines) ⌝ }
-    ensures { λ r. ⌜ r ≡ fieldsAt (now (lines .entry)) line .go ⌝ }
+    ensures { λ r. ⌜ r ≡ structAt (now (lines .entry)) line .go ⌝ }
 {
     word(lines, 20 * (line as usize) + 18)
 }
@@ -130,7 +130,7 @@ fn out_kind(lines: &[u8], line: u16) -> u8
 // The function of the line that a call goes to; of the end of the table, where it goes beyond.
 fn callee(lines: &[u8], owners: &[u16; 2049], line: u16) -> u16
     requires { ⌜ (Here (now lines) line) × (Numbered (now lines) (now owners)) ⌝ }
-    ensures { λ r. ⌜ r ≡ functionAt (linesIn (now (lines .entry))) (fieldsAt (now (lines .entry)) line .go) ⌝ }
+    ensures { λ r. ⌜ r ≡ functionAt (linesIn (now (lines .entry))) (structAt (now (lines .entry)) line .go) ⌝ }
 {
     let count = lines.len() / 20;
     let go = go_of(lines, line) as usize;

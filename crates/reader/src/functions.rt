@@ -2,8 +2,7 @@
 ghost use mathlib.Core.Path.{_≡_};
 ghost use Prim.Native.Nat.{_+_, _*_, _≤_, _<_};
 ghost use lib.ListN.{length};
-ghost use Rattle.machine.specs.Fields.{lineKindAt};
-ghost use Rattle.machine.specs.Map.{endsFunction};
+ghost use Rattle.line.specs.Read.{lineKindAt, endsFunction};
 ghost use Rattle.reader.specs.Functions.{passed, Short, Numbered};
 use machine::fields;
 use machine::fields::LineKind;

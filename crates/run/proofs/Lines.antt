@@ -6,25 +6,26 @@ use native.Mathlib.Omega.{arith}
 use lib.ListN.{length, getD}
 use Rattle.rules.specs.declared.step.Step.the-variants.{Went}
 use Rattle.rules.specs.Line.{linesIn}
-use Rattle.machine.specs.declared.fields.Fields.{Fields}
-use Rattle.machine.specs.declared.fields.LineKind.{LineKind}
-use Rattle.machine.specs.Fields.{fieldsAt, lineKindAt}
-use Rattle.machine.specs.Ready.{FieldsIn, LineHere}
+use Rattle.line.specs.declared.Line.{Line}
+use Rattle.line.specs.declared.kind.LineKind.{LineKind}
+use Rattle.line.specs.Read.{structAt, lineKindAt}
+use Rattle.guard.specs.Fields.{FieldsIn}
+use Rattle.machine.specs.Ready.{LineHere}
 use Rattle.machine.specs.Step.{Map, Parts, After}
 use Rattle.machine.specs.Run.{runOf}
 use Rattle.machine.specs.Stands.{Ready, Going}
-use Rattle.machine.proofs.Agree.{IsEnd}
+use Rattle.state.proofs.Ends.{IsEnd}
 use Rattle.machine.proofs.Runs.{Running, going-steps}
-use Rattle.machine.proofs.Singly.{run-rest, run-over, going-rest}
+use Rattle.strike.proofs.Singly.{run-rest, run-over, going-rest}
 use Rattle.run.specs.Listed.{Placed}
 
 -- the fields of a line of a known kind are in range
-pub fields-in : (bs : List ℕ) (k : ℕ) → LineHere bs k → (K kd : LineKind) (l : Fields) → kd ≡ lineKindAt bs k → kd ≡ K → l ≡ fieldsAt bs k → FieldsIn K l
+pub fields-in : (bs : List ℕ) (k : ℕ) → LineHere bs k → (K kd : LineKind) (l : Fields) → kd ≡ lineKindAt bs k → kd ≡ K → l ≡ structAt bs k → FieldsIn K l
 fields-in bs k h K kd l e q f =
     subst (λ x. FieldsIn x l) q (subst (λ x. FieldsIn x l) (sym e) (subst (FieldsIn (lineKindAt bs k)) (sym f) (h .fields-in)))
 
 module _ (bs : List ℕ) (m : Map) (rd : Ready bs m) (left : ℕ) (p : Parts) (g : Going (linesIn bs) left p) (h : 0 < left) where
-  pub placed : Placed bs (m .starts) (p .hot) (p .words)
+  pub placed : Placed bs (m .starts) (p .registers) (p .words)
   placed =
       let can = going-steps bs m rd left p g h in
       let st = g .stands in

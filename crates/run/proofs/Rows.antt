@@ -8,9 +8,8 @@ use Rattle.rules.specs.declared.step.Step.{Step}
 use Rattle.rules.specs.declared.step.Step.the-variants.{Went, Finished, Alarm, TooManyOpen, Beyond}
 use Rattle.rules.specs.Row.{tableOf}
 use Rattle.rules.specs.Run.{run}
-use Rattle.machine.specs.Run.{onward}
-use Rattle.machine.proofs.Agree.{IsEnd}
-use Rattle.machine.proofs.Runs.{onward-end}
+use Rattle.state.specs.Machine.{onward}
+use Rattle.state.proofs.Ends.{IsEnd, onward-end}
 use Rattle.source.specs.Step.{Parts, After}
 use Rattle.source.specs.Run.{Going, Ended, answerOf, runFrom}
 
@@ -46,11 +45,11 @@ module _ {bs : List ℕ} {budget left : ℕ} {start p : Parts} (r : Walking bs b
   pub walks-over : IsEnd (a .step) → runFrom (tableOf bs) budget start ≡ answerOf a
   walks-over n = r .same ∙ one-first ∙ onward-end (a .step) n (λ k. runFrom (tableOf bs) (left - 1) (a .parts)) (answerOf a)
 
-spent : (bs : List ℕ) (left : ℕ) (p : Parts) → left ≤ 0 → runFrom (tableOf bs) left p ≡ answerOf (record { step = Went (p .hot .place); parts = p })
+spent : (bs : List ℕ) (left : ℕ) (p : Parts) → left ≤ 0 → runFrom (tableOf bs) left p ≡ answerOf (record { step = Went (p .registers .at); parts = p })
 unfolding run
 spent bs zero p h = refl
 spent bs (suc left) p h = absurd (let z : ⊥ = omega arith in z)
 
 pub walk-spent : {bs : List ℕ} {budget left : ℕ} {start p : Parts} → Walking bs budget start left p → left ≤ 0
-    → runFrom (tableOf bs) budget start ≡ answerOf (record { step = Went (p .hot .place); parts = p })
+    → runFrom (tableOf bs) budget start ≡ answerOf (record { step = Went (p .registers .at); parts = p })
 walk-spent {bs} {budget} {left} {start} {p} r h = r .same ∙ spent bs left p h

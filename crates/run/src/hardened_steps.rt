@@ -9,7 +9,7 @@ ghost use Rattle.rules.specs.ReadBack.{isHardened};
 ghost use Rattle.machine.specs.Step.{mapOf};
 ghost use Rattle.machine.specs.Run.{partsIn, stoppedWith, runOf};
 ghost use Rattle.machine.specs.Stands.{Ready, Going};
-ghost use Rattle.machine.specs.Struck.{landOf, struckOf};
+ghost use Rattle.strike.specs.Struck.{landOf, struckOf};
 use crate::limit;
 use crate::line;
 use machine::machine::Machine;
@@ -39,7 +39,7 @@ fn walk(
     let mut m = start;
     let mut left = budget;
     while 0 < left {
-        let h = m.hot;
+        let h = m.registers;
         *at = line::list(lines, starts, h, counters, *at, text);
         let x = run::step(lines, starts, owners, home, m, counters, trace);
         let s = x.step;
@@ -49,7 +49,7 @@ fn walk(
         m = x.machine;
         left -= 1;
     }
-    let h = m.hot;
+    let h = m.registers;
     Stopped {
         step: Step::Went(h.place),
         machine: m,

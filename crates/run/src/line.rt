@@ -1,13 +1,14 @@
 // A step of a hardened run as `show` lists it before it is made: the running function, its place, the kind of the line there, and
 // what each counter holds that the step looks at.
 ghost use Prim.Native.Nat.{_<_};
-ghost use Rattle.machine.specs.Ready.{Room, LineHere};
+ghost use Rattle.guard.specs.Fields.{Room};
+ghost use Rattle.machine.specs.Ready.{LineHere};
 ghost use Rattle.run.specs.Listed.{Placed};
 use console::print;
 use machine::fields;
 use machine::fields::Fields;
 use machine::fields::LineKind;
-use machine::machine::Hot;
+use machine::machine::Registers;
 use machine::words;
 
 // ` counter R holds V`
@@ -40,7 +41,7 @@ fn leave(l: Fields, depth: u16, counters: &[u16], at: usize, text: &mut [u8; 655
 }
 
 // A back looks also at where the function that returned last ended.
-fn back(l: Fields, h: Hot, counters: &[u16], at: usize, text: &mut [u8; 65536]) -> usize
+fn back(l: Fields, h: Registers, counters: &[u16], at: usize, text: &mut [u8; 65536]) -> usize
     requires { ⌜ (l .r < 64) × (Room (h .depth) (now counters)) ⌝ }
 {
     let named = print::word(b" back", at, text);
@@ -50,7 +51,7 @@ fn back(l: Fields, h: Hot, counters: &[u16], at: usize, text: &mut [u8; 65536]) 
 }
 
 // The return from place m: the host looks at region 0's counter of a function 0 that is the only open one.
-fn end(h: Hot, counters: &[u16], at: usize, text: &mut [u8; 65536]) -> usize
+fn end(h: Registers, counters: &[u16], at: usize, text: &mut [u8; 65536]) -> usize
     requires { ⌜ Room (h .depth) (now counters) ⌝ }
 {
     if 0 < h.depth {
@@ -60,8 +61,8 @@ fn end(h: Hot, counters: &[u16], at: usize, text: &mut [u8; 65536]) -> usize
 }
 
 // A ret looks at region 0's.
-fn line(lines: &[u8], h: Hot, counters: &[u16], at: usize, text: &mut [u8; 65536]) -> usize
-    requires { ⌜ (LineHere (now lines) (h .place)) × (Room (h .depth) (now counters)) ⌝ }
+fn line(lines: &[u8], h: Registers, counters: &[u16], at: usize, text: &mut [u8; 65536]) -> usize
+    requires { ⌜ (LineHere (now lines) (h .at)) × (Room (h .depth) (now counters)) ⌝ }
 {
     let d = h.depth;
     let kind = fields::kind_at(lines, h.place);
@@ -81,7 +82,7 @@ fn line(lines: &[u8], h: Hot, counters: &[u16], at: usize, text: &mut [u8; 65536
 pub fn list(
     lines: &[u8],
     starts: &[u16; 33],
-    h: Hot,
+    h: Registers,
     counters: &[u16],
     at: usize,
     text: &mut [u8; 65536],

@@ -2,7 +2,7 @@
 ghost use Rattle.layout.specs.Spot.{Inside};
 use console::print;
 use layout::row;
-use machine::machine::Hot;
+use machine::machine::Registers;
 use rules::kind::Kind;
 
 fn word(kind: Kind, at: usize, text: &mut [u8; 65536]) -> usize {
@@ -20,8 +20,8 @@ fn word(kind: Kind, at: usize, text: &mut [u8; 65536]) -> usize {
     }
 }
 
-pub fn list(rows: &[u8], h: Hot, at: usize, text: &mut [u8; 65536]) -> usize
-    requires { ⌜ Inside (now rows) (h .place) ⌝ }
+pub fn list(rows: &[u8], h: Registers, at: usize, text: &mut [u8; 65536]) -> usize
+    requires { ⌜ Inside (now rows) (h .at) ⌝ }
 {
     let kind = row::kind(rows, row::index(h.place));
     let step = print::named(b"step ", h.steps, at, text);

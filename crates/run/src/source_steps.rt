@@ -32,7 +32,7 @@ fn walk(
     let mut m = start;
     let mut left = budget;
     while 0 < left {
-        let h = m.hot;
+        let h = m.registers;
         *at = row::list(rows, h, *at, text);
         let x = run::step(rows, goes, m, trace);
         let s = x.step;
@@ -42,7 +42,7 @@ fn walk(
         m = x.machine;
         left -= 1;
     }
-    let h = m.hot;
+    let h = m.registers;
     Stopped {
         step: Step::Went(h.place),
         machine: m,

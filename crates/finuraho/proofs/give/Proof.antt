@@ -10,7 +10,7 @@ use Rattle.finuraho.proofs.give.Tie as tie
 use Rattle.finuraho.proofs.give.Reads as reads
 use Rattle.finuraho.proofs.give.Lts as lts
 use Rattle.finuraho.proofs.refused.Reads as refused-reads
-use Rattle.hardener.proofs.line.copy.Reads as copy-reads
+use Rattle.line.proofs.bytes.copy.Reads as copy-reads
 
 refused-requires : tie.Need-refused-requires
 refused-requires c κs = search needs

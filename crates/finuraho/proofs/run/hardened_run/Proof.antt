@@ -9,7 +9,7 @@ use Rattle.finuraho.proofs.run.hardened_run.Tie as tie
 use Rattle.finuraho.proofs.run.hardened_run.Reads as reads
 use Rattle.finuraho.proofs.run.hardened_run.Lts as lts
 use Rattle.finuraho.proofs.run.refused.Reads as refused-reads
-use Rattle.machine.proofs.table.run_table.Reads as run-table-reads
+use Rattle.strike.proofs.table.run_table.Reads as run-table-reads
 
 refused-requires : tie.Need-refused-requires
 refused-requires c κs = search needs

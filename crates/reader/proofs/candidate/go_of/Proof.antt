@@ -1,6 +1,6 @@
 use native.Mathlib.Omega.{arith}
 use borrow.Author.Needs.{needs}
-use Rattle.machine.specs.Fields.{fieldsAt}
+use Rattle.line.specs.Read.{structAt}
 use Rattle.reader.proofs.candidate.go_of.Statement.{statement}
 use Rattle.reader.proofs.candidate.go_of.Tie as tie
 use Rattle.reader.proofs.candidate.go_of.Reads as reads
@@ -17,7 +17,7 @@ word-requires : tie.Need-word-requires
 word-requires c κs = search needs
 
 returns : tie.Need-returns
-unfolding fieldsAt
+unfolding structAt
 returns c = c .word .ensures
 
 pub go-of-spec : {M : Type 1} → statement M

@@ -1,5 +1,5 @@
 use denote.Ref.{now}
-use Rattle.machine.specs.Fields.{fieldsAt}
+use Rattle.line.specs.Read.{structAt}
 use Prim.Native.Nat.{suc}
 use Rattle.reader.proofs.Numbering.{chosen, other}
 use borrow.Author.Tests.{lt-ltb, le-ltb}
@@ -18,10 +18,10 @@ go-of-requires : tie.Need-go-of-requires
 go-of-requires c κs = search needs
 
 returns : tie.Need-returns
-returns c = chosen 4 6 (lt-ltb (suc (c .before .before .before .args .line)) (fieldsAt (now (c .before .before .before .args .lines)) (c .before .before .before .args .line) .go) (omega (arith, c .before .go-of .ensures)))
+returns c = chosen 4 6 (lt-ltb (suc (c .before .before .before .args .line)) (structAt (now (c .before .before .before .args .lines)) (c .before .before .before .args .line) .go) (omega (arith, c .before .go-of .ensures)))
 
 returns-2 : tie.Need-returns-2
-returns-2 c = other 4 6 (le-ltb (suc (c .before .before .before .args .line)) (fieldsAt (now (c .before .before .before .args .lines)) (c .before .before .before .args .line) .go) (omega (arith, c .before .go-of .ensures)))
+returns-2 c = other 4 6 (le-ltb (suc (c .before .before .before .args .line)) (structAt (now (c .before .before .before .args .lines)) (c .before .before .before .args .line) .go) (omega (arith, c .before .go-of .ensures)))
 
 pub leave-kind-spec : {M : Type 1} → statement M
 leave-kind-spec = tie.close (tie.spec add-if1 go-of-requires returns returns-2)

@@ -9,7 +9,7 @@ use Rattle.reader.proofs.candidate.leaves_to.Statement.{statement}
 use Rattle.reader.proofs.candidate.leaves_to.Tie as tie
 use Rattle.reader.proofs.candidate.leaves_to.Reads as reads
 use Rattle.reader.proofs.candidate.leaves_to.Lts as lts
-use Rattle.machine.proofs.fields.kind_at.Reads as kind-at-reads
+use Rattle.line.proofs.read.kind_at.Reads as kind-at-reads
 use Rattle.reader.proofs.candidate.is_leave.Reads as is-leave-reads
 use Rattle.reader.proofs.candidate.go_of.Reads as go-of-reads
 

@@ -1,13 +1,13 @@
 -- `reader::candidate::opens_next` meets its contract. Assumes nothing.
 use mathlib.Core.Path.{ap, _∙_}
-use Rattle.machine.specs.Map.{endsFunction}
+use Rattle.line.specs.Read.{endsFunction}
 use Rattle.reader.proofs.LineRows.{begins-next}
 use borrow.Author.Needs.{needs}
 use Rattle.reader.proofs.candidate.opens_next.Statement.{statement}
 use Rattle.reader.proofs.candidate.opens_next.Tie as tie
 use Rattle.reader.proofs.candidate.opens_next.Reads as reads
 use Rattle.reader.proofs.candidate.opens_next.Lts as lts
-use Rattle.machine.proofs.fields.kind_at.Reads as kind-at-reads
+use Rattle.line.proofs.read.kind_at.Reads as kind-at-reads
 use Rattle.reader.proofs.functions.ends_function.Reads as ends-function-reads
 
 kind-at-requires : tie.Need-kind-at-requires

@@ -8,7 +8,7 @@ use Rattle.reader.proofs.candidate.stand.Statement.{statement}
 use Rattle.reader.proofs.candidate.stand.Tie as tie
 use Rattle.reader.proofs.candidate.stand.Reads as reads
 use Rattle.reader.proofs.candidate.stand.Lts as lts
-use Rattle.machine.proofs.fields.kind_at.Reads as kind-at-reads
+use Rattle.line.proofs.read.kind_at.Reads as kind-at-reads
 use Rattle.reader.proofs.candidate.callee.Reads as callee-reads
 use Rattle.reader.proofs.candidate.leave_kind.Reads as leave-kind-reads
 use Rattle.reader.proofs.candidate.out_kind.Reads as out-kind-reads

@@ -7,7 +7,7 @@ use Rattle.reader.proofs.dos.is_pair.Statement.{statement}
 use Rattle.reader.proofs.dos.is_pair.Tie as tie
 use Rattle.reader.proofs.dos.is_pair.Reads as reads
 use Rattle.reader.proofs.dos.is_pair.Lts as lts
-use Rattle.machine.proofs.fields.kind_at.Reads as kind-at-reads
+use Rattle.line.proofs.read.kind_at.Reads as kind-at-reads
 
 cast-count : tie.Need-cast-count
 cast-count c = search needs

@@ -1,11 +1,9 @@
 use denote.Ref.{now}
-use Prim.Native.Nat.{_/_}
-use lib.ListN.{length}
+use Prim.Native.Nat.{_/_, _-_}
+use lib.ListN.{length, length-set}
 use borrow.Author.Needs.{needs}
 use native.Mathlib.Omega.{arith}
-use lib.ListN.{length-set}
 use mathlib.Core.Path.{_∙_, ap}
-use Prim.Native.Nat.{_-_}
 use Rattle.reader.proofs.Numbering.{Numbering, numbering-first, few-functions, numberings}
 use Rattle.reader.proofs.functions.number_lines.Statement.{statement}
 use Rattle.reader.proofs.functions.number_lines.Tie as tie

@@ -1,13 +1,13 @@
 use mathlib.Core.Path.{ap, sym, _∙_, refl}
 use Rattle.reader.proofs.Numbering.{chosen, other}
-use Rattle.machine.specs.Map.{endsFunction}
+use Rattle.line.specs.Read.{endsFunction}
 use native.Mathlib.Omega.{arith}
 use borrow.Author.Needs.{needs}
 use Rattle.reader.proofs.functions.pass.Statement.{statement}
 use Rattle.reader.proofs.functions.pass.Tie as tie
 use Rattle.reader.proofs.functions.pass.Reads as reads
 use Rattle.reader.proofs.functions.pass.Lts as lts
-use Rattle.machine.proofs.fields.kind_at.Reads as kind-at-reads
+use Rattle.line.proofs.read.kind_at.Reads as kind-at-reads
 use Rattle.reader.proofs.functions.ends_function.Reads as ends-function-reads
 
 kind-at-requires : tie.Need-kind-at-requires

@@ -1,14 +1,14 @@
 use mathlib.Core.Path.{sym, _∙_}
 use native.Mathlib.Omega.{arith}
-use Rattle.machine.proofs.Runs.{not-went}
-use Rattle.machine.proofs.Struck.{going-fewer}
-use Rattle.machine.proofs.Singly.{lands-rest, lands-over, going-landed}
+use Rattle.state.proofs.Ends.{not-went}
+use Rattle.strike.proofs.Struck.{going-fewer}
+use Rattle.strike.proofs.Singly.{lands-rest, lands-over, going-landed}
 use borrow.Author.Needs.{needs}
 use Rattle.run.proofs.hardened_steps.land_and_walk.Statement.{statement}
 use Rattle.run.proofs.hardened_steps.land_and_walk.Tie as tie
 use Rattle.run.proofs.hardened_steps.land_and_walk.Reads as reads
 use Rattle.run.proofs.hardened_steps.land_and_walk.Lts as lts
-use Rattle.machine.proofs.strike.land.Reads as land-reads
+use Rattle.strike.proofs.strike.land.Reads as land-reads
 use Rattle.run.proofs.hardened_steps.walk.Reads as walk-reads
 
 list-jump-requires : tie.Need-list-jump-requires

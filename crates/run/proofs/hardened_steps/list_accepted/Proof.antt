@@ -5,16 +5,16 @@ use Rattle.rules.specs.Line.{linesIn}
 use Rattle.machine.specs.Run.{partsIn}
 use Rattle.machine.specs.Stands.{Going}
 use Rattle.machine.proofs.Sound.{sound}
-use Rattle.machine.proofs.Whole.{going-start}
+use Rattle.strike.proofs.Whole.{going-start}
 use borrow.Author.Needs.{needs}
 use Rattle.run.proofs.hardened_steps.list_accepted.Statement.{statement}
 use Rattle.run.proofs.hardened_steps.list_accepted.Tie as tie
 use Rattle.run.proofs.hardened_steps.list_accepted.Reads as reads
 use Rattle.run.proofs.hardened_steps.list_accepted.Lts as lts
-use Rattle.machine.proofs.machine.begun.Reads as begun-reads
+use Rattle.state.proofs.machine.begun.Reads as begun-reads
 use Rattle.machine.proofs.map.home_of.Reads as home-of-reads
 use Rattle.machine.proofs.map.survey.Reads as survey-reads
-use Rattle.machine.proofs.words.fresh.Reads as fresh-reads
+use Rattle.guard.proofs.counters.fresh.Reads as fresh-reads
 use Rattle.run.proofs.hardened_steps.no_counters.Reads as no-counters-reads
 use Rattle.machine.proofs.map.no_owners.Reads as no-owners-reads
 use Rattle.machine.proofs.map.no_starts.Reads as no-starts-reads

@@ -1,5 +1,5 @@
 use mathlib.Core.Path.{_∙_}
-use Rattle.machine.proofs.Struck.{struck-none}
+use Rattle.strike.proofs.Struck.{struck-none}
 use borrow.Author.Needs.{needs}
 use Rattle.run.proofs.hardened_steps.strike.Statement.{statement}
 use Rattle.run.proofs.hardened_steps.strike.Tie as tie

@@ -2,8 +2,9 @@ use mathlib.Core.Path.{refl, sym, _∙_}
 use native.Mathlib.Omega.{arith}
 use Rattle.machine.specs.Step.{mapOf}
 use Rattle.machine.specs.Run.{partsIn}
-use Rattle.machine.proofs.Runs.{Running, run-none, not-went}
-use Rattle.machine.proofs.Struck.{going-fewer}
+use Rattle.machine.proofs.Runs.{Running, run-none}
+use Rattle.state.proofs.Ends.{not-went}
+use Rattle.strike.proofs.Struck.{going-fewer}
 use Rattle.run.proofs.Lines.{placed, walks-on, walks-over}
 use borrow.Author.Needs.{needs}
 use Rattle.run.proofs.hardened_steps.walk.Statement.{statement}

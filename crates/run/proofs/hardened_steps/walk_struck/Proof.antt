@@ -1,7 +1,7 @@
 use mathlib.Core.Path.{_∙_}
 use native.Mathlib.Omega.{arith}
-use Rattle.machine.proofs.Runs.{not-went}
-use Rattle.machine.proofs.Struck.{going-fewer, going-left, struck-stopped, struck-there}
+use Rattle.state.proofs.Ends.{not-went}
+use Rattle.strike.proofs.Struck.{going-fewer, going-left, struck-stopped, struck-there}
 use borrow.Author.Needs.{needs}
 use Rattle.run.proofs.hardened_steps.walk_struck.Statement.{statement}
 use Rattle.run.proofs.hardened_steps.walk_struck.Tie as tie

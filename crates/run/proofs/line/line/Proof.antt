@@ -1,12 +1,12 @@
-use Rattle.machine.specs.declared.fields.LineKind.the-variants.{Tick, Test, Leave, Out, Call, Back}
+use Rattle.line.specs.declared.kind.LineKind.the-variants.{Tick, Test, Leave, Out, Call, Back}
 use Rattle.run.proofs.Lines.{fields-in}
 use borrow.Author.Needs.{needs}
 use Rattle.run.proofs.line.line.Statement.{statement}
 use Rattle.run.proofs.line.line.Tie as tie
 use Rattle.run.proofs.line.line.Reads as reads
 use Rattle.run.proofs.line.line.Lts as lts
-use Rattle.machine.proofs.fields.fields_at.Reads as fields-at-reads
-use Rattle.machine.proofs.fields.kind_at.Reads as kind-at-reads
+use Rattle.line.proofs.read.line_at.Reads as fields-at-reads
+use Rattle.line.proofs.read.kind_at.Reads as kind-at-reads
 use Rattle.run.proofs.line.back.Reads as back-reads
 use Rattle.run.proofs.line.leave.Reads as leave-reads
 use Rattle.run.proofs.line.one.Reads as one-reads

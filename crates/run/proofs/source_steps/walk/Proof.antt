@@ -1,6 +1,6 @@
 use mathlib.Core.Path.{_∙_}
 use native.Mathlib.Omega.{arith}
-use Rattle.machine.proofs.Runs.{not-went}
+use Rattle.state.proofs.Ends.{not-went}
 use Rattle.source.specs.Run.{partsIn}
 use Rattle.run.proofs.Rows.{Walking, walk-starts, going-one, walks-on, walks-over, walk-spent}
 use borrow.Author.Needs.{needs}

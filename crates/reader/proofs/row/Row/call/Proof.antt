@@ -5,8 +5,8 @@ use Rattle.reader.proofs.row.Row.call.Statement.{statement}
 use Rattle.reader.proofs.row.Row.call.Tie as tie
 use Rattle.reader.proofs.row.Row.call.Reads as reads
 use Rattle.reader.proofs.row.Row.call.Lts as lts
-use Rattle.hardener.proofs.line.high.Reads as high-reads
-use Rattle.hardener.proofs.line.low.Reads as low-reads
+use Rattle.line.proofs.bytes.high.Reads as high-reads
+use Rattle.line.proofs.bytes.low.Reads as low-reads
 
 low-requires : tie.Need-low-requires
 low-requires c κs = search needs
