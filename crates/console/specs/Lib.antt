@@ -1,3 +1,4 @@
 pub mod Number
 pub mod Word
 pub mod Malformed
+pub mod Print
