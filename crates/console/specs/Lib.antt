@@ -2,3 +2,4 @@ pub mod Number
 pub mod Word
 pub mod Malformed
 pub mod Print
+pub mod Input
