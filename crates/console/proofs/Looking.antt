@@ -2,7 +2,7 @@
 use Prim.Native.Nat.{ℕ, suc, _+_, _%_, _^_, _≤_, _<_}
 use mathlib.Core.Logic.{_⊎_, inl, inr, ⊎-elim}
 use mathlib.Core.Path.{_≡_, refl, sym, ap, _∙_}
-use mathlib.Core.Bool.{and-false}
+use mathlib.Core.Bool.{true, false, and-false}
 use mathlib.Core.List.{List, [], _∷_, _++_}
 use native.Mathlib.Numerals.{add-one}
 use native.Mathlib.Omega.{arith}
@@ -15,7 +15,7 @@ use Rattle.console.proofs.malformed.Wrong.{the-type}
 use Rattle.console.specs.declared.malformed.Seen.{Seen}
 use Rattle.console.specs.declared.malformed.Wrong.{Wrong}
 use Rattle.console.specs.declared.malformed.Wrong.the-variants.{Nothing, CarriageReturn, Long, Uppercase, Space, Other, Empty, Short}
-use Rattle.console.specs.Malformed.{wrongEnd, wrongDigit, wrongByte, behindByte, ifNothing, metAt, nextSeen, lookOn}
+use Rattle.console.specs.Malformed.{wrongEnd, wrongDigit, wrongByte, behindByte, isWrong, metAt, nextSeen, lookOn}
 
 -- ---- the end of a line
 module _ (n d : ℕ) where
@@ -110,7 +110,7 @@ module _ (b : ℕ) (s : Seen) {m : ℕ} where
   behind-digit e k = rw (ne-eqb b 10 e, k)
 
 -- what the code's test of an enum says
-pub fine : (w : Wrong) → tagOf the-type w ≡ 0 → w ≡ Nothing
+pub fine : (w : Wrong) → tagOf the-type w ≡ 0 → isWrong w ≡ false
 fine Nothing k = refl
 fine CarriageReturn k = absurd (let z : ⊥ = omega arith in z)
 fine Long k = absurd (let z : ⊥ = omega arith in z)
@@ -120,32 +120,32 @@ fine Other k = absurd (let z : ⊥ = omega arith in z)
 fine Empty k = absurd (let z : ⊥ = omega arith in z)
 fine Short k = absurd (let z : ⊥ = omega arith in z)
 
-pub not-fine : (w : Wrong) (a s : Seen) → OneOf (1 ∷ 2 ∷ 3 ∷ 4 ∷ 5 ∷ 6 ∷ 7 ∷ []) (tagOf the-type w) → ifNothing w a s ≡ s
-not-fine Nothing a s k =
+pub not-fine : (w : Wrong) → OneOf (1 ∷ 2 ∷ 3 ∷ 4 ∷ 5 ∷ 6 ∷ 7 ∷ []) (tagOf the-type w) → isWrong w ≡ true
+not-fine Nothing k =
     absurd
     (⊎-elim (λ z. omega arith)
     (⊎-elim (λ z. omega arith)
     (⊎-elim (λ z. omega arith) (⊎-elim (λ z. omega arith) (⊎-elim (λ z. omega arith) (⊎-elim (λ z. omega arith) (λ z. omega arith)))))) k)
-not-fine CarriageReturn a s k = refl
-not-fine Long a s k = refl
-not-fine Uppercase a s k = refl
-not-fine Space a s k = refl
-not-fine Other a s k = refl
-not-fine Empty a s k = refl
-not-fine Short a s k = refl
+not-fine CarriageReturn k = refl
+not-fine Long k = refl
+not-fine Uppercase k = refl
+not-fine Space k = refl
+not-fine Other k = refl
+not-fine Empty k = refl
+not-fine Short k = refl
 
 module _ (d : ℕ) (s : Seen) (b : ℕ) where
-  pub next-met : OneOf (1 ∷ 2 ∷ 3 ∷ 4 ∷ 5 ∷ 6 ∷ 7 ∷ []) (tagOf the-type (s .wrong)) → s ≡ nextSeen d s b
+  pub next-met : isWrong (s .wrong) ≡ true → s ≡ nextSeen d s b
   unfolding nextSeen
-  next-met k = sym (not-fine (s .wrong) _ s k)
+  next-met e = rw e
 
-  module _ (e : s .wrong ≡ Nothing) {w : Wrong} (q : w ≡ wrongByte b (s .column) d) where
-    pub next-found : OneOf (1 ∷ 2 ∷ 3 ∷ 4 ∷ 5 ∷ 6 ∷ 7 ∷ []) (tagOf the-type w) → metAt w s ≡ nextSeen d s b
-    unfolding nextSeen behindByte
-    next-found k = rw (e, ← q) (sym (not-fine w (behindByte b s) (metAt w s) k))
+  module _ (e : isWrong (s .wrong) ≡ false) {w : Wrong} (q : w ≡ wrongByte b (s .column) d) where
+    pub next-found : isWrong w ≡ true → metAt w s ≡ nextSeen d s b
+    unfolding nextSeen
+    next-found f = rw (e, ← q, f)
 
-    pub next-fine : w ≡ Nothing → {t : Seen} → t ≡ behindByte b s → t ≡ nextSeen d s b
-    unfolding nextSeen behindByte
+    pub next-fine : isWrong w ≡ false → {t : Seen} → t ≡ behindByte b s → t ≡ nextSeen d s b
+    unfolding nextSeen
     next-fine f k = rw (e, ← q, f) k
 
 -- ---- a text

@@ -1,6 +1,7 @@
--- What is wrong with a text that is to be lines of so many digits: its first wrong byte, and the line and column of that.
+-- What is wrong with a text that is to be lines of so many digits (docs/PROGRAMS.md, "A malformed line"): its first wrong byte, and the line
+-- and column of that.
 use Prim.Native.Nat.{ℕ, _+_, _%_, _^_}
-use mathlib.Core.Bool.{cond, _&&_, _||_}
+use mathlib.Core.Bool.{Bool, true, false, cond, _&&_, _||_}
 use mathlib.Core.List.{List, [], _∷_}
 use lib.Dec.{eqb, ltb, leb}
 use Rattle.text.specs.Hex.{isDigit, newline}
@@ -36,15 +37,15 @@ behindByte b s =
     (record { line = (s .line + 1) % 2 ^ 64; column = 0; wrong = Nothing })
     (record { line = s .line; column = (s .column + 1) % 2 ^ 64; wrong = Nothing })
 
-abbrev pub ifNothing : Wrong → (fine other : Seen) → Seen
-ifNothing Nothing fine other = fine
-ifNothing CarriageReturn fine other = other
-ifNothing Long fine other = other
-ifNothing Uppercase fine other = other
-ifNothing Space fine other = other
-ifNothing Other fine other = other
-ifNothing Empty fine other = other
-ifNothing Short fine other = other
+abbrev pub isWrong : Wrong → Bool
+isWrong Nothing = false
+isWrong CarriageReturn = true
+isWrong Long = true
+isWrong Uppercase = true
+isWrong Space = true
+isWrong Other = true
+isWrong Empty = true
+isWrong Short = true
 
 abbrev pub metAt : Wrong → Seen → Seen
 metAt w s = record { line = s .line; column = s .column; wrong = w }
@@ -52,9 +53,8 @@ metAt w s = record { line = s .line; column = s .column; wrong = w }
 -- one byte on: what was wrong already stays, with its place
 unfoldable pub nextSeen : (digits : ℕ) → Seen → (b : ℕ) → Seen
 nextSeen d s b =
-    ifNothing (s .wrong)
-    (ifNothing (wrongByte b (s .column) d) (behindByte b s) (metAt (wrongByte b (s .column) d) s))
-    s
+    cond (isWrong (s .wrong)) s
+    (cond (isWrong (wrongByte b (s .column) d)) (metAt (wrongByte b (s .column) d) s) (behindByte b s))
 
 unfoldable pub lookOn : (digits : ℕ) → Seen → (text : List ℕ) → Seen
 lookOn d s [] = s
