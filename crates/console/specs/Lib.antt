@@ -3,3 +3,4 @@ pub mod Word
 pub mod Malformed
 pub mod Print
 pub mod Input
+pub mod Cases
