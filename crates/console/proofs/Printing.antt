@@ -1,8 +1,9 @@
 -- What the buffer of standard output holds after a byte, and after one text behind another. Assumes nothing.
-use Prim.Native.Nat.{ℕ, _+_, _-_, _≤_, _<_}
+use Prim.Native.Nat.{ℕ, _+_, _-_, _%_, _≤_, _<_}
 use mathlib.Core.Path.{_≡_, refl, sym, ap, _∙_}
 use mathlib.Core.Bool.{Bool, true, false}
 use mathlib.Core.List.{List, [], _∷_, _++_, append-nil, append-assoc}
+use native.Mathlib.Nat.{add-mod}
 use native.Mathlib.Numerals.{add-one}
 use native.Mathlib.Omega.{arith}
 use borrow.Author.Tests.{leb-true, leb-false}
@@ -21,6 +22,9 @@ not-lost {m} {n} f h = by (leb m 65536) refl
     by true e = leb-true m 65536 e
     by false e = absurd (let z : 65536 < n = f (leb-false m 65536 e) in let y : ⊥ = omega arith in y)
 
+whole-and-whole : (a b : ℕ) → a % 65536 ≡ 0 → b % 65536 ≡ 0 → (a + b) % 65536 ≡ 0
+whole-and-whole a b e f = rw (add-mod a b 65536, e, f)
+
 -- ---- one text behind another
 pub printed-none : {at : ℕ} {before : List ℕ} → Printed [] at before before at
 printed-none {at} {before} =
@@ -28,6 +32,7 @@ printed-none {at} {before} =
       fits = λ h. puts-none;
       no-more = λ h. omega arith;
       holds = λ l h. rw (append-nil, (let z : at + 0 - at ≡ 0 = omega arith in z));
+      whole = λ h. rw (let z : at + 0 - at ≡ 0 = omega arith in z);
       same-length = refl;
       stays-lost = λ h. h;
       dropped = λ h. refl;
@@ -61,6 +66,11 @@ module _ {t u : List ℕ} {at : ℕ} {before between after : List ℕ} {m n : �
             let hm : m ≤ 65536 = not-lost (q .stays-lost) h in
             omega (arith, p .no-more hm, q .no-more h, length-append t u);
         holds = held;
+        whole = λ h.
+            let hm : m ≤ 65536 = not-lost (q .stays-lost) h in
+            let gone : at + length (t ++ u) - n ≡ at + length t - m + (m + length u - n) =
+            omega (arith, p .no-more hm, q .no-more h, length-append t u) in
+            rw gone (whole-and-whole _ _ (p .whole hm) (q .whole h));
         same-length = q .same-length ∙ p .same-length;
         stays-lost = λ h. q .stays-lost (p .stays-lost h);
         dropped = λ h. q .dropped (p .stays-lost h) ∙ p .dropped h;
@@ -81,6 +91,7 @@ module _ {b at : ℕ} {text : List ℕ} where
         holds = λ full k.
             rw ((let z : at + 1 - (at + 1) ≡ 0 = omega arith in z), add-one)
             (take-suc-set text at b (omega arith));
+        whole = λ k. rw (let z : at + 1 - (at + 1) ≡ 0 = omega arith in z);
         same-length = length-set text at b;
         stays-lost = λ k. omega arith;
         dropped = λ k. absurd (let z : ⊥ = omega arith in z);
@@ -93,6 +104,7 @@ module _ {b at : ℕ} {text : List ℕ} where
         fits = λ k. absurd (let z : ⊥ = omega arith in z);
         no-more = λ k. absurd (let z : ⊥ = omega arith in z);
         holds = λ full k. absurd (let z : ⊥ = omega arith in z);
+        whole = λ k. absurd (let z : ⊥ = omega arith in z);
         same-length = refl;
         stays-lost = λ k. omega arith;
         dropped = λ k. refl;
@@ -111,6 +123,7 @@ module _ {b at : ℕ} {text : List ℕ} where
             ∙ sym
             (ap (λ l. drop (at + 1 - 1) (l ++ b ∷ [])) (take-all at text (omega arith))
             ∙ drop-at text (b ∷ []) (at + 1 - 1) (omega arith));
+        whole = λ k. rw (let z : at + 1 - 1 ≡ 65536 = omega arith in z);
         same-length = length-set text 0 b;
         stays-lost = λ k. absurd (let z : ⊥ = omega arith in z);
         dropped = λ k. absurd (let z : ⊥ = omega arith in z);

@@ -1,5 +1,5 @@
 -- The buffer of 65,536 bytes in front of standard output. The place in it is how many bytes it holds; once output is lost it is 65,537.
-use Prim.Native.Nat.{ℕ, _+_, _-_, _≤_, _<_}
+use Prim.Native.Nat.{ℕ, _+_, _-_, _%_, _≤_, _<_}
 use mathlib.Core.Path.{_≡_}
 use mathlib.Core.List.{List, _++_}
 use lib.ListN.{length, take, drop}
@@ -7,11 +7,13 @@ use Rattle.io.specs.Digits.{digits, Fewest}
 use Rattle.text.specs.Listing.{Puts}
 
 -- A text is printed behind the `at` bytes that the buffer held, and then it holds `next`. Where the text fits it is stored behind them; else
--- the buffer was written out on the way, and holds the last bytes of both. Lost output stays lost, and what comes after is dropped.
+-- the buffer, each time that it was full, was written out on the way, and holds the last bytes of both. Lost output stays lost, and what
+-- comes after is dropped.
 pub record Printed (text : List ℕ) (at : ℕ) (before after : List ℕ) (next : ℕ) : Type 0 where
   pub fits : at + length text ≤ 65536 → Puts text at before after next
   pub no-more : next ≤ 65536 → next ≤ at + length text
   pub holds : length before ≡ 65536 → next ≤ 65536 → take next after ≡ drop (at + length text - next) (take at before ++ text)
+  pub whole : next ≤ 65536 → (at + length text - next) % 65536 ≡ 0
   pub same-length : length after ≡ length before
   pub stays-lost : 65536 < at → 65536 < next
   pub dropped : 65536 < at → after ≡ before
