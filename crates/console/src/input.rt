@@ -2,7 +2,7 @@
 ghost use mathlib.Core.Path.{_≡_};
 ghost use Prim.Native.Nat.{_≤_};
 ghost use lib.ListN.{length};
-ghost use Rattle.text.specs.Reading.{Sane};
+ghost use Rattle.console.specs.Input.{readAtEnd, Kept};
 use crate::malformed;
 use crate::malformed::Seen;
 use crate::output;
@@ -18,6 +18,7 @@ pub enum Read {
 // Rows of 12 digits. There is room for 1,025: one more than a table may have, so that a longer one still meets 2.
 pub fn take_rows(chunk: &mut [u8], bytes: &mut [u8]) -> Read
     requires { ⌜ 65536 ≡ length (now bytes) ⌝ }
+    ensures { λ r. ⌜ Kept 12 6150 (now (bytes .exit)) r ⌝ }
 {
     take(12, chunk, &mut bytes[..6150])
 }
@@ -25,6 +26,7 @@ pub fn take_rows(chunk: &mut [u8], bytes: &mut [u8]) -> Read
 // Lines of 40 digits. There is room for 2,049: one more than a hardened table may have, so that a longer one still meets 10.
 pub fn take_lines(chunk: &mut [u8], bytes: &mut [u8]) -> Read
     requires { ⌜ 65536 ≡ length (now bytes) ⌝ }
+    ensures { λ r. ⌜ Kept 40 40980 (now (bytes .exit)) r ⌝ }
 {
     take(40, chunk, &mut bytes[..40980])
 }
@@ -32,6 +34,7 @@ pub fn take_lines(chunk: &mut [u8], bytes: &mut [u8]) -> Read
 // Each line has so many digits.
 fn take(digits: usize, chunk: &mut [u8], bytes: &mut [u8]) -> Read
     requires { ⌜ digits ≤ 40 ⌝ }
+    ensures { λ r. ⌜ Kept digits (length (now (bytes .entry))) (now (bytes .exit)) r ⌝ }
 {
     let mut r = read::start();
     let mut seen = malformed::start();
@@ -54,7 +57,9 @@ fn take(digits: usize, chunk: &mut [u8], bytes: &mut [u8]) -> Read
 }
 
 // The input ends here.
-fn ended(r: Reader, seen: Seen, digits: usize) -> Read {
+fn ended(r: Reader, seen: Seen, digits: usize) -> Read
+    ensures { λ q. ⌜ q ≡ readAtEnd digits r ⌝ }
+{
     if read::is_good(r, digits) {
         return Read::Bytes(r.length);
     }

@@ -1,4 +1,6 @@
 // What is wrong with the first malformed line, for standard error. Which text is malformed is the crate text's to tell.
+ghost use mathlib.Core.Path.{_≡_};
+ghost use Rattle.console.specs.Malformed.{atFirst, lookOn, nextSeen, behindByte, wrongByte, wrongEnd, wrongDigit};
 
 // What is wrong with a byte, by what stands before it on its line.
 enum Wrong {
@@ -19,7 +21,9 @@ pub struct Seen {
     wrong: Wrong,
 }
 
-pub fn start() -> Seen {
+pub fn start() -> Seen
+    ensures { λ r. ⌜ r ≡ atFirst ⌝ }
+{
     Seen {
         line: 1,
         column: 0,
@@ -28,7 +32,9 @@ pub fn start() -> Seen {
 }
 
 // Looks on, where nothing wrong was met yet.
-pub fn look(text: &[u8], digits: usize, before: Seen) -> Seen {
+pub fn look(text: &[u8], digits: usize, before: Seen) -> Seen
+    ensures { λ r. ⌜ r ≡ lookOn digits before (now (text .entry)) ⌝ }
+{
     let mut s = before;
     let mut i = 0;
     while i < text.len() {
@@ -38,7 +44,9 @@ pub fn look(text: &[u8], digits: usize, before: Seen) -> Seen {
     s
 }
 
-fn next(b: u8, digits: usize, s: Seen) -> Seen {
+fn next(b: u8, digits: usize, s: Seen) -> Seen
+    ensures { λ r. ⌜ r ≡ nextSeen digits s b ⌝ }
+{
     let met = s.wrong;
     let Wrong::Nothing = met else {
         return s;
@@ -54,7 +62,9 @@ fn next(b: u8, digits: usize, s: Seen) -> Seen {
     behind(b, s)
 }
 
-fn behind(b: u8, s: Seen) -> Seen {
+fn behind(b: u8, s: Seen) -> Seen
+    ensures { λ r. ⌜ r ≡ behindByte b s ⌝ }
+{
     if b == b'\n' {
         return Seen {
             line: std::num::wrapping_add_u64(s.line, 1),
@@ -69,7 +79,9 @@ fn behind(b: u8, s: Seen) -> Seen {
     }
 }
 
-fn wrong_byte(b: u8, column: usize, digits: usize) -> Wrong {
+fn wrong_byte(b: u8, column: usize, digits: usize) -> Wrong
+    ensures { λ r. ⌜ r ≡ wrongByte b column digits ⌝ }
+{
     match b {
         b'\n' => wrong_end(column, digits),
         b'\r' => Wrong::CarriageReturn,
@@ -77,7 +89,9 @@ fn wrong_byte(b: u8, column: usize, digits: usize) -> Wrong {
     }
 }
 
-fn wrong_end(column: usize, digits: usize) -> Wrong {
+fn wrong_end(column: usize, digits: usize) -> Wrong
+    ensures { λ r. ⌜ r ≡ wrongEnd column digits ⌝ }
+{
     if column == 0 {
         return Wrong::Empty;
     }
@@ -87,7 +101,9 @@ fn wrong_end(column: usize, digits: usize) -> Wrong {
     Wrong::Nothing
 }
 
-fn wrong_digit(b: u8, column: usize, digits: usize) -> Wrong {
+fn wrong_digit(b: u8, column: usize, digits: usize) -> Wrong
+    ensures { λ r. ⌜ r ≡ wrongDigit b column digits ⌝ }
+{
     if digits <= column {
         return Wrong::Long;
     }

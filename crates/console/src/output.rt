@@ -1,8 +1,10 @@
 // Writing an answer, and as much of a buffer as there is.
 ghost use mathlib.Core.Path.{_≡_};
+ghost use mathlib.Core.List.{_++_};
 ghost use Prim.Native.Nat.{_≤_, min};
-ghost use lib.ListN.{length};
+ghost use lib.ListN.{length, drop};
 ghost use Rattle.io.specs.Counts.{Counts};
+ghost use Rattle.text.specs.Listing.{refusedText};
 use text::write;
 
 pub fn least(a: usize, b: usize) -> usize
@@ -39,6 +41,7 @@ pub fn answer_front(n: usize, buffer: &[u8]) -> bool {
 // `refused N`
 pub fn refused(number: u8, text: &mut [u8])
     requires { ⌜ 65536 ≡ length (now text) ⌝ }
+    ensures { λ _. ⌜ now (text .exit) ≡ refusedText number ++ drop (length (refusedText number)) (now (text .entry)) ⌝ }
 {
     let n = write::refusal(number, text);
     answer_front(n, text);

@@ -1,9 +1,12 @@
 // Words of the command line.
+ghost use mathlib.Core.Path.{_≡_};
 ghost use Rattle.io.specs.Counts.{Counts};
+ghost use Rattle.console.specs.Word.{skipOf, sameBytes, placeOf};
 
 // How many bytes the name has, where the word begins with it; else 0.
 pub fn skip(word: &[u8], name: &[u8]) -> usize
     ensures { λ r. ⌜ Counts r (now (word .entry)) ⌝ }
+    ensures { λ r. ⌜ r ≡ skipOf (now (word .entry)) (now (name .entry)) ⌝ }
 {
     if word.len() < name.len() {
         return 0;
@@ -18,7 +21,9 @@ pub fn skip(word: &[u8], name: &[u8]) -> usize
     i
 }
 
-pub fn is(word: &[u8], name: &[u8]) -> bool {
+pub fn is(word: &[u8], name: &[u8]) -> bool
+    ensures { λ r. ⌜ r ≡ sameBytes (now (word .entry)) (now (name .entry)) ⌝ }
+{
     if word.len() != name.len() {
         return false;
     }
@@ -28,6 +33,7 @@ pub fn is(word: &[u8], name: &[u8]) -> bool {
 // Where the first such byte stands; the length where there is none.
 pub fn find(b: u8, text: &[u8]) -> usize
     ensures { λ r. ⌜ Counts r (now (text .entry)) ⌝ }
+    ensures { λ r. ⌜ r ≡ placeOf b (now (text .entry)) ⌝ }
 {
     let mut i = 0;
     while i < text.len() {

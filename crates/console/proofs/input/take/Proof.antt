@@ -1,25 +1,17 @@
+-- `console::input::take` meets its contract. The loop's invariant: what was read so far is what some text says. Assumes nothing.
 use mathlib.Core.Path.{_≡_}
 use Prim.Native.Nat.{_-_, _≤_}
 use lib.ListN.{length}
 use Rattle.text.specs.Reading.{Sane}
 use borrow.Author.Needs.{needs}
 use native.Mathlib.Omega.{arith}
+use Rattle.console.proofs.Taking.{Heard, heard-none, heard-more, kept-at-end}
 use Rattle.console.proofs.input.take.Statement.{statement}
 use Rattle.console.proofs.input.take.Tie as tie
-use Rattle.console.proofs.input.take.Reads as reads
-use Rattle.console.proofs.input.take.Lts as lts
-use Rattle.console.proofs.input.ended.Reads as ended-reads
-use Rattle.console.proofs.malformed.look.Reads as look-reads
-use Rattle.console.proofs.malformed.start.Reads as malformed-start-reads
-use Rattle.io.proofs.count.Reads as count-reads
-use Rattle.libc.proofs.read.Reads as read-reads
-use Rattle.os.proofs.fail.Reads as fail-reads
-use Rattle.text.proofs.read.feed.Reads as feed-reads
-use Rattle.text.proofs.read.start.Reads as read-start-reads
 
 abbrev Inv-loop : tie.InvT-loop
 Inv-loop digits chunk₀ bytes₀ r₀ seen₀ reads₀ t9 chunk bytes r seen reads =
-    (length chunk ≡ length chunk₀) × (length bytes ≡ length bytes₀) × (digits ≤ 40) × (Sane digits r bytes)
+    (length chunk ≡ length chunk₀) × (length bytes ≡ length bytes₀) × (digits ≤ 40) × (Sane digits r bytes) × (Heard digits bytes₀ r bytes)
 
 abbrev μ-loop : tie.MeasureT-loop
 μ-loop digits chunk₀ bytes₀ r₀ seen₀ reads₀ t9 chunk bytes r seen reads = 18446744073709551615 - reads
@@ -31,7 +23,8 @@ start-requires-2 : tie.Need-start-requires-2 Inv-loop μ-loop
 start-requires-2 c κs = search needs
 
 loop-holds : tie.Need-loop-holds Inv-loop μ-loop
-loop-holds c = (search needs, search needs, search needs, c .before .start .ensures .sane _ _ (omega arith))
+loop-holds c =
+    (search needs, search needs, search needs, c .before .start .ensures .sane _ _ (omega arith), heard-none (c .before .start .ensures))
 
 read-requires : tie.Need-read-requires Inv-loop μ-loop
 read-requires c κs = search needs
@@ -64,7 +57,9 @@ same-length-4 : tie.Need-same-length-4 Inv-loop μ-loop
 same-length-4 c = search needs
 
 returns-2 : tie.Need-returns-2 Inv-loop μ-loop
-returns-2 c = search needs
+returns-2 c =
+    let inv = c .before .before .before .before .before .before .before .before .before .before .loop .inv in
+    kept-at-end (inv .4) (inv .3) (inv .1) (c .ended .ensures)
 
 slice-reshare-prefix-feed : tie.Need-slice-reshare-prefix-feed Inv-loop μ-loop
 slice-reshare-prefix-feed c = search needs
@@ -91,7 +86,9 @@ loop-less : tie.Need-loop-less Inv-loop μ-loop
 loop-less c = search needs
 
 loop-again : tie.Need-loop-again Inv-loop μ-loop
-loop-again c = search needs
+loop-again c =
+    let fed = c .before .before .before .before .feed .ensures in
+    (search needs, search needs, search needs, fed .sane, heard-more (search needs) fed)
 
 ended-requires-2 : tie.Need-ended-requires-2 Inv-loop μ-loop
 ended-requires-2 c κs = search needs
@@ -103,7 +100,9 @@ same-length-6 : tie.Need-same-length-6 Inv-loop μ-loop
 same-length-6 c = search needs
 
 returns-3 : tie.Need-returns-3 Inv-loop μ-loop
-returns-3 c = search needs
+returns-3 c =
+    let inv = c .before .before .loop .inv in
+    kept-at-end (inv .4) (inv .3) (inv .1) (c .ended2 .ensures)
 
 pub take-spec : {M : Type 1} → statement M
 take-spec =

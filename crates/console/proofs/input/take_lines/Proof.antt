@@ -1,12 +1,11 @@
+-- `console::input::take_lines` meets its contract: it lends the buffer's front. Assumes nothing.
 use native.Mathlib.Omega.{arith}
-use mathlib.Core.Path.{sym}
+use mathlib.Core.Path.{sym, _∙_}
 use lib.Seq.{length-take-le}
 use borrow.Author.Needs.{needs}
+use Rattle.console.proofs.Taking.{kept-in-front}
 use Rattle.console.proofs.input.take_lines.Statement.{statement}
 use Rattle.console.proofs.input.take_lines.Tie as tie
-use Rattle.console.proofs.input.take_lines.Reads as reads
-use Rattle.console.proofs.input.take_lines.Lts as lts
-use Rattle.console.proofs.input.take.Reads as take-reads
 
 slice-relend-prefix-take : tie.Need-slice-relend-prefix-take
 slice-relend-prefix-take c = search needs
@@ -24,7 +23,10 @@ same-length-2 : tie.Need-same-length-2
 same-length-2 c = search needs
 
 returns : tie.Need-returns
-returns c = search needs
+returns c =
+    let took = c .before .before .before .before .take in
+    let long = length-take-le 40980 (c .before .before .before .before .before .before .before .before .before .args .bytes .now) (omega arith) in
+    kept-in-front 40 40980 _ _ (took .result) long (took .kept .1 .1 .0 ∙ long) (took .ensures)
 
 pub take-lines-spec : {M : Type 1} → statement M
 take-lines-spec =
