@@ -9,6 +9,7 @@ ghost use Rattle.finuraho.specs.Given.{writes, runs, hardenedRuns};
 use rules::answer::Fault;
 use rules::answer::Ran;
 use rules::answer::Wrote;
+use rules::limits::VARIABLES;
 
 #[no_mangle]
 pub extern "C" fn finuraho_check(rows: &[u8]) -> u8
@@ -48,7 +49,7 @@ pub extern "C" fn finuraho_read_back(lines: &[u8], out: &mut [u8]) -> Wrote
 #[no_mangle]
 pub extern "C" fn finuraho_run_source(
     rows: &[u8],
-    variables: &[u16; 16],
+    variables: &[u16; VARIABLES],
     budget: u16,
     trace: &mut [u16],
 ) -> Ran
@@ -60,7 +61,7 @@ pub extern "C" fn finuraho_run_source(
 #[no_mangle]
 pub extern "C" fn finuraho_run_hardened(
     lines: &[u8],
-    variables: &[u16; 16],
+    variables: &[u16; VARIABLES],
     budget: u16,
     step: u16,
     place: u16,

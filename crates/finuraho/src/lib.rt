@@ -15,6 +15,7 @@ use reader::Found;
 use rules::answer::Fault;
 use rules::answer::Ran;
 use rules::answer::Wrote;
+use rules::limits::VARIABLES;
 use rules::number;
 use rules::refusal::Refusal;
 use rules::refusal::Verdict;
@@ -76,7 +77,7 @@ fn give(answer: &[u8], out: &mut [u8]) -> Wrote
     if out.len() < answer.len() {
         return refused(Refusal::ShortOutput);
     }
-    hardener::line::copy(answer, out, 0);
+    line::bytes::copy(answer, out, 0);
     Wrote {
         number: 0,
         length: answer.len(),
@@ -95,7 +96,7 @@ pub fn read_back(lines: &[u8], out: &mut [u8]) -> Wrote
 }
 
 // Runs a source table: outcome, steps, trace length and variables; the trace stands at the front of `trace`.
-pub fn run_source(rows: &[u8], variables: [u16; 16], budget: u16, trace: &mut [u16]) -> Ran
+pub fn run_source(rows: &[u8], variables: [u16; VARIABLES], budget: u16, trace: &mut [u16]) -> Ran
     ensures { λ r. ⌜ runs r (now (trace .exit)) ≡ runSourceCall (now (rows .entry)) variables budget (now (trace .entry)) ⌝ }
 {
     let mut ends = table::check::row_words();
@@ -111,7 +112,7 @@ pub fn run_source(rows: &[u8], variables: [u16; 16], budget: u16, trace: &mut [u
 // afterwards.
 pub fn run_hardened(
     lines: &[u8],
-    variables: [u16; 16],
+    variables: [u16; VARIABLES],
     budget: u16,
     step: u16,
     place: u16,

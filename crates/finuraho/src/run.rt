@@ -10,11 +10,16 @@ ghost use Rattle.rules.specs.Links.{Links};
 ghost use Rattle.rules.specs.Calls.{runSourceCall, runHardenedCall};
 ghost use Rattle.finuraho.specs.Given.{refusedRunWith, runs, hardenedRuns};
 use rules::answer::Ran;
+use rules::limits::COUNTERS;
+use rules::limits::FUNCTIONS;
+use rules::limits::ROWS;
+use rules::limits::VARIABLES;
 use rules::number;
 use rules::refusal::Refusal;
+use rules::strike::strike_by;
 
 // "Returned: number, zeros, variables as given."
-pub fn refused(r: Refusal, variables: [u16; 16]) -> Ran
+pub fn refused(r: Refusal, variables: [u16; VARIABLES]) -> Ran
     ensures { λ x. ⌜ x ≡ refusedRunWith r variables ⌝ }
 {
     Ran {
@@ -29,10 +34,10 @@ pub fn refused(r: Refusal, variables: [u16; 16]) -> Ran
 // Runs an accepted table whose links are known.
 pub fn source_run(
     rows: &[u8],
-    ends: &[u16; 1024],
-    elses: &[u16; 1024],
-    heads: &[u16; 32],
-    variables: [u16; 16],
+    ends: &[u16; ROWS],
+    elses: &[u16; ROWS],
+    heads: &[u16; FUNCTIONS],
+    variables: [u16; VARIABLES],
     budget: u16,
     trace: &mut [u16],
 ) -> Ran
@@ -49,7 +54,7 @@ pub fn source_run(
 // Runs a hardened table.
 pub fn hardened_run(
     lines: &[u8],
-    variables: [u16; 16],
+    variables: [u16; VARIABLES],
     budget: u16,
     step: u16,
     place: u16,
@@ -64,8 +69,9 @@ pub fn hardened_run(
     if slots < budget as usize {
         return refused(Refusal::ShortRoom, variables);
     }
-    if words < 1024 {
+    if words < COUNTERS {
         return refused(Refusal::ShortRoom, variables);
     }
-    machine::table::run_table(lines, variables, budget, step, place, trace, counters)
+    let by = strike_by(step, place);
+    strike::table::run_table(lines, variables, budget, by, trace, counters)
 }

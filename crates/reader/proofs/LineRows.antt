@@ -15,7 +15,7 @@ use Rattle.rules.specs.Line.{Line, retLine, lineWidth, linesIn, lineAt, isRet}
 use Rattle.rules.specs.Function.{functionAt}
 use Rattle.rules.specs.ReadBack.{bare, leavesTo, rowFor, begins, functionRowIf}
 use Rattle.rules.proofs.Logic.{clash}
-use Rattle.line.specs.declared.Line.{Line}
+use Rattle.line.specs.declared.Line as Declared
 use Rattle.line.specs.declared.kind.LineKind as Lk
 use Rattle.line.specs.Read.{lineKindAt, structAt, asLine, endsFunction}
 use Rattle.line.proofs.Decode.{length-lines, line-is, ends-ret}
@@ -41,23 +41,23 @@ module _ {bs : List ℕ} {k : ℕ} (h : Here bs k) where
   row-is kd e = ap (rowFor (linesIn bs) k) (sym (line-is bs k inside ∙ ap (λ x. asLine x (structAt bs k)) e))
 
   -- the two bytes of n
-  low-is : low (structAt bs k .n) ≡ getD bs (lineWidth * k + 4) 0
+  low-is : low (structAt bs k .operands .n) ≡ getD bs (lineWidth * k + 4) 0
   unfolding structAt
   low-is = omega (arith, h .table .bytes .each (lineWidth * k + 4))
 
-  high-is : high (structAt bs k .n) ≡ getD bs (lineWidth * k + 5) 0
+  high-is : high (structAt bs k .operands .n) ≡ getD bs (lineWidth * k + 5) 0
   unfolding structAt
   high-is =
       let q : lineWidth * k + 4 + 1 ≡ lineWidth * k + 5 = omega arith in
-      let r : high (structAt bs k .n) ≡ getD bs (lineWidth * k + 4 + 1) 0 = omega (arith, h .table .bytes .each (lineWidth * k + 4)) in
+      let r : high (structAt bs k .operands .n) ≡ getD bs (lineWidth * k + 4 + 1) 0 = omega (arith, h .table .bytes .each (lineWidth * k + 4)) in
       r ∙ ap (λ i. getD bs i 0) q
 
   -- ---- the bytes of the row
   copied-bytes : (kind : ℕ) → six (copiedRow kind bs k)
-      ≡ kind ∷ structAt bs k .op ∷ structAt bs k .p ∷ structAt bs k .q ∷ low (structAt bs k .n) ∷ high (structAt bs k .n) ∷ []
+      ≡ kind ∷ structAt bs k .operands .op ∷ structAt bs k .operands .p ∷ structAt bs k .operands .q ∷ low (structAt bs k .operands .n) ∷ high (structAt bs k .operands .n) ∷ []
   unfolding structAt
   copied-bytes kind =
-      let l = structAt bs k in
+      let l = structAt bs k .operands in
       ap (λ x. kind ∷ l .op ∷ l .p ∷ l .q ∷ x ∷ getD bs (lineWidth * k + 5) 0 ∷ []) (sym low-is)
       ∙ ap (λ x. kind ∷ l .op ∷ l .p ∷ l .q ∷ low (l .n) ∷ x ∷ []) (sym high-is)
 
@@ -78,7 +78,7 @@ module _ {bs : List ℕ} {k : ℕ} (h : Here bs k) where
         let l = structAt bs k in
         added-as q
         (copied-bytes (testKind bs k)
-        ∙ first-byte (l .op ∷ l .p ∷ l .q ∷ low (l .n) ∷ high (l .n) ∷ []) (byte-of (leavesTo k (lineAt (linesIn bs) (l .go - 1))) Loop If)
+        ∙ first-byte (l .operands .op ∷ l .operands .p ∷ l .operands .q ∷ low (l .operands .n) ∷ high (l .operands .n) ∷ []) (byte-of (leavesTo k (lineAt (linesIn bs) (l .go - 1))) Loop If)
         ∙ ap tableBytes (row-is Lk.the-variants.Test e))
         a
 
@@ -135,7 +135,7 @@ unfolding tableBytes
 no-function-row rows at e = rw e (added-none rows at)
 
 -- ---- a line that may be beyond the table
-leave-is : (k : ℕ) (kd : Lk.LineKind) (l : Fields) → isLeave kd ≡ true → leavesTo k (asLine kd l) ≡ eqb (l .go) k
+leave-is : (k : ℕ) (kd : Lk.LineKind) (l : Declared.Line) → isLeave kd ≡ true → leavesTo k (asLine kd l) ≡ eqb (l .go) k
 leave-is k Lk.the-variants.Do l e = clash e refl
 leave-is k Lk.the-variants.Tick l e = clash e refl
 leave-is k Lk.the-variants.Test l e = clash e refl
@@ -145,7 +145,7 @@ leave-is k Lk.the-variants.Call l e = clash e refl
 leave-is k Lk.the-variants.Back l e = clash e refl
 leave-is k Lk.the-variants.Ret l e = clash e refl
 
-leave-not : (k : ℕ) (kd : Lk.LineKind) (l : Fields) → isLeave kd ≡ false → leavesTo k (asLine kd l) ≡ false
+leave-not : (k : ℕ) (kd : Lk.LineKind) (l : Declared.Line) → isLeave kd ≡ false → leavesTo k (asLine kd l) ≡ false
 leave-not k Lk.the-variants.Do l e = refl
 leave-not k Lk.the-variants.Tick l e = refl
 leave-not k Lk.the-variants.Test l e = refl

@@ -2,8 +2,9 @@
 ghost use mathlib.Core.Path.{_≡_};
 ghost use Prim.Native.Nat.{_+_, _*_, _≤_};
 ghost use lib.ListN.{length};
+ghost use Rattle.rules.specs.Limits.{maxLines};
 ghost use Rattle.rules.specs.Row.{tableBytes};
-ghost use Rattle.rules.specs.Line.{linesIn, lineAt};
+ghost use Rattle.rules.specs.Line.{lineWidth, linesIn, lineAt};
 ghost use Rattle.rules.specs.Function.{functionAt};
 ghost use Rattle.rules.specs.ReadBack.{leavesTo, begins, functionRowIf, rowFor};
 ghost use Rattle.line.specs.Read.{structAt};
@@ -13,12 +14,15 @@ ghost use Rattle.reader.specs.Candidate.{isLeave, testKind, leaveKind, o
 use crate::dos::dos;
 use crate::functions;
 use crate::row::Row;
-use machine::fields;
-use machine::fields::LineKind;
+use line::Line;
+use line::kind::LineKind;
+use line::read;
 use rules::bytes::word;
+use rules::limits::LINES;
+use rules::limits::ROWS;
 
 // The bytes of the largest table.
-pub const LARGEST: usize = 6144;
+pub const LARGEST: usize = ROWS * Row::WIDTH;
 
 // The kinds of rows.
 const FUNCTION: u8 = 1;
@@ -63,10 +67,10 @@ fn is_leave(kind: LineKind) -> bool
 
 // Where a line goes.
 fn go_of(lines: &[u8], line: u16) -> u16
-    requires { ⌜ 20 * line + 20 ≤ length (now lines) ⌝ }
+    requires { ⌜ lineWidth * line + lineWidth ≤ length (now lines) ⌝ }
     ensures { λ r. ⌜ r ≡ structAt (now (lines .entry)) line .go ⌝ }
 {
-    word(lines, 20 * (line as usize) + 18)
+    word(lines, Line::WIDTH * (line as usize) + 18)
 }
 
 // Whether the line, where there is one, is a leave to line k.
@@ -74,11 +78,11 @@ fn leaves_to(lines: &[u8], line: u16, k: u16) -> bool
     requires { ⌜ Short (now lines) ⌝ }
     ensures { λ r. ⌜ r ≡ leavesTo k (lineAt (linesIn (now (lines .entry))) line) ⌝ }
 {
-    let count = (lines.len() / 20) as u16;
+    let count = (lines.len() / Line::WIDTH) as u16;
     if line >= count {
         return false;
     }
-    if is_leave(fields::kind_at(lines, line)) {
+    if is_leave(read::kind_at(lines, line)) {
         return go_of(lines, line) == k;
     }
     false
@@ -128,11 +132,11 @@ fn out_kind(lines: &[u8], line: u16) -> u8
 }
 
 // The function of the line that a call goes to; of the end of the table, where it goes beyond.
-fn callee(lines: &[u8], owners: &[u16; 2049], line: u16) -> u16
+fn callee(lines: &[u8], owners: &[u16; LINES + 1], line: u16) -> u16
     requires { ⌜ (Here (now lines) line) × (Numbered (now lines) (now owners)) ⌝ }
     ensures { λ r. ⌜ r ≡ functionAt (linesIn (now (lines .entry))) (structAt (now (lines .entry)) line .go) ⌝ }
 {
-    let count = lines.len() / 20;
+    let count = lines.len() / Line::WIDTH;
     let go = go_of(lines, line) as usize;
     if go < count {
         return owners[go];
@@ -156,15 +160,15 @@ fn opens_next(lines: &[u8], line: u16) -> bool
     requires { ⌜ Here (now lines) line ⌝ }
     ensures { λ r. ⌜ r ≡ begins (linesIn (now (lines .entry))) (line + 1) ⌝ }
 {
-    functions::ends_function(fields::kind_at(lines, line))
+    functions::ends_function(read::kind_at(lines, line))
 }
 
 // Puts the row that a line stands for; a tick and a back stand for none of their own.
-fn stand(lines: &[u8], owners: &[u16; 2049], line: u16, rows: &mut [u8], at: usize) -> usize
+fn stand(lines: &[u8], owners: &[u16; LINES + 1], line: u16, rows: &mut [u8], at: usize) -> usize
     requires { ⌜ (Here (now lines) line) × (Numbered (now lines) (now owners)) × (at + 6 ≤ length (now rows)) ⌝ }
     ensures { λ r. ⌜ Added (tableBytes (rowFor (linesIn (now (lines .entry))) line (lineAt (linesIn (now (lines .entry))) line))) (now (rows .entry)) (now (rows .exit)) at r ⌝ }
 {
-    match fields::kind_at(lines, line) {
+    match read::kind_at(lines, line) {
         LineKind::Do => Row::copied(DO, lines, line).write(rows, at),
         LineKind::Tick => at,
         LineKind::Test => Row::copied(test_kind(lines, line), lines, line).write(rows, at),
@@ -178,7 +182,7 @@ fn stand(lines: &[u8], owners: &[u16; 2049], line: u16, rows: &mut [u8], at: usi
 
 // The dos from this line on, where no function opens: the line behind them.
 fn past_dos(opening: bool, lines: &[u8], line: u16, rows: &mut [u8], at: usize) -> u16
-    requires { ⌜ (Short (now lines)) × (line ≤ 2048) × (length (now rows) ≡ 6156) ⌝ }
+    requires { ⌜ (Short (now lines)) × (line ≤ maxLines) × (length (now rows) ≡ 6156) ⌝ }
     ensures { λ r. ⌜ DosRead opening (now (lines .entry)) (now (rows .entry)) (now (rows .exit)) at line r ⌝ }
 {
     if opening {
@@ -188,11 +192,11 @@ fn past_dos(opening: bool, lines: &[u8], line: u16, rows: &mut [u8], at: usize) 
 }
 
 // The rows of all lines; of no more lines where the rows are too many already.
-pub fn read_rows(lines: &[u8], owners: &[u16; 2049], rows: &mut [u8]) -> Candidate
+pub fn read_rows(lines: &[u8], owners: &[u16; LINES + 1], rows: &mut [u8]) -> Candidate
     requires { ⌜ (Short (now lines)) × (Numbered (now lines) (now owners)) × (length (now rows) ≡ 6156) ⌝ }
     ensures { λ r. ⌜ CandidateIs (now (lines .entry)) (now (rows .exit)) r ⌝ }
 {
-    let count = (lines.len() / 20) as u16;
+    let count = (lines.len() / Line::WIDTH) as u16;
     let mut at = 0;
     let mut opening = true;
     let mut line: u16 = 0;

@@ -3,27 +3,29 @@ ghost use mathlib.Core.Path.{_≡_};
 ghost use mathlib.Core.Bool.{true, false};
 ghost use Prim.Native.Nat.{_≤_, _<_};
 ghost use lib.ListN.{length};
+ghost use Rattle.rules.specs.Limits.{maxLines};
 ghost use Rattle.reader.specs.Functions.{Short};
 ghost use Rattle.reader.specs.Candidate.{Pair, DosRead};
 use crate::candidate::DO;
 use crate::candidate::LARGEST;
 use crate::row::Row;
-use machine::fields;
-use machine::fields::LineKind;
+use line::Line;
+use line::kind::LineKind;
+use line::read;
 
 // Whether a do and its tick stand here.
 fn is_pair(lines: &[u8], line: u16) -> bool
     requires { ⌜ (Short (now lines)) × (line < 65535) ⌝ }
     ensures { λ r. ⌜ (r ≡ true → Pair (now (lines .entry)) line) ⌝ }
 {
-    let count = (lines.len() / 20) as u16;
+    let count = (lines.len() / Line::WIDTH) as u16;
     if line + 1 >= count {
         return false;
     }
-    let LineKind::Do = fields::kind_at(lines, line) else {
+    let LineKind::Do = read::kind_at(lines, line) else {
         return false;
     };
-    let LineKind::Tick = fields::kind_at(lines, line + 1) else {
+    let LineKind::Tick = read::kind_at(lines, line + 1) else {
         return false;
     };
     true
@@ -31,7 +33,7 @@ fn is_pair(lines: &[u8], line: u16) -> bool
 
 // Puts the rows of the dos from this line on: the line behind the last of them and its tick.
 pub fn dos(lines: &[u8], line: u16, rows: &mut [u8], at: usize) -> u16
-    requires { ⌜ (Short (now lines)) × (line ≤ 2048) × (length (now rows) ≡ 6156) ⌝ }
+    requires { ⌜ (Short (now lines)) × (line ≤ maxLines) × (length (now rows) ≡ 6156) ⌝ }
     ensures { λ r. ⌜ DosRead false (now (lines .entry)) (now (rows .entry)) (now (rows .exit)) at line r ⌝ }
 {
     let mut next = line;

@@ -2,10 +2,13 @@
 ghost use mathlib.Core.Path.{_≡_};
 ghost use Prim.Native.Nat.{_+_, _*_, _≤_, _<_};
 ghost use lib.ListN.{length};
+ghost use Rattle.rules.specs.Limits.{maxLines};
+ghost use Rattle.rules.specs.Line.{lineWidth};
 ghost use Rattle.line.specs.Read.{lineKindAt, endsFunction};
 ghost use Rattle.reader.specs.Functions.{passed, Short, Numbered};
-use machine::fields;
-use machine::fields::LineKind;
+use line::Line;
+use line::kind::LineKind;
+use line::read;
 
 pub fn ends_function(kind: LineKind) -> bool
     ensures { λ r. ⌜ r ≡ endsFunction kind ⌝ }
@@ -24,10 +27,10 @@ pub fn ends_function(kind: LineKind) -> bool
 
 // The function of the line after this one.
 fn pass(lines: &[u8], line: u16, function: u16) -> u16
-    requires { ⌜ (20 * line + 20 ≤ length (now lines)) × (function < 65535) ⌝ }
+    requires { ⌜ (lineWidth * line + lineWidth ≤ length (now lines)) × (function < 65535) ⌝ }
     ensures { λ r. ⌜ r ≡ passed (lineKindAt (now (lines .entry)) line) function ⌝ }
 {
-    if ends_function(fields::kind_at(lines, line)) {
+    if ends_function(read::kind_at(lines, line)) {
         return function + 1;
     }
     function
@@ -42,10 +45,10 @@ fn store(words: &mut [u16], at: usize, x: u16)
 
 // Word k becomes the function of line k; the word behind the last line's is the number of functions.
 pub fn number_lines(lines: &[u8], owners: &mut [u16])
-    requires { ⌜ (Short (now lines)) × (length (now owners) ≡ 2049) ⌝ }
+    requires { ⌜ (Short (now lines)) × (length (now owners) ≡ maxLines + 1) ⌝ }
     ensures { λ _. ⌜ Numbered (now (lines .entry)) (now (owners .exit)) ⌝ }
 {
-    let count = (lines.len() / 20) as u16;
+    let count = (lines.len() / Line::WIDTH) as u16;
     let mut function: u16 = 0;
     let mut line: u16 = 0;
     while line < count {

@@ -7,6 +7,8 @@ ghost use Rattle.reader.specs.Functions.{Short};
 ghost use Rattle.reader.specs.Candidate.{CandidateIs};
 ghost use Rattle.reader.specs.Found.{JudgedIs, FoundIs};
 use crate::candidate::Candidate;
+use line::Line;
+use rules::limits::LINES;
 
 pub mod candidate;
 pub mod compare;
@@ -14,8 +16,8 @@ pub mod dos;
 pub mod functions;
 pub mod row;
 
-// The bytes of the longest hardened table: two lines for each of 1,024 rows.
-const LONGEST: usize = 40960;
+// The bytes of the longest hardened table.
+const LONGEST: usize = LINES * Line::WIDTH;
 
 pub enum Found {
     NotHardened,
@@ -24,8 +26,8 @@ pub enum Found {
 }
 
 // A word for each line and for the end of the table.
-fn line_words() -> [u16; 2049] {
-    [0; 2049]
+fn line_words() -> [u16; LINES + 1] {
+    [0; LINES + 1]
 }
 
 // Room for the largest table, and for two rows more.

@@ -2,8 +2,11 @@
 ghost use mathlib.Core.Path.{_≡_};
 ghost use Prim.Native.Nat.{_+_, _*_, _≤_};
 ghost use lib.ListN.{length};
+ghost use Rattle.rules.specs.Line.{lineWidth};
 ghost use Rattle.reader.specs.Row.{six, bareRow, copiedRow, callRow, Added};
-use hardener::line;
+use line::Line;
+use line::bytes::high;
+use line::bytes::low;
 
 pub struct Row {
     pub kind: u8,
@@ -34,10 +37,10 @@ impl Row {
 
     // A row with the fields of a line.
     pub fn copied(kind: u8, lines: &[u8], line: u16) -> Row
-        requires { ⌜ 20 * line + 20 ≤ length (now lines) ⌝ }
+        requires { ⌜ lineWidth * line + lineWidth ≤ length (now lines) ⌝ }
         ensures { λ r. ⌜ r ≡ copiedRow kind (now (lines .entry)) line ⌝ }
     {
-        let k = 20 * (line as usize);
+        let k = Line::WIDTH * (line as usize);
         Row {
             kind,
             op: lines[k + 1],
@@ -57,8 +60,8 @@ impl Row {
             op: 0,
             p: 0,
             q: 0,
-            low: line::low(function),
-            high: line::high(function),
+            low: low(function),
+            high: high(function),
         }
     }
 
