@@ -18,7 +18,7 @@ use Rattle.rules.proofs.Scan.{chain}
 use Rattle.rules.proofs.Accepted.{proper, table-length}
 use Rattle.rules.proofs.Function.{formed, isBody, placed-in}
 use Rattle.layout.specs.declared.spot.Spot.{Spot}
-use Rattle.layout.specs.Place.{Surveyed}
+use Rattle.layout.specs.Scope.{Surveyed}
 use Rattle.layout.specs.Number.{valueOf}
 use Rattle.layout.specs.Spot.{Inside, InLoop, SpotIs, childOf, inBody, isLoop, OpenerIs, LoopIs}
 use Rattle.layout.proofs.Around.{outer, same-body, from-loop}

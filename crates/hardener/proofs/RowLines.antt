@@ -24,7 +24,7 @@ use Rattle.rules.proofs.Close.{Turned, else-is}
 use Rattle.rules.proofs.Function.{placed-in}
 use Rattle.rules.proofs.RegionBound.{else-bound}
 use Rattle.layout.specs.declared.spot.Spot.{Spot}
-use Rattle.layout.specs.Place.{Surveyed}
+use Rattle.layout.specs.Scope.{Surveyed}
 use Rattle.layout.specs.Number.{valueOf}
 use Rattle.layout.specs.Spot.{Inside, Opens, Grows, SpotIs, childOf, Elses}
 use Rattle.layout.proofs.Survey.{some-open}

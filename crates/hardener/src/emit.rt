@@ -4,7 +4,7 @@ ghost use Prim.Native.Nat.{_/_, _<_};
 ghost use lib.ListN.{length};
 ghost use Rattle.rules.specs.Row.{tableOf};
 ghost use Rattle.rules.specs.Calls.{over};
-ghost use Rattle.layout.specs.Place.{Surveyed};
+ghost use Rattle.layout.specs.Scope.{Surveyed};
 ghost use Rattle.layout.specs.Layout.{Laid};
 ghost use Rattle.layout.specs.Spot.{Ends, Elses, Heads};
 ghost use Rattle.line.specs.Line.{struct};

@@ -4,7 +4,7 @@ ghost use Prim.Native.Nat.{_/_, _≤_, _<_};
 ghost use lib.ListN.{length};
 ghost use Rattle.rules.specs.declared.kind.Kind.{Kind};
 ghost use Rattle.rules.specs.Row.{tableOf, kindAt};
-ghost use Rattle.layout.specs.Place.{Surveyed};
+ghost use Rattle.layout.specs.Scope.{Surveyed};
 ghost use Rattle.layout.specs.Number.{Based, Valued};
 ghost use Rattle.layout.specs.Spot.{Inside, InLoop, Opens, Grows, Ends, Elses, Heads};
 ghost use Rattle.line.specs.Line.{struct};

@@ -17,8 +17,8 @@ use Rattle.rules.proofs.Scan.{Chain, chain, body-least}
 use Rattle.rules.proofs.Value.{takes-top}
 use Rattle.rules.proofs.Accepted.{table-length}
 use Rattle.rules.proofs.Function.{Formed, formed, isBody}
-use Rattle.layout.specs.declared.place.Place.{Place}
-use Rattle.layout.specs.Place.{placeOf, Stands}
+use Rattle.layout.specs.declared.scope.Scope.{Scope}
+use Rattle.layout.specs.Scope.{scopeOf, Stands}
 use Rattle.layout.specs.Number.{takesAt}
 use Rattle.layout.proofs.Around.{from-loop}
 use Rattle.layout.proofs.Survey.{ok, within, kind-is, not-misplaced, some-open}
@@ -55,7 +55,7 @@ part-end : (t : Table) (f : Open) (fs : List Open) → Formed t (f ∷ fs) → (
 part-end t f [] g e = absurd (e refl)
 part-end t f (h ∷ hs) g e = not-body-takes (f .part) (g .0)
 
-module _ {bs : List ℕ} {i : ℕ} {here : Place} {k : Kind} (s : Stands bs i here) (l : i < length bs / 6) (e : k ≡ kindAt (tableOf bs) i) where
+module _ {bs : List ℕ} {i : ℕ} {here : Scope} {k : Kind} (s : Stands bs i here) (l : i < length bs / 6) (e : k ≡ kindAt (tableOf bs) i) where
   pub takes-function : k ≡ Function → 0 ≡ takesAt (tableOf bs) i
   takes-function q = no-takes (tableOf bs) i Function (kind-is s l e q) (λ p. refl)
 
@@ -92,7 +92,7 @@ module _ {bs : List ℕ} {i : ℕ} {here : Place} {k : Kind} (s : Stands bs i he
   end-by : (d : ℕ) → k ≡ End
       → ((f : Open) (fs : List Open) → Formed (tableOf bs) (f ∷ fs) → Chain (regions (tableOf bs) i) (f ∷ fs) → here .region ≡ f .region → here .body ≡ bodyRegion (f ∷ fs) → takes End (f .part) ≡ d)
       → d ≡ takesAt (tableOf bs) i
-  unfolding takesAt placeOf misplacedIn
+  unfolding takesAt scopeOf misplacedIn
   end-by d q h = let z = some-open (openAt (tableOf bs) i) (not-misplaced s l e q) in by (z .0) (z .1) (z .2) (kind-is s l e q)
     where
       by : (f : Open) (hs : List Open) → openAt (tableOf bs) i ≡ f ∷ hs → kindAt (tableOf bs) i ≡ End

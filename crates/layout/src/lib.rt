@@ -8,11 +8,11 @@ ghost use Rattle.layout.specs.Layout.{Laid};
 ghost use Rattle.layout.specs.Number.{Spent};
 
 pub mod number;
-pub mod place;
+pub mod scope;
 pub mod row;
 pub mod spot;
 
-// Lays a table out: the map of its rows' places, the bases of its regions, the values of its rows. The words that become the bases
+// Lays a table out: the map of its rows' scopes, the bases of its regions, the values of its rows. The words that become the bases
 // must be 0 before: what the rows take is added up in them.
 pub fn lay_out(rows: &[u8], map: &mut [u16], bases: &mut [u16], values: &mut [u16])
     requires { ⌜ verdictOf (now rows) ≡ Accepted ⌝ }

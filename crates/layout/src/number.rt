@@ -5,15 +5,15 @@ ghost use lib.ListN.{length};
 ghost use Rattle.rules.specs.declared.refusal.Verdict.the-variants.{Accepted};
 ghost use Rattle.rules.specs.Row.{tableOf};
 ghost use Rattle.rules.specs.Check.{verdictOf};
-ghost use Rattle.layout.specs.Place.{Stands, Surveyed};
+ghost use Rattle.layout.specs.Scope.{Stands, Surveyed};
 ghost use Rattle.layout.specs.Number.{takesAt, valueOf, tookBefore, Took, Spent, Spends, sums, Summed, Based, Valued};
-use crate::place;
-use crate::place::Place;
+use crate::scope;
+use crate::scope::Scope;
 use crate::row;
 use rules::kind::Kind;
 
 // What row i takes in its region.
-fn take(rows: &[u8], i: usize, here: Place) -> u16
+fn take(rows: &[u8], i: usize, here: Scope) -> u16
     requires { ⌜ (Stands (now rows) i here) × (i < length (now rows) / 6) ⌝ }
     ensures { λ r. ⌜ (r ≡ takesAt (tableOf (now (rows .entry))) i) × (r ≤ 2) ⌝ }
 {
@@ -37,7 +37,7 @@ fn take(rows: &[u8], i: usize, here: Place) -> u16
 }
 
 // Adds what row i takes to the word of its region, and keeps in word i of `took` what the rows before it took there.
-fn spend(rows: &[u8], i: usize, here: Place, spent: &mut [u16], took: &mut [u16])
+fn spend(rows: &[u8], i: usize, here: Scope, spent: &mut [u16], took: &mut [u16])
     requires { ⌜ (Stands (now rows) i here) × (i < length (now rows) / 6) × (i < length (now took)) ⌝ }
     requires { ⌜ Spent (now rows) (now spent) i ⌝ }
     ensures { λ _. ⌜ Spends (now (rows .entry)) i (now (spent .exit)) (now (took .entry)) (now (took .exit)) ⌝ }
@@ -57,15 +57,15 @@ pub fn survey_and_spend(rows: &[u8], map: &mut [u16], spent: &mut [u16], took: &
     ensures { λ _. ⌜ (Spent (now (rows .entry)) (now (spent .exit)) (length (now (rows .entry)) / 6)) × (Took (now (rows .entry)) (now (took .exit)) (length (now (rows .entry)) / 6)) ⌝ }
 {
     let n = rows.len() / row::WIDTH;
-    let mut here = place::outermost();
+    let mut here = scope::outermost();
     let mut i = 0;
     while i < n {
-        place::keep(map, i, here);
+        scope::keep(map, i, here);
         spend(rows, i, here, spent, took);
-        here = place::after(rows, map, i, here);
+        here = scope::after(rows, map, i, here);
         i += 1;
     }
-    place::keep(map, n, here);
+    scope::keep(map, n, here);
 }
 
 // A running sum of 1 and the sizes: a region's size is 1 and what its rows take. Each word becomes the sum before it.
@@ -89,7 +89,7 @@ pub fn region_bases(rows: &[u8], map: &[u16], words: &mut [u16])
     ensures { λ _. ⌜ Based (now (rows .entry)) (now (words .exit)) ⌝ }
 {
     let n = rows.len() / row::WIDTH;
-    let end = place::stand(rows, map, n);
+    let end = scope::stand(rows, map, n);
     let count = row::index(end.opened) + 1;
     sum(words, count);
 }
@@ -100,7 +100,7 @@ fn value(rows: &[u8], map: &[u16], bases: &[u16], i: usize, took: u16) -> u16
     requires { ⌜ (Based (now rows) (now bases)) × (took ≡ tookBefore (tableOf (now rows)) i) ⌝ }
     ensures { λ r. ⌜ r ≡ valueOf (tableOf (now (rows .entry))) i ⌝ }
 {
-    let here = place::stand(rows, map, i);
+    let here = scope::stand(rows, map, i);
     let g = row::index(here.region);
     bases[g] + took
 }

@@ -5,7 +5,7 @@ use Rattle.layout.proofs.number.value.Statement.{statement}
 use Rattle.layout.proofs.number.value.Tie as tie
 use Rattle.layout.proofs.number.value.Reads as reads
 use Rattle.layout.proofs.number.value.Lts as lts
-use Rattle.layout.proofs.place.stand.Reads as stand-reads
+use Rattle.layout.proofs.scope.stand.Reads as stand-reads
 use Rattle.layout.proofs.row.index.Reads as index-reads
 
 stand-requires : tie.Need-stand-requires

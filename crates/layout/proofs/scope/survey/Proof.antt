@@ -1,15 +1,15 @@
--- `layout::place::survey` meets its contract. Assumes nothing.
+-- `layout::scope::survey` meets its contract. Assumes nothing.
 use Prim.Native.Nat.{_-_}
 use native.Mathlib.Omega.{arith}
 use Rattle.layout.proofs.Survey.{Surveying, surveys}
 use borrow.Author.Needs.{needs}
-use Rattle.layout.proofs.place.survey.Statement.{statement}
-use Rattle.layout.proofs.place.survey.Tie as tie
-use Rattle.layout.proofs.place.survey.Reads as reads
-use Rattle.layout.proofs.place.survey.Lts as lts
-use Rattle.layout.proofs.place.after.Reads as after-reads
-use Rattle.layout.proofs.place.keep.Reads as keep-reads
-use Rattle.layout.proofs.place.outermost.Reads as outermost-reads
+use Rattle.layout.proofs.scope.survey.Statement.{statement}
+use Rattle.layout.proofs.scope.survey.Tie as tie
+use Rattle.layout.proofs.scope.survey.Reads as reads
+use Rattle.layout.proofs.scope.survey.Lts as lts
+use Rattle.layout.proofs.scope.after.Reads as after-reads
+use Rattle.layout.proofs.scope.keep.Reads as keep-reads
+use Rattle.layout.proofs.scope.outermost.Reads as outermost-reads
 
 abbrev Inv-loop : tie.InvT-loop
 Inv-loop rows map₀ n here₀ i₀ map here i = Surveying rows map₀ map i here

@@ -5,11 +5,11 @@ ghost use lib.ListN.{length};
 ghost use Rattle.rules.specs.declared.refusal.Verdict.the-variants.{Accepted};
 ghost use Rattle.rules.specs.Row.{tableOf};
 ghost use Rattle.rules.specs.Check.{verdictOf};
-ghost use Rattle.layout.specs.Place.{placeAt, putPlace, placeOf, outermost, passed, entered, forked, looped, turned, closed, Mapped, Stands, Surveyed};
+ghost use Rattle.layout.specs.Scope.{scopeAt, putScope, scopeOf, outermost, passed, entered, forked, looped, turned, closed, Mapped, Stands, Surveyed};
 use crate::row;
 use rules::kind::Kind;
 
-pub struct Place {
+pub struct Scope {
     // Regions opened so far, in the whole table.
     pub opened: u16,
     // The innermost open region, and that of the function's body.
@@ -22,14 +22,14 @@ pub struct Place {
     pub line: u16,
 }
 
-// The place of the next row, after a row of each shape. Made field by field, so that it stays in registers.
-impl Place {
+// The scope of the next row, after a row of each shape. Made field by field, so that it stays in registers.
+impl Scope {
     // After a row that opens nothing and closes nothing.
-    fn passed(self, lines: u16) -> Place
+    fn passed(self, lines: u16) -> Scope
         requires { ⌜ (self .line ≤ 2048) × (lines ≤ 2) ⌝ }
         ensures { λ r. ⌜ r ≡ passed self lines ⌝ }
     {
-        Place {
+        Scope {
             opened: self.opened,
             region: self.region,
             body: self.body,
@@ -40,11 +40,11 @@ impl Place {
     }
 
     // After a function row.
-    fn entered(self, row: u16) -> Place
+    fn entered(self, row: u16) -> Scope
         requires { ⌜ self .opened ≤ 1024 ⌝ }
         ensures { λ r. ⌜ r ≡ entered self row ⌝ }
     {
-        Place {
+        Scope {
             opened: self.opened + 1,
             region: self.opened,
             body: self.opened,
@@ -55,11 +55,11 @@ impl Place {
     }
 
     // After an if row.
-    fn forked(self, row: u16) -> Place
+    fn forked(self, row: u16) -> Scope
         requires { ⌜ (self .opened ≤ 1024) × (self .line ≤ 2048) ⌝ }
         ensures { λ r. ⌜ r ≡ forked self row ⌝ }
     {
-        Place {
+        Scope {
             opened: self.opened + 1,
             region: self.opened,
             body: self.body,
@@ -70,11 +70,11 @@ impl Place {
     }
 
     // After a loop row.
-    fn looped(self, row: u16) -> Place
+    fn looped(self, row: u16) -> Scope
         requires { ⌜ (self .opened ≤ 1024) × (self .line ≤ 2048) ⌝ }
         ensures { λ r. ⌜ r ≡ looped self row ⌝ }
     {
-        Place {
+        Scope {
             opened: self.opened + 1,
             region: self.opened,
             body: self.body,
@@ -85,11 +85,11 @@ impl Place {
     }
 
     // After an else row.
-    fn turned(self) -> Place
+    fn turned(self) -> Scope
         requires { ⌜ (self .opened ≤ 1024) × (self .line ≤ 2048) ⌝ }
         ensures { λ r. ⌜ r ≡ turned self ⌝ }
     {
-        Place {
+        Scope {
             opened: self.opened + 1,
             region: self.opened,
             body: self.body,
@@ -99,12 +99,12 @@ impl Place {
         }
     }
 
-    // After an end row: what is open is what was open at the row that opened, whose place this is.
-    fn closed(self, opener: Place) -> Place
+    // After an end row: what is open is what was open at the row that opened, whose scope this is.
+    fn closed(self, opener: Scope) -> Scope
         requires { ⌜ self .line ≤ 2048 ⌝ }
         ensures { λ r. ⌜ r ≡ closed self opener ⌝ }
     {
-        Place {
+        Scope {
             opened: self.opened,
             region: opener.region,
             body: opener.body,
@@ -115,16 +115,16 @@ impl Place {
     }
 }
 
-// A place's words in the map.
+// A scope's words in the map.
 const WORDS: usize = 6;
 
-// The place at index i of the map.
-fn look(map: &[u16], i: usize) -> Place
+// The scope at index i of the map.
+fn look(map: &[u16], i: usize) -> Scope
     requires { ⌜ 6 * i + 6 ≤ length (now map) ⌝ }
-    ensures { λ r. ⌜ r ≡ placeAt (now (map .entry)) i ⌝ }
+    ensures { λ r. ⌜ r ≡ scopeAt (now (map .entry)) i ⌝ }
 {
     let k = WORDS * i;
-    Place {
+    Scope {
         opened: map[k],
         region: map[k + 1],
         body: map[k + 2],
@@ -134,18 +134,18 @@ fn look(map: &[u16], i: usize) -> Place
     }
 }
 
-// The place of row i of a table that is surveyed.
-pub fn stand(rows: &[u8], map: &[u16], i: usize) -> Place
+// The scope of row i of a table that is surveyed.
+pub fn stand(rows: &[u8], map: &[u16], i: usize) -> Scope
     requires { ⌜ (Surveyed (now rows) (now map)) × (i ≤ length (now rows) / 6) ⌝ }
     ensures { λ r. ⌜ Stands (now (rows .entry)) i r ⌝ }
 {
     look(map, i)
 }
 
-// Puts a place at index i of the map.
-pub fn keep(map: &mut [u16], i: usize, p: Place)
+// Puts a scope at index i of the map.
+pub fn keep(map: &mut [u16], i: usize, p: Scope)
     requires { ⌜ 6 * i + 6 ≤ length (now map) ⌝ }
-    ensures { λ _. ⌜ now (map .exit) ≡ putPlace (now (map .entry)) i p ⌝ }
+    ensures { λ _. ⌜ now (map .exit) ≡ putScope (now (map .entry)) i p ⌝ }
 {
     let k = WORDS * i;
     map[k] = p.opened;
@@ -156,11 +156,11 @@ pub fn keep(map: &mut [u16], i: usize, p: Place)
     map[k + 5] = p.line;
 }
 
-// The place of the row after row i.
-pub fn after(rows: &[u8], map: &[u16], i: usize, here: Place) -> Place
+// The scope of the row after row i.
+pub fn after(rows: &[u8], map: &[u16], i: usize, here: Scope) -> Scope
     requires { ⌜ (Stands (now rows) i here) × (i < length (now rows) / 6) ⌝ }
     requires { ⌜ (Mapped (now rows) (now map) (suc i)) × (6 * i + 6 ≤ length (now map)) ⌝ }
-    ensures { λ r. ⌜ r ≡ placeOf (tableOf (now (rows .entry))) (suc i) ⌝ }
+    ensures { λ r. ⌜ r ≡ scopeOf (tableOf (now (rows .entry))) (suc i) ⌝ }
 {
     let row = i as u16;
     match row::kind(rows, i) {
@@ -177,11 +177,11 @@ pub fn after(rows: &[u8], map: &[u16], i: usize, here: Place) -> Place
     }
 }
 
-// The place of row 0: nothing is open.
-pub fn outermost() -> Place
+// The scope of row 0: nothing is open.
+pub fn outermost() -> Scope
     ensures { λ r. ⌜ r ≡ outermost ⌝ }
 {
-    Place {
+    Scope {
         opened: 0,
         region: 0,
         body: 0,
@@ -191,7 +191,7 @@ pub fn outermost() -> Place
     }
 }
 
-// Fills the map with the place of each row, and of the end of the table.
+// Fills the map with the scope of each row, and of the end of the table.
 pub fn survey(rows: &[u8], map: &mut [u16])
     requires { ⌜ (verdictOf (now rows) ≡ Accepted) × (6150 ≤ length (now map)) ⌝ }
     ensures { λ _. ⌜ Surveyed (now (rows .entry)) (now (map .exit)) ⌝ }

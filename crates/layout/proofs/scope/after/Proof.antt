@@ -1,16 +1,16 @@
 use Rattle.layout.proofs.Survey.{nexts}
 use borrow.Author.Needs.{needs}
-use Rattle.layout.proofs.place.after.Statement.{statement}
-use Rattle.layout.proofs.place.after.Tie as tie
-use Rattle.layout.proofs.place.after.Reads as reads
-use Rattle.layout.proofs.place.after.Lts as lts
-use Rattle.layout.proofs.place.Place.closed.Reads as closed-reads
-use Rattle.layout.proofs.place.Place.entered.Reads as entered-reads
-use Rattle.layout.proofs.place.Place.forked.Reads as forked-reads
-use Rattle.layout.proofs.place.Place.looped.Reads as looped-reads
-use Rattle.layout.proofs.place.Place.passed.Reads as passed-reads
-use Rattle.layout.proofs.place.Place.turned.Reads as turned-reads
-use Rattle.layout.proofs.place.look.Reads as look-reads
+use Rattle.layout.proofs.scope.after.Statement.{statement}
+use Rattle.layout.proofs.scope.after.Tie as tie
+use Rattle.layout.proofs.scope.after.Reads as reads
+use Rattle.layout.proofs.scope.after.Lts as lts
+use Rattle.layout.proofs.scope.Scope.closed.Reads as closed-reads
+use Rattle.layout.proofs.scope.Scope.entered.Reads as entered-reads
+use Rattle.layout.proofs.scope.Scope.forked.Reads as forked-reads
+use Rattle.layout.proofs.scope.Scope.looped.Reads as looped-reads
+use Rattle.layout.proofs.scope.Scope.passed.Reads as passed-reads
+use Rattle.layout.proofs.scope.Scope.turned.Reads as turned-reads
+use Rattle.layout.proofs.scope.look.Reads as look-reads
 use Rattle.layout.proofs.row.index.Reads as index-reads
 use Rattle.layout.proofs.row.kind.Reads as kind-reads
 

@@ -9,11 +9,11 @@ use Rattle.rules.specs.Row.{Table, tableOf}
 use Rattle.rules.specs.Scan.{Open, openAt, regions, regionOf, bodyRegion, openerOf, fromLoop}
 use Rattle.rules.specs.Check.{verdictOf}
 use Rattle.rules.specs.Harden.{lineOf}
-use Rattle.layout.specs.declared.place.Place.{Place}
+use Rattle.layout.specs.declared.scope.Scope.{Scope}
 
--- the place that the map has at index i, and the map with a place put there
-abbrev pub placeAt : List ℕ → (i : ℕ) → Place
-placeAt m i =
+-- the scope that the map has at index i, and the map with a scope put there
+abbrev pub scopeAt : List ℕ → (i : ℕ) → Scope
+scopeAt m i =
     record {
       opened = getD m (6 * i) 0;
       region = getD m (6 * i + 1) 0;
@@ -23,15 +23,15 @@ placeAt m i =
       line = getD m (6 * i + 5) 0;
     }
 
-abbrev pub words : Place → List ℕ
+abbrev pub words : Scope → List ℕ
 words p = p .opened ∷ p .region ∷ p .body ∷ p .opener ∷ p .repeat ∷ p .line ∷ []
 
-unfoldable pub putPlace : List ℕ → (i : ℕ) → Place → List ℕ
-putPlace m i p = sets m (6 * i) (words p)
+unfoldable pub putScope : List ℕ → (i : ℕ) → Scope → List ℕ
+putScope m i p = sets m (6 * i) (words p)
 
--- the place where g regions are opened, the parts fs are open and l lines are written
-abbrev pub placed : (g : ℕ) → List Open → (l : ℕ) → Place
-placed g fs l =
+-- the scope where g regions are opened, the parts fs are open and l lines are written
+abbrev pub scoped : (g : ℕ) → List Open → (l : ℕ) → Scope
+scoped g fs l =
     record {
       opened = g;
       region = regionOf fs;
@@ -41,32 +41,32 @@ placed g fs l =
       line = l;
     }
 
--- the place of row i
-unfoldable pub placeOf : Table → (i : ℕ) → Place
-placeOf t i = placed (regions t i) (openAt t i) (lineOf t i)
+-- the scope of row i
+unfoldable pub scopeOf : Table → (i : ℕ) → Scope
+scopeOf t i = scoped (regions t i) (openAt t i) (lineOf t i)
 
--- the place of row 0: nothing is open
-abbrev pub outermost : Place
+-- the scope of row 0: nothing is open
+abbrev pub outermost : Scope
 outermost = record { opened = 0; region = 0; body = 0; opener = 0; repeat = 0; line = 0 }
 
--- the place of the next row, by what this row does to the open parts, and where it writes so many lines
-abbrev pub passed : Place → (lines : ℕ) → Place
+-- the scope of the next row, by what this row does to the open parts, and where it writes so many lines
+abbrev pub passed : Scope → (lines : ℕ) → Scope
 passed p n =
     record { opened = p .opened; region = p .region; body = p .body; opener = p .opener; repeat = p .repeat; line = p .line + n }
 
-abbrev pub entered : Place → (row : ℕ) → Place
+abbrev pub entered : Scope → (row : ℕ) → Scope
 entered p i =
     record { opened = p .opened + 1; region = p .opened; body = p .opened; opener = i; repeat = p .repeat; line = p .line }
 
-abbrev pub forked : Place → (row : ℕ) → Place
+abbrev pub forked : Scope → (row : ℕ) → Scope
 forked p i =
     record { opened = p .opened + 1; region = p .opened; body = p .body; opener = i; repeat = p .repeat; line = p .line + 1 }
 
-abbrev pub looped : Place → (row : ℕ) → Place
+abbrev pub looped : Scope → (row : ℕ) → Scope
 looped p i =
     record { opened = p .opened + 1; region = p .opened; body = p .body; opener = i; repeat = i; line = p .line + 1 }
 
-abbrev pub turned : Place → Place
+abbrev pub turned : Scope → Scope
 turned p =
     record {
       opened = p .opened + 1;
@@ -77,27 +77,27 @@ turned p =
       line = p .line + 1;
     }
 
-abbrev pub closed : Place → (opener : Place) → Place
+abbrev pub closed : Scope → (opener : Scope) → Scope
 closed p o =
     record { opened = p .opened; region = o .region; body = o .body; opener = o .opener; repeat = o .repeat; line = p .line + 1 }
 
--- the map has the places of the rows before row n
+-- the map has the scopes of the rows before row n
 pub record Mapped (bs m : List ℕ) (n : ℕ) : Type 0 where
-  pub each : (i : ℕ) → i < n → placeAt m i ≡ placeOf (tableOf bs) i
+  pub each : (i : ℕ) → i < n → scopeAt m i ≡ scopeOf (tableOf bs) i
 
--- the table is accepted, and the map has the place of each row and of the table's end
+-- the table is accepted, and the map has the scope of each row and of the table's end
 pub record Surveyed (bs m : List ℕ) : Type 0 where
   pub accepted : verdictOf bs ≡ Accepted
   pub few-rows : length bs / 6 ≤ 1024
   pub room : 6150 ≤ length m
   pub mapped : Mapped bs m (suc (length bs / 6))
 
--- the place of row i of an accepted table, with what its numbers keep to
-pub record Stands (bs : List ℕ) (i : ℕ) (here : Place) : Type 0 where
+-- the scope of row i of an accepted table, with what its numbers keep to
+pub record Stands (bs : List ℕ) (i : ℕ) (here : Scope) : Type 0 where
   pub accepted : verdictOf bs ≡ Accepted
   pub few-rows : length bs / 6 ≤ 1024
   pub row : i ≤ length bs / 6
-  pub is : here ≡ placeOf (tableOf bs) i
+  pub is : here ≡ scopeOf (tableOf bs) i
   pub opened-low : here .opened ≤ i
   pub region-low : here .region ≤ i
   pub opener-low : here .opener ≤ i

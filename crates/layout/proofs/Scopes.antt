@@ -1,4 +1,4 @@
--- The map after a place is put there, and the bounds of a place's numbers. Assumes nothing.
+-- The map after a scope is put there, and the bounds of a scope's numbers. Assumes nothing.
 use mathlib.Core.Logic.{_⊎_, inl, inr}
 use mathlib.Core.Path.{_≡_, refl, sym, ap, _∙_}
 use mathlib.Core.Bool.{Bool, true, false, cond}
@@ -17,8 +17,8 @@ use Rattle.rules.proofs.Scan.{Chain, chain}
 use Rattle.rules.proofs.Value.{AllHeld, held}
 use Rattle.rules.proofs.Accepted.{proper, table-length}
 use Rattle.rules.proofs.ValueBound.{regions-bound, line-bound}
-use Rattle.layout.specs.declared.place.Place.{Place}
-use Rattle.layout.specs.Place.{placeAt, words, putPlace, placed, placeOf, Mapped, Surveyed, Stands}
+use Rattle.layout.specs.declared.scope.Scope.{Scope}
+use Rattle.layout.specs.Scope.{scopeAt, words, putScope, placed, scopeOf, Mapped, Surveyed, Stands}
 
 -- ---- words that are stored one after the other
 sets-low : (vs l : List ℕ) (k j : ℕ) → j < k → getD (sets l k vs) j 0 ≡ getD l j 0
@@ -35,7 +35,7 @@ sets-in (v ∷ vs) l k (suc j) h g =
     ap (λ x. getD (sets (set l k v) (suc k) vs) x 0) q ∙ sets-in vs (set l k v) (suc k) j (omega (arith, length-set l k v)) (omega arith)
 
 -- six stores are one put
-pub stores : (k : ℕ) (m : List ℕ) (p : Place)
+pub stores : (k : ℕ) (m : List ℕ) (p : Scope)
     → set (set (set (set (set (set m k (p .opened)) (k + 1) (p .region)) (k + 2) (p .body)) (k + 3) (p .opener)) (k + 4) (p .repeat)) (k + 5) (p .line)
     ≡ sets m k (words p)
 stores k m p =
@@ -46,10 +46,10 @@ stores k m p =
     let e : k + 5 ≡ suc (suc (suc (suc (suc k)))) = omega arith in
     rw (a, b, c, d, e)
 
--- ---- the map after a put: another place, the place itself
-place-off : (m : List ℕ) (i j : ℕ) (p : Place) → j < i → placeAt (putPlace m i p) j ≡ placeAt m j
-unfolding putPlace
-place-off m i j p h = rw (
+-- ---- the map after a put: another scope, the scope itself
+scope-off : (m : List ℕ) (i j : ℕ) (p : Scope) → j < i → scopeAt (putScope m i p) j ≡ scopeAt m j
+unfolding putScope
+scope-off m i j p h = rw (
   sets-low (words p) m (6 * i) (6 * j) (omega arith),
   sets-low (words p) m (6 * i) (6 * j + 1) (omega arith),
   sets-low (words p) m (6 * i) (6 * j + 2) (omega arith),
@@ -58,9 +58,9 @@ place-off m i j p h = rw (
   sets-low (words p) m (6 * i) (6 * j + 5) (omega arith),
 )
 
-place-on : (m : List ℕ) (i : ℕ) (p : Place) → 6 * i + 6 ≤ length m → placeAt (putPlace m i p) i ≡ p
-unfolding putPlace
-place-on m i p h = rw (
+scope-on : (m : List ℕ) (i : ℕ) (p : Scope) → 6 * i + 6 ≤ length m → scopeAt (putScope m i p) i ≡ p
+unfolding putScope
+scope-on m i p h = rw (
   ap (λ x. getD (sets m (6 * i) (words p)) x 0) (sym (add-zero (6 * i))) ∙ sets-in (words p) m (6 * i) 0 h (omega arith),
   sets-in (words p) m (6 * i) 1 h (omega arith),
   sets-in (words p) m (6 * i) 2 h (omega arith),
@@ -69,13 +69,13 @@ place-on m i p h = rw (
   sets-in (words p) m (6 * i) 5 h (omega arith),
 )
 
-pub mapped-more : (bs m : List ℕ) (i : ℕ) (here : Place) → 6 * i + 6 ≤ length m → Mapped bs m i → here ≡ placeOf (tableOf bs) i
-    → Mapped bs (putPlace m i here) (suc i)
+pub mapped-more : (bs m : List ℕ) (i : ℕ) (here : Scope) → 6 * i + 6 ≤ length m → Mapped bs m i → here ≡ scopeOf (tableOf bs) i
+    → Mapped bs (putScope m i here) (suc i)
 mapped-more bs m i here h a e = record { each = λ j l. by j (eq-or-lt-of-le l) }
   where
-    by : (j : ℕ) → (suc j ≡ suc i) ⊎ (suc j < suc i) → placeAt (putPlace m i here) j ≡ placeOf (tableOf bs) j
-    by j (inl x) = let q : j ≡ i = omega arith in rw q (place-on m i here h ∙ e)
-    by j (inr x) = place-off m i j here (omega arith) ∙ a .each j (omega arith)
+    by : (j : ℕ) → (suc j ≡ suc i) ⊎ (suc j < suc i) → scopeAt (putScope m i here) j ≡ scopeOf (tableOf bs) j
+    by j (inl x) = let q : j ≡ i = omega arith in rw q (scope-on m i here h ∙ e)
+    by j (inr x) = scope-off m i j here (omega arith) ∙ a .each j (omega arith)
 
 -- ---- bounds
 opener-of : (t : Table) (i : ℕ) (fs : List Open) → AllHeld t i fs → openerOf fs ≤ i
@@ -100,9 +100,9 @@ region-regions t i = region-of (regions t i) (openAt t i) (chain t i)
 pub few-rows : (bs : List ℕ) → verdictOf bs ≡ Accepted → length bs / 6 ≤ 1024
 few-rows bs e = omega (arith, table-length bs, proper bs e .few-rows)
 
--- a place with the bounds that its numbers keep
-pub standing : {bs : List ℕ} {i : ℕ} {here : Place} → verdictOf bs ≡ Accepted → i ≤ length bs / 6 → here ≡ placeOf (tableOf bs) i → Stands bs i here
-unfolding placeOf
+-- a scope with the bounds that its numbers keep
+pub standing : {bs : List ℕ} {i : ℕ} {here : Scope} → verdictOf bs ≡ Accepted → i ≤ length bs / 6 → here ≡ scopeOf (tableOf bs) i → Stands bs i here
+unfolding scopeOf
 standing {bs} {i} {here} a l e =
     record {
       accepted = a;
@@ -116,5 +116,5 @@ standing {bs} {i} {here} a l e =
       line-low = omega (arith, ap (λ x. x .line) e, line-bound (tableOf bs) i);
     }
 
-pub stand-at : {bs m : List ℕ} {i : ℕ} {here : Place} → Surveyed bs m → i ≤ length bs / 6 → here ≡ placeAt m i → Stands bs i here
+pub stand-at : {bs m : List ℕ} {i : ℕ} {here : Scope} → Surveyed bs m → i ≤ length bs / 6 → here ≡ scopeAt m i → Stands bs i here
 stand-at {bs} {m} {i} s l e = standing (s .accepted) l (e ∙ s .mapped .each i (omega arith))

@@ -2,13 +2,13 @@ use Prim.Native.Nat.{_*_}
 use native.Mathlib.Omega.{arith}
 use lib.ListN.{length-set}
 use denote.Ref.{now}
-use Rattle.layout.specs.Place.{putPlace}
-use Rattle.layout.proofs.Places.{stores}
+use Rattle.layout.specs.Scope.{putScope}
+use Rattle.layout.proofs.Scopes.{stores}
 use borrow.Author.Needs.{needs}
-use Rattle.layout.proofs.place.keep.Statement.{statement}
-use Rattle.layout.proofs.place.keep.Tie as tie
-use Rattle.layout.proofs.place.keep.Reads as reads
-use Rattle.layout.proofs.place.keep.Lts as lts
+use Rattle.layout.proofs.scope.keep.Statement.{statement}
+use Rattle.layout.proofs.scope.keep.Tie as tie
+use Rattle.layout.proofs.scope.keep.Reads as reads
+use Rattle.layout.proofs.scope.keep.Lts as lts
 
 mul-k : tie.Need-mul-k
 mul-k c = search needs
@@ -68,7 +68,7 @@ same-length : tie.Need-same-length
 same-length c = search needs
 
 returns : tie.Need-returns
-unfolding putPlace
+unfolding putScope
 returns c = stores (6 * c .args .i) (now (c .args .map)) (c .args .p)
 
 pub keep-spec : {M : Type 1} → statement M
