@@ -2,6 +2,7 @@
 ghost use mathlib.Core.Path.{_≡_};
 ghost use Prim.Native.Nat.{_/_, _≤_, _<_};
 ghost use lib.ListN.{length};
+ghost use Rattle.rules.specs.Limits.{maxRows};
 ghost use Rattle.rules.specs.declared.kind.Kind.{Kind};
 ghost use Rattle.rules.specs.Row.{tableOf, kindAt};
 ghost use Rattle.layout.specs.Scope.{Surveyed};
@@ -15,7 +16,7 @@ use layout::spot;
 
 // The line that does row i.
 pub fn do_line(rows: &[u8], i: usize) -> Line
-    requires { ⌜ (length (now rows) / 6 ≤ 1024) × (i < length (now rows) / 6) × (kindAt (tableOf (now rows)) i ≡ Kind.Do) ⌝ }
+    requires { ⌜ (length (now rows) / 6 ≤ maxRows) × (i < length (now rows) / 6) × (kindAt (tableOf (now rows)) i ≡ Kind.Do) ⌝ }
     ensures { λ r. ⌜ r ≡ struct (rowLine (tableOf (now (rows .entry))) i 0) ⌝ }
 {
     Line::act(row::operands_of(rows, i), i as u16)

@@ -18,7 +18,7 @@ use Rattle.rules.proofs.Value.{AllHeld, held}
 use Rattle.rules.proofs.Accepted.{proper, table-length}
 use Rattle.rules.proofs.ValueBound.{regions-bound, line-bound}
 use Rattle.layout.specs.declared.scope.Scope.{Scope}
-use Rattle.layout.specs.Scope.{scopeAt, words, putScope, placed, scopeOf, Mapped, Surveyed, Stands}
+use Rattle.layout.specs.Scope.{scopeAt, words, putScope, scoped, scopeOf, Mapped, Surveyed, Stands}
 
 -- ---- words that are stored one after the other
 sets-low : (vs l : List ℕ) (k j : ℕ) → j < k → getD (sets l k vs) j 0 ≡ getD l j 0

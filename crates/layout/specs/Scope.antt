@@ -10,6 +10,11 @@ use Rattle.rules.specs.Scan.{Open, openAt, regions, regionOf, bodyRegion, opene
 use Rattle.rules.specs.Check.{verdictOf}
 use Rattle.rules.specs.Harden.{lineOf}
 use Rattle.layout.specs.declared.scope.Scope.{Scope}
+use Rattle.rules.specs.Limits.{maxRows}
+
+-- six words for each row and for the end of the table
+abbrev pub mapWords : ℕ
+mapWords = 6 * (maxRows + 1)
 
 -- the scope that the map has at index i, and the map with a scope put there
 abbrev pub scopeAt : List ℕ → (i : ℕ) → Scope
@@ -88,14 +93,14 @@ pub record Mapped (bs m : List ℕ) (n : ℕ) : Type 0 where
 -- the table is accepted, and the map has the scope of each row and of the table's end
 pub record Surveyed (bs m : List ℕ) : Type 0 where
   pub accepted : verdictOf bs ≡ Accepted
-  pub few-rows : length bs / 6 ≤ 1024
-  pub room : 6150 ≤ length m
+  pub few-rows : length bs / 6 ≤ maxRows
+  pub room : mapWords ≤ length m
   pub mapped : Mapped bs m (suc (length bs / 6))
 
 -- the scope of row i of an accepted table, with what its numbers keep to
 pub record Stands (bs : List ℕ) (i : ℕ) (here : Scope) : Type 0 where
   pub accepted : verdictOf bs ≡ Accepted
-  pub few-rows : length bs / 6 ≤ 1024
+  pub few-rows : length bs / 6 ≤ maxRows
   pub row : i ≤ length bs / 6
   pub is : here ≡ scopeOf (tableOf bs) i
   pub opened-low : here .opened ≤ i

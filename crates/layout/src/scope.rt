@@ -2,12 +2,17 @@
 ghost use mathlib.Core.Path.{_≡_};
 ghost use Prim.Native.Nat.{suc, _+_, _*_, _/_, _≤_, _<_};
 ghost use lib.ListN.{length};
+ghost use Rattle.rules.specs.Limits.{maxRows, maxLines};
 ghost use Rattle.rules.specs.declared.refusal.Verdict.the-variants.{Accepted};
 ghost use Rattle.rules.specs.Row.{tableOf};
 ghost use Rattle.rules.specs.Check.{verdictOf};
-ghost use Rattle.layout.specs.Scope.{scopeAt, putScope, scopeOf, outermost, passed, entered, forked, looped, turned, closed, Mapped, Stands, Surveyed};
+ghost use Rattle.layout.specs.Scope.{mapWords, scopeAt, putScope, scopeOf, outermost, passed, entered, forked, looped, turned, closed, Mapped, Stands, Surveyed};
 use crate::row;
 use rules::kind::Kind;
+use rules::limits::ROWS;
+
+// The words of a map.
+pub const MAP: usize = 6 * (ROWS + 1);
 
 pub struct Scope {
     // Regions opened so far, in the whole table.
@@ -26,7 +31,7 @@ pub struct Scope {
 impl Scope {
     // After a row that opens nothing and closes nothing.
     fn passed(self, lines: u16) -> Scope
-        requires { ⌜ (self .line ≤ 2048) × (lines ≤ 2) ⌝ }
+        requires { ⌜ (self .line ≤ maxLines) × (lines ≤ 2) ⌝ }
         ensures { λ r. ⌜ r ≡ passed self lines ⌝ }
     {
         Scope {
@@ -41,7 +46,7 @@ impl Scope {
 
     // After a function row.
     fn entered(self, row: u16) -> Scope
-        requires { ⌜ self .opened ≤ 1024 ⌝ }
+        requires { ⌜ self .opened ≤ maxRows ⌝ }
         ensures { λ r. ⌜ r ≡ entered self row ⌝ }
     {
         Scope {
@@ -56,7 +61,7 @@ impl Scope {
 
     // After an if row.
     fn forked(self, row: u16) -> Scope
-        requires { ⌜ (self .opened ≤ 1024) × (self .line ≤ 2048) ⌝ }
+        requires { ⌜ (self .opened ≤ maxRows) × (self .line ≤ maxLines) ⌝ }
         ensures { λ r. ⌜ r ≡ forked self row ⌝ }
     {
         Scope {
@@ -71,7 +76,7 @@ impl Scope {
 
     // After a loop row.
     fn looped(self, row: u16) -> Scope
-        requires { ⌜ (self .opened ≤ 1024) × (self .line ≤ 2048) ⌝ }
+        requires { ⌜ (self .opened ≤ maxRows) × (self .line ≤ maxLines) ⌝ }
         ensures { λ r. ⌜ r ≡ looped self row ⌝ }
     {
         Scope {
@@ -86,7 +91,7 @@ impl Scope {
 
     // After an else row.
     fn turned(self) -> Scope
-        requires { ⌜ (self .opened ≤ 1024) × (self .line ≤ 2048) ⌝ }
+        requires { ⌜ (self .opened ≤ maxRows) × (self .line ≤ maxLines) ⌝ }
         ensures { λ r. ⌜ r ≡ turned self ⌝ }
     {
         Scope {
@@ -101,7 +106,7 @@ impl Scope {
 
     // After an end row: what is open is what was open at the row that opened, whose scope this is.
     fn closed(self, opener: Scope) -> Scope
-        requires { ⌜ self .line ≤ 2048 ⌝ }
+        requires { ⌜ self .line ≤ maxLines ⌝ }
         ensures { λ r. ⌜ r ≡ closed self opener ⌝ }
     {
         Scope {
@@ -193,7 +198,7 @@ pub fn outermost() -> Scope
 
 // Fills the map with the scope of each row, and of the end of the table.
 pub fn survey(rows: &[u8], map: &mut [u16])
-    requires { ⌜ (verdictOf (now rows) ≡ Accepted) × (6150 ≤ length (now map)) ⌝ }
+    requires { ⌜ (verdictOf (now rows) ≡ Accepted) × (mapWords ≤ length (now map)) ⌝ }
     ensures { λ _. ⌜ Surveyed (now (rows .entry)) (now (map .exit)) ⌝ }
 {
     let n = rows.len() / row::WIDTH;

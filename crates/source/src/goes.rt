@@ -14,6 +14,7 @@ ghost use Rattle.layout.specs.Scope.{Surveyed};
 ghost use Rattle.layout.specs.Spot.{Inside, Opens, Ends, Elses, Heads};
 ghost use Rattle.source.specs.Goes.{endGoes, goOf, Known};
 use layout::scope;
+use layout::scope::MAP;
 use layout::row;
 use layout::spot;
 use rules::kind::Kind;
@@ -109,7 +110,7 @@ pub fn find(
     requires { ⌜ length (now goes) ≡ maxRows ⌝ }
     ensures { λ _. ⌜ Known (now (rows .entry)) (now (goes .exit)) ⌝ }
 {
-    let mut map = [0u16; 6150];
+    let mut map = [0u16; MAP];
     scope::survey(rows, &mut map);
     fill(rows, &map, ends, elses, heads, goes);
 }
