@@ -14,8 +14,8 @@ use Rattle.rules.specs.Limits.{maxFunctions}
 use Rattle.rules.specs.Row.{tableOf}
 use Rattle.rules.specs.Scan.{Part, thenPart, loopBody, Open, pushes, turns, closes, stays, partOf, fromLoop, regions, openAt, isFunction, functions}
 use Rattle.rules.specs.Check.{isOutside, isThen, misplacedIn, oneTooMany, allConstructs, allRegions}
-use Rattle.table.proofs.Verdicts.{row-misplaced, row-functions}
-use Rattle.table.proofs.Stepping.{or-true, few-parts, few-regions, many-regions, many-constructs}
+use Rattle.walk.proofs.Verdicts.{row-misplaced, row-functions}
+use Rattle.walk.proofs.Stepping.{or-true, few-parts, few-regions, many-regions, many-constructs}
 use Rattle.table.proofs.Functions.{next-function}
 use Rattle.fault.specs.declared.open.Standing.{Standing}
 use Rattle.fault.specs.declared.open.Next.{Next}

@@ -23,12 +23,12 @@ use Rattle.rules.proofs.Logic.{clash}
 use Rattle.rules.proofs.Search.{Found, hit, miss, found}
 use Rattle.rules.proofs.Accepted.{Proper, proper, refused-not}
 use Rattle.rules.proofs.Close.{end-is}
-use Rattle.table.specs.Standing.{Linked}
+use Rattle.walk.specs.Standing.{Linked}
 use Rattle.table.specs.Checking.{Scanned, AllOk}
 use Rattle.table.specs.declared.check.All.{All}
 use Rattle.table.specs.declared.check.All.the-variants.{Rejected, Counted}
-use Rattle.table.proofs.Once.{else-below}
-use Rattle.table.proofs.Verdicts.{none-open}
+use Rattle.walk.proofs.Once.{else-below}
+use Rattle.walk.proofs.Verdicts.{none-open}
 
 -- ---- the links of an accepted table
 opened-by : (k : Kind) → isOpening k ≡ true → (p : Part) × (shapeOf k ≡ pushes p)

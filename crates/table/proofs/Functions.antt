@@ -24,19 +24,20 @@ use Rattle.rules.proofs.Logic.{clash}
 use Rattle.rules.proofs.Search.{first-is}
 use Rattle.rules.proofs.Scan.{open-next, regions-next}
 use Rattle.rules.proofs.Function.{functions-mono}
-use Rattle.table.specs.First.{firstKind}
-use Rattle.table.specs.Standing.{Headed, Inside, Outside}
-use Rattle.table.specs.Walked.{TurnedAway, Before, seqRows, SeqOk}
+use Rattle.rows.specs.First.{firstKind}
+use Rattle.walk.specs.Standing.{Inside}
+use Rattle.table.specs.Outside.{Headed, Outside}
+use Rattle.walk.specs.Walked.{TurnedAway, Before, seqRows, SeqOk}
 use Rattle.table.specs.Checking.{strayCause, oneRows, OneOk}
-use Rattle.table.specs.declared.walk.Seq.{Seq}
-use Rattle.table.specs.declared.walk.Seq.the-variants.{Broken, AtEnd, AtElse}
+use Rattle.walk.specs.declared.answer.Seq.{Seq}
+use Rattle.walk.specs.declared.answer.Seq.the-variants.{Broken, AtEnd, AtElse}
 use Rattle.table.specs.declared.check.One.{One}
 use Rattle.table.specs.declared.check.One.the-variants.{Unsound, Long}
-use Rattle.table.proofs.Linking.{stays-linked, end-linked}
-use Rattle.table.proofs.Rows.{drops, isKnown, Reads, reads, reads-wrong, cut-length, cut-within, cut-on}
-use Rattle.table.proofs.Verdicts.{wrong-refused, row-good, misplaced-refused, functions-refused}
-use Rattle.table.proofs.Stepping.{inside-at, same-functions, else-misplaced}
-use Rattle.table.proofs.Nested.{seq-at}
+use Rattle.walk.proofs.Linking.{stays-linked, end-linked}
+use Rattle.rows.proofs.Rows.{drops, isKnown, Reads, reads, reads-wrong, cut-length, cut-within, cut-on}
+use Rattle.walk.proofs.Verdicts.{wrong-refused, row-good, misplaced-refused, functions-refused}
+use Rattle.walk.proofs.Stepping.{inside-at, same-functions, else-misplaced}
+use Rattle.walk.proofs.Nested.{seq-at}
 
 abbrev bodyOf : (base g : ℕ) → Open
 bodyOf base g = record { part = body; opener = base; region = g }

@@ -18,14 +18,15 @@ use Rattle.rules.specs.Scan.{openAt, functions, functionCount}
 use Rattle.rules.specs.Refusal.{andThen, refuseIf}
 use Rattle.rules.specs.Check.{isCall, noSuchFunction, rowsVerdict, callsVerdict}
 use Rattle.rules.proofs.Accepted.{table-length}
-use Rattle.table.specs.First.{callsBeyond}
-use Rattle.table.specs.Standing.{Linked, Headed, Outside}
+use Rattle.rows.specs.First.{callsBeyond}
+use Rattle.walk.specs.Standing.{Linked}
+use Rattle.table.specs.Outside.{Headed, Outside}
 use Rattle.table.specs.Checking.{oneRows, OneOk, Scanned, AllOk}
 use Rattle.table.specs.declared.check.One.{One}
 use Rattle.table.specs.declared.check.One.the-variants.{Unsound, Long}
 use Rattle.table.specs.declared.check.All.{All}
 use Rattle.table.specs.declared.check.All.the-variants.{Rejected, Counted}
-use Rattle.table.proofs.Rows.{rest-all, drops, cut-end, cut-row, cut-within}
+use Rattle.rows.proofs.Rows.{rest-all, drops, cut-end, cut-row, cut-within}
 use Rattle.table.proofs.Functions.{outside-at}
 
 -- ---- the functions: up to row `at`, with n of them

@@ -2,7 +2,7 @@
 use borrow.Author.Needs.{needs}
 use native.Mathlib.Omega.{arith}
 use Rattle.table.proofs.Functions.{bodies}
-use Rattle.table.proofs.Sequence.{rows-of}
+use Rattle.walk.proofs.Sequence.{rows-of}
 use Rattle.table.proofs.check.body.Statement.{statement}
 use Rattle.table.proofs.check.body.Tie as tie
 
