@@ -11,13 +11,11 @@ use Rattle.rules.specs.declared.refusal.Refusal.the-variants.{Misplaced}
 use Rattle.rules.specs.Row.{rowWidth}
 use Rattle.rules.specs.Scan.{Open}
 use Rattle.walk.specs.Standing.{Inside}
-use Rattle.walk.specs.Walked.{seqRows, stepRows, restRows, SeqOk, StepOk}
+use Rattle.walk.specs.Walked.{seqRows, stepRows, SeqOk, StepOk}
 use Rattle.walk.specs.declared.answer.Seq.{Seq}
 use Rattle.walk.specs.declared.answer.Seq.the-variants.{Broken, AtEnd, AtElse}
 use Rattle.walk.specs.declared.answer.Step.{Step}
 use Rattle.walk.specs.declared.answer.Step.the-variants.{Faulty, Past, EndHere, ElseHere}
-use Rattle.walk.specs.declared.answer.Rest.{Rest}
-use Rattle.walk.specs.declared.answer.Rest.the-variants.{Torn, Rows}
 use Rattle.rows.proofs.Rows.{rest-all, drops}
 use Rattle.walk.proofs.Stepping.{inside-at, inside-end}
 
@@ -95,8 +93,4 @@ pub past-rows : (r : Step) (k o : ℕ) → r ≡ Past k o → stepRows r ≡ k
 unfolding stepRows
 past-rows r k o m = ap stepRows m
 
-pub rest-rows-are : (r : Rest) (k o : ℕ) → r ≡ Rows k o → restRows r ≡ k
-unfolding restRows
-rest-rows-are r k o m = ap restRows m
-
-pub ruleset rows-of = (end-rows, else-rows, past-rows, rest-rows-are)
+pub ruleset rows-of = (end-rows, else-rows, past-rows)
