@@ -6,3 +6,4 @@ pub mod Stepping
 pub mod Constructs
 pub mod Nested
 pub mod Sequence
+pub mod Asked

@@ -149,11 +149,3 @@ module _ {xs : List ℕ} {base d o : ℕ} {b : Bool} {e l : List ℕ} {f : Bool}
           leads = λ bs h hs n w. as-step e'' l3 w a (u .leads bs (regions (tableOf bs) base) h hs n
               (rw (← drops xs 6 (6 * k) (6 * (k + 1)) x) (s .leads bs (thenOf base (regions (tableOf bs) base)) (h ∷ hs) n (enters w))));
         }
-
-pub ruleset ifs = (if-over, if-broken, if-ended, if-rest)
-
-pub ruleset elses = (else-over, else-last)
-
-pub ruleset loops-in = (loop-over, loop-last)
-
-pub ruleset lasts = (last-broken, last-turned, last-ended)

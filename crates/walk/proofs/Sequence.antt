@@ -78,8 +78,6 @@ module _ {xs : List ℕ} {base d o : ℕ} {b : Bool} {e₀ l₀ e l : List ℕ} 
       leads = λ bs h hs n w. inside-at (s .leads bs h hs n (v .leads bs h hs n w)) (drops xs (6 * at) (6 * k) (6 * (at + k)) (omega arith)) (omega arith) refl refl;
     }
 
-pub ruleset sequences = (to-start, to-out, to-broken, to-end, to-else, to-past)
-
 -- ---- rules for `omega`
 pub end-rows : (r : Seq) (k o : ℕ) → r ≡ AtEnd k o → seqRows r ≡ k + 1
 unfolding seqRows
