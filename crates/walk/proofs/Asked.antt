@@ -11,7 +11,7 @@ use mir.Val.{Fits}
 use Rattle.rules.specs.Limits.{maxRows, maxConstructs, maxRegions}
 use Rattle.rules.specs.Row.{rowWidth}
 use Rattle.rows.proofs.Rows.{rest-all}
-use Rattle.walk.specs.Walked.{seqRows, stepRows, SeqOk, StepOk}
+use Rattle.walk.specs.Walked.{SeqOk, StepOk}
 use Rattle.walk.specs.declared.answer.Seq.{Seq}
 use Rattle.walk.specs.declared.answer.Seq.the-variants.{AtEnd, AtElse}
 use Rattle.walk.specs.declared.answer.Step.{Step}

@@ -6,12 +6,11 @@ use Prim.Native.Nat.{ℕ, suc, _+_, _*_, _-_, _≤_, _<_}
 use native.Mathlib.Numerals.{add-one}
 use native.Mathlib.Omega.{arith}
 use lib.ListN.{length, take, drop, set, length-drop}
-use Rattle.rules.specs.declared.kind.Kind.the-variants.{If, Else, Loop, End}
+use Rattle.rules.specs.declared.kind.Kind.the-variants.{If, Loop, End}
 use Rattle.rules.specs.declared.refusal.Refusal.{Refusal}
 use Rattle.rules.specs.declared.refusal.Refusal.the-variants.{Misplaced, TooManyParts}
 use Rattle.rules.specs.Row.{rowWidth, tableOf}
-use Rattle.rules.specs.Scan.{Part, thenPart, elsePart, loopBody, Open, regions}
-use Rattle.rules.specs.Check.{isThen}
+use Rattle.rules.specs.Scan.{Part, elsePart, loopBody, Open, regions}
 use Rattle.rows.specs.First.{firstKind}
 use Rattle.rows.proofs.Rows.{rest-all, drops, cut-on}
 use Rattle.walk.specs.Standing.{hasLoop, Inside}
