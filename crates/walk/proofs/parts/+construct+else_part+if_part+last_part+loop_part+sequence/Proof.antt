@@ -1,8 +1,9 @@
 -- The walkers meet their contracts: `sequence`, `construct` and the four nested forms prove one another, with the bytes left and a
 -- rank as the measure. The laws of Constructs, Nested and Sequence answer the returns, those of Asked and Limits what calls and sums
--- ask. Each is handed the facts that it needs: nothing is searched. Assumes nothing.
+-- ask. Each is handed the facts that it needs, so that little is searched. Assumes nothing.
 use mathlib.Core.Path.{_∙_}
 use native.Mathlib.Nat.{le-refl}
+use native.Mathlib.Omega.{arith}
 use lib.ListN.{length}
 use Rattle.walk.proofs.Constructs.{kind-at, at-function, at-unknown, at-wrong, at-dos, at-call, at-end, at-else, at-break, at-continue}
 use Rattle.walk.proofs.Asked.{below-one, below-two, fits-depth, fits-opened, fits-row, fits-next, row-room, first-room, inner-range, inner-below, inner-under, end-inside, else-inside, else-from, else-long, else-range, else-below, after, after-base, fits-count, fits-bytes, short, count-below, at-fits, at-end-fits, here-fits, here-below, here-range, here-long, on-fits, on-less}
@@ -253,10 +254,10 @@ last-part-closed t =
     (λ c. c .before .before .before .pre .1 .0 .2)
     (λ c. c .before .before .before .pre .1 .0 .2)
     (λ c. le-refl _)
-    (λ c. fits-next _ _ (c .before .before .before .before .pre .1 .0 .0))
+    (λ c. omega (arith, c .before .before .before .before .pre .1 .0 .0))
     (λ c. fits-depth _ (c .before .before .before .before .pre .1 .1 .1 .0))
     (λ c. fits-opened _ (c .before .before .before .before .pre .1 .1 .1 .1))
-    (λ c κs. let i = c .before .before .before .before .before .before in (inner-below (i .args .rows .now) _ (i .pre .1 .0 .2) (i .pre .0), (inner-range (i .args .rows .now) _ (i .pre .1 .0 .0) (i .pre .1 .0 .2), i .pre .1 .1 .0)))
+    (λ c κs. let i = c .before .before .before .before .before .before in (inner-below (i .args .rows .now) _ (i .pre .1 .0 .2) (i .pre .0), (omega (arith, inner-range (i .args .rows .now) _ (i .pre .1 .0 .0) (i .pre .1 .0 .2)), i .pre .1 .1 .0)))
     (λ c. c .match .keys1)
     (λ c. c .match .keys2)
     (λ c. c .match .keys3)
