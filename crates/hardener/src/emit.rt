@@ -9,10 +9,10 @@ ghost use Rattle.layout.specs.Layout.{Laid};
 ghost use Rattle.layout.specs.Spot.{Ends, Elses, Heads};
 ghost use Rattle.line.specs.Line.{struct};
 ghost use Rattle.hardener.specs.Emit.{rowLine, Makes, Holds, Emitted, rowsBytes, Room};
-use line::Line;
 use crate::lines;
 use layout::row;
 use layout::spot;
+use line::Line;
 use rules::kind::Kind;
 
 // Writes the one line of row i. Where it goes is looked up here, for each kind by itself: looked up once for all kinds, their writing is

@@ -10,9 +10,9 @@ ghost use Rattle.layout.specs.Number.{Based, Valued};
 ghost use Rattle.layout.specs.Spot.{Inside, InLoop, Opens, Grows, Ends, Elses, Heads};
 ghost use Rattle.line.specs.Line.{struct};
 ghost use Rattle.hardener.specs.Emit.{rowLine, plainTest, elseTest, TurnsAt};
-use line::Line;
 use layout::row;
 use layout::spot;
+use line::Line;
 
 // The line that does row i.
 pub fn do_line(rows: &[u8], i: usize) -> Line

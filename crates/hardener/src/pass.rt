@@ -13,10 +13,10 @@ ghost use Rattle.layout.specs.Spot.{Ends, Elses, Heads};
 ghost use Rattle.hardener.specs.Pass.{fitting, Batch, Fit, MadeIs, PassedIs};
 use crate::compare;
 use crate::emit;
-use layout::scope::MAP;
-use line::Line;
 use layout::row;
+use layout::scope::MAP;
 use layout::spot;
+use line::Line;
 use rules::limits::FUNCTIONS;
 use rules::limits::ROWS;
 

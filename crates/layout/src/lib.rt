@@ -10,8 +10,8 @@ ghost use Rattle.layout.specs.Layout.{Laid};
 ghost use Rattle.layout.specs.Number.{Spent};
 
 pub mod number;
-pub mod scope;
 pub mod row;
+pub mod scope;
 pub mod spot;
 
 // Lays a table out: the map of its rows' scopes, the bases of its regions, the values of its rows. The words that become the bases

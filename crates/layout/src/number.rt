@@ -8,9 +8,9 @@ ghost use Rattle.rules.specs.Row.{tableOf};
 ghost use Rattle.rules.specs.Check.{verdictOf};
 ghost use Rattle.layout.specs.Scope.{mapWords, Stands, Surveyed};
 ghost use Rattle.layout.specs.Number.{takesAt, valueOf, tookBefore, Took, Spent, Spends, sums, Summed, Based, Valued};
+use crate::row;
 use crate::scope;
 use crate::scope::Scope;
-use crate::row;
 use rules::kind::Kind;
 
 // What row i takes in its region.

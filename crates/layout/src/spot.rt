@@ -10,8 +10,8 @@ ghost use Rattle.rules.specs.Harden.{lineOf};
 ghost use Rattle.layout.specs.Scope.{Surveyed};
 ghost use Rattle.layout.specs.Number.{Based, Valued};
 ghost use Rattle.layout.specs.Spot.{Near, Inside, InLoop, Opens, Grows, SpotIs, childOf, inBody, isLoop, OpenerIs, LoopIs, Head, CalleeIs, endOfBody, Ends, Heads};
-use crate::scope;
 use crate::row;
+use crate::scope;
 use rules::kind::Kind;
 
 // A row's region, by its number in the function, and the row's value.

@@ -49,7 +49,12 @@ fn go_of(rows: &[u8], goes: &[u16; ROWS], h: Registers) -> u16
 }
 
 // The variables change, and the row goes into the next trace slot.
-pub fn do_row(rows: &[u8], h: Registers, variables: &mut [u16; VARIABLES], trace: &mut [u16]) -> Moved
+pub fn do_row(
+    rows: &[u8],
+    h: Registers,
+    variables: &mut [u16; VARIABLES],
+    trace: &mut [u16],
+) -> Moved
     requires { ⌜ (Standing (now rows) h) × (kindAt (tableOf (now rows)) (h .at) ≡ Kind.Do) × (HasSlot h (now trace)) ⌝ }
     ensures { λ r. ⌜ done r (now (variables .exit)) (now (trace .exit)) ≡ afterDo (tableOf (now (rows .entry))) h (now (variables .entry)) (now (trace .entry)) ⌝ }
 {
@@ -58,7 +63,12 @@ pub fn do_row(rows: &[u8], h: Registers, variables: &mut [u16; VARIABLES], trace
 }
 
 // An if or a loop: into its part where the test holds.
-pub fn test_row(rows: &[u8], goes: &[u16; ROWS], h: Registers, variables: &[u16; VARIABLES]) -> Moved
+pub fn test_row(
+    rows: &[u8],
+    goes: &[u16; ROWS],
+    h: Registers,
+    variables: &[u16; VARIABLES],
+) -> Moved
     requires { ⌜ (Standing (now rows) h) × (Known (now rows) (now goes)) × (VariablesIn (operandsAt (tableOf (now rows)) (h .at))) ⌝ }
     ensures { λ r. ⌜ r ≡ afterTest (tableOf (now (rows .entry))) h (now (variables .entry)) ⌝ }
 {
