@@ -22,10 +22,11 @@ use Rattle.rules.proofs.Encode.{same-refl, same-is}
 use Rattle.rules.proofs.ValueBound.{two-lines}
 use Rattle.hardener.specs.declared.pass.Passed.{Passed}
 use Rattle.hardener.specs.declared.pass.Passed.the-variants.{No, Bytes}
-use Rattle.hardener.specs.Emit.{rowsBytes, Room}
+use Rattle.emit.specs.Emit.{rowsBytes, Room}
 use Rattle.hardener.specs.Answer.{written}
 use Rattle.hardener.specs.Pass.{areThese, answered, PassedIs, fitting, Fit, Batch, agreed, Stretch, MadeIs}
-use Rattle.hardener.proofs.Emits.{bytes-length, bytes-split, rows-length, answer-length, short-answer, whole-answer}
+use Rattle.emit.proofs.Emits.{bytes-length, bytes-split, rows-length, answer-length}
+use Rattle.hardener.proofs.Answers.{short-answer, whole-answer}
 use Rattle.hardener.proofs.Compares.{not-same}
 
 -- ---- lines that agree with given bytes

@@ -16,8 +16,6 @@ use rules::number;
 use rules::refusal::Refusal;
 
 pub mod compare;
-pub mod emit;
-pub mod lines;
 pub mod pass;
 
 // Writes the hardened table to the front of out, where it fits there, and nothing where it does not.

@@ -12,7 +12,6 @@ ghost use Rattle.layout.specs.Layout.{Laid};
 ghost use Rattle.layout.specs.Spot.{Ends, Elses, Heads};
 ghost use Rattle.hardener.specs.Pass.{fitting, Batch, Fit, MadeIs, PassedIs};
 use crate::compare;
-use crate::emit;
 use layout::row;
 use layout::scope::MAP;
 use layout::spot;
