@@ -7,18 +7,17 @@ use Prim.Native.Nat.{ℕ, zero, suc, _+_, _*_, _/_, _≤_, _<_}
 use native.Mathlib.Nat.{add-zero, not-suc-le-zero, eq-or-lt-of-le}
 use native.Mathlib.Omega.{arith}
 use lib.ListN.{length, getD, set, length-set}
-use lib.Seq.{getD-set-same, getD-set-other, sets, length-sets}
+use lib.Seq.{getD-set-same, getD-set-other, sets}
 use Rattle.rules.specs.declared.refusal.Verdict.the-variants.{Accepted}
 use Rattle.rules.specs.Row.{Table, tableOf}
 use Rattle.rules.specs.Scan.{Open, openAt, regions, regionOf, openerOf, isLoopBody, fromLoop}
 use Rattle.rules.specs.Check.{verdictOf}
-use Rattle.rules.specs.Harden.{lineOf}
 use Rattle.rules.proofs.Scan.{Chain, chain}
 use Rattle.rules.proofs.Value.{AllHeld, held}
 use Rattle.rules.proofs.Accepted.{proper, table-length}
 use Rattle.rules.proofs.ValueBound.{regions-bound, line-bound}
 use Rattle.layout.specs.declared.scope.Scope.{Scope}
-use Rattle.layout.specs.Scope.{scopeAt, words, putScope, scoped, scopeOf, Mapped, Surveyed, Stands}
+use Rattle.layout.specs.Scope.{scopeAt, words, putScope, scopeOf, Mapped, Surveyed, Stands}
 
 -- ---- words that are stored one after the other
 sets-low : (vs l : List ℕ) (k j : ℕ) → j < k → getD (sets l k vs) j 0 ≡ getD l j 0

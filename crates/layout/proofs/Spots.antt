@@ -1,26 +1,26 @@
 -- What the readers of a row answer: its spot, the region that it opens, line numbers, its opener, its loop, its callee.
 -- Assumes nothing.
 use mathlib.Core.Path.{_≡_, refl, sym, ap, _∙_, subst}
-use mathlib.Core.Bool.{Bool, true, false}
-use mathlib.Core.List.{List, [], _∷_}
+use mathlib.Core.Bool.{Bool}
+use mathlib.Core.List.{List, _∷_}
 use Prim.Native.Nat.{ℕ, suc, _+_, _-_, _/_, _≤_, _<_}
 use native.Mathlib.Numerals.{add-one}
 use native.Mathlib.Omega.{arith}
 use lib.ListN.{length, getD}
 use lib.Dec.{eqb}
 use Rattle.rules.specs.declared.kind.Kind.{Kind}
-use Rattle.rules.specs.declared.kind.Kind.the-variants.{Function, If, Loop, Call}
+use Rattle.rules.specs.declared.kind.Kind.the-variants.{Call}
 use Rattle.rules.specs.Row.{tableOf, kindAt, operandsAt}
-use Rattle.rules.specs.Scan.{Part, body, loopBody, Open, pushes, shapeOf, regions, openAt, regionOf, bodyRegion, openerOf, around, fromLoop, local, endOf, functionCount, functionRow}
+use Rattle.rules.specs.Scan.{Part, body, loopBody, Open, pushes, shapeOf, regions, openAt, regionOf, bodyRegion, openerOf, around, fromLoop, endOf, functionCount, functionRow}
 use Rattle.rules.specs.Value.{base, value}
 use Rattle.rules.specs.Check.{isOutside}
-use Rattle.rules.specs.Harden.{ownRegion, lineOf, endValue}
+use Rattle.rules.specs.Harden.{lineOf}
 use Rattle.rules.specs.Links.{isOpening}
 use Rattle.rules.proofs.Scan.{Chain, chain, body-least, regions-mono}
 use Rattle.rules.proofs.Value.{held}
 use Rattle.rules.proofs.Accepted.{proper, table-length}
 use Rattle.rules.proofs.Close.{end-is}
-use Rattle.rules.proofs.Function.{FunctionAt, function-at, function-end, callee-known}
+use Rattle.rules.proofs.Function.{function-at, function-end, callee-known}
 use Rattle.rules.proofs.RegionBound.{own-bound, opened-bound, functions-bound}
 use Rattle.layout.specs.declared.scope.Scope.{Scope}
 use Rattle.layout.specs.declared.spot.Spot.{Spot}
@@ -30,7 +30,7 @@ use Rattle.layout.specs.Number.{valueOf, Based, Valued}
 use Rattle.layout.specs.Spot.{Near, Inside, InLoop, Opens, Grows, SpotIs, childOf, inBody, isLoop, OpenerIs, LoopIs, CalleeIs, Head, endOfBody, Ends, Heads}
 use Rattle.layout.proofs.Survey.{some-open}
 use Rattle.layout.proofs.Numbers.{value-low}
-use Rattle.layout.proofs.Around.{opening-pushes, pushes-opening, opened-by, LoopOf, loop-at}
+use Rattle.layout.proofs.Around.{opening-pushes, pushes-opening, opened-by, loop-at}
 
 -- ---- regions by their numbers in the function
 -- row i is within the table

@@ -1,8 +1,8 @@
 -- The scope of the row after row i, by row i's kind, and the survey's loop. Assumes nothing.
 use mathlib.Core.Path.{_≡_, refl, sym, ap, _∙_, subst}
-use mathlib.Core.Bool.{true, false, not}
+use mathlib.Core.Bool.{true, false}
 use mathlib.Core.List.{List, [], _∷_}
-use Prim.Native.Nat.{ℕ, zero, suc, _+_, _*_, _/_, _≤_, _<_}
+use Prim.Native.Nat.{ℕ, suc, _+_, _/_, _≤_, _<_}
 use native.Mathlib.Numerals.{add-one}
 use native.Mathlib.Nat.{add-zero, not-suc-le-zero}
 use native.Mathlib.Omega.{arith}
@@ -11,7 +11,7 @@ use Rattle.rules.specs.declared.kind.Kind.{Kind}
 use Rattle.rules.specs.declared.kind.Kind.the-variants.{Function, Do, If, Else, Loop, End, Break, Continue, Call, Unknown}
 use Rattle.rules.specs.declared.refusal.Verdict.the-variants.{Accepted}
 use Rattle.rules.specs.Row.{Table, tableOf, kindAt}
-use Rattle.rules.specs.Scan.{Part, thenPart, Open, stays, turns, shapeOf, regionsAfter, openAfter, openAt, regions, partOf, bodyRegion, openerOf, fromLoop}
+use Rattle.rules.specs.Scan.{Part, thenPart, Open, stays, turns, shapeOf, regionsAfter, openAfter, openAt, regions, bodyRegion, openerOf, fromLoop}
 use Rattle.rules.specs.Check.{isOutside, isThen, misplacedIn, verdictOf}
 use Rattle.rules.specs.Harden.{lineCount, lineOf}
 use Rattle.rules.proofs.Logic.{clash, not-false}

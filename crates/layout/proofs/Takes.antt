@@ -1,11 +1,10 @@
 -- What a row takes, by its kind. Assumes nothing.
 use mathlib.Core.Path.{_≡_, refl, sym, ap, _∙_, subst}
-use mathlib.Core.Bool.{Bool, true, false}
+use mathlib.Core.Bool.{false}
 use mathlib.Core.List.{List, [], _∷_}
-use Prim.Native.Nat.{ℕ, _/_, _≤_, _<_}
+use Prim.Native.Nat.{ℕ, _/_, _<_}
 use native.Mathlib.Omega.{arith}
 use lib.ListN.{length}
-use lib.Dec.{eqb}
 use Rattle.rules.specs.declared.kind.Kind.{Kind}
 use Rattle.rules.specs.declared.kind.Kind.the-variants.{Function, Do, If, Else, Loop, End, Break, Continue, Call, Unknown}
 use Rattle.rules.specs.Row.{Table, tableOf, kindAt}
@@ -15,7 +14,6 @@ use Rattle.rules.specs.Check.{isOutside, misplacedIn}
 use Rattle.rules.proofs.Logic.{clash}
 use Rattle.rules.proofs.Scan.{Chain, chain, body-least}
 use Rattle.rules.proofs.Value.{takes-top}
-use Rattle.rules.proofs.Accepted.{table-length}
 use Rattle.rules.proofs.Function.{Formed, formed, isBody}
 use Rattle.layout.specs.declared.scope.Scope.{Scope}
 use Rattle.layout.specs.Scope.{scopeOf, Stands}

@@ -1,6 +1,6 @@
 // Values: what each row takes, the bases of the regions, and each row's value.
 ghost use mathlib.Core.Path.{_≡_};
-ghost use Prim.Native.Nat.{ℕ, suc, _/_, _≤_, _<_};
+ghost use Prim.Native.Nat.{ℕ, _/_, _≤_, _<_};
 ghost use lib.ListN.{length};
 ghost use Rattle.rules.specs.Limits.{maxRows};
 ghost use Rattle.rules.specs.declared.refusal.Verdict.the-variants.{Accepted};

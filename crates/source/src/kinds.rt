@@ -1,7 +1,6 @@
 // What a row of each kind does.
 ghost use mathlib.Core.Path.{_≡_};
 ghost use Prim.Native.Nat.{suc, _/_, _<_};
-ghost use lib.ListN.{length};
 ghost use Rattle.rules.specs.Limits.{maxRows, maxOpen};
 ghost use Rattle.rules.specs.declared.kind.Kind.{Kind};
 ghost use Rattle.rules.specs.Row.{tableOf, kindAt, operandsAt};

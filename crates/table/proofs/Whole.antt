@@ -10,7 +10,6 @@ use lib.Dec.{leb}
 use lib.ListN.{length, take, drop, length-drop}
 use Rattle.rules.specs.declared.refusal.Refusal.{Refusal}
 use Rattle.rules.specs.declared.refusal.Refusal.the-variants.{NoSuchFunction}
-use Rattle.rules.specs.declared.refusal.Verdict.{Verdict}
 use Rattle.rules.specs.declared.refusal.Verdict.the-variants.{Accepted, Refused}
 use Rattle.rules.specs.Row.{Row, Table, rowIn, rowAt, tableOf}
 use Rattle.rules.specs.Scan.{openAt, functions, functionCount}
@@ -22,7 +21,6 @@ use Rattle.table.specs.Outside.{Outside}
 use Rattle.table.specs.Checking.{oneRows, OneOk, AllOk}
 use Rattle.table.specs.declared.check.One.{One}
 use Rattle.table.specs.declared.check.One.the-variants.{Unsound, Long}
-use Rattle.table.specs.declared.check.All.{All}
 use Rattle.table.specs.declared.check.All.the-variants.{Rejected, Counted}
 use Rattle.rows.proofs.Rows.{rest-all, drops, cut-end, cut-row, cut-within}
 use Rattle.table.proofs.Functions.{outside-at}

@@ -71,7 +71,7 @@ module _ (bs xs : List ℕ) (i : ℕ) (h : Open) (hs : List Open) (d : ℕ) (b :
   AfterStep o EndHere = Before End bs xs i h hs d o b n ends elses
   AfterStep o ElseHere = Before Else bs xs i h hs d o b n ends elses
 
--- for every table and every place where a walk stands with this depth, these regions and this loop flag
+-- for every table and every row where a walk stands with this depth, these regions and this loop flag
 pub record SeqOk (xs : List ℕ) (base d o : ℕ) (b : Bool) (e l e' l' : List ℕ) (r : Seq) : Type 0 where
   pub fit : rowWidth * seqRows r ≤ length xs
   pub leads : (bs : List ℕ) (h : Open) (hs : List Open) (n : ℕ) → Inside bs xs base h hs d o b n e l → AfterSeq bs xs base h hs d b n e' l' r

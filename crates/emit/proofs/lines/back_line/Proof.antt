@@ -1,4 +1,4 @@
-use Rattle.emit.proofs.Calls.{head-of, back-line}
+use Rattle.emit.proofs.Calls.{back-line}
 use borrow.Author.Needs.{needs}
 use Rattle.emit.proofs.lines.back_line.Statement.{statement}
 use Rattle.emit.proofs.lines.back_line.Tie as tie

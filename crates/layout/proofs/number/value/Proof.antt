@@ -1,4 +1,3 @@
-use native.Mathlib.Omega.{arith}
 use Rattle.layout.proofs.Numbers.{valued}
 use borrow.Author.Needs.{needs}
 use Rattle.layout.proofs.number.value.Statement.{statement}
