@@ -6,7 +6,7 @@ use mathlib.Core.List.{List, [], _++_}
 use lib.ListN.{length, take, drop}
 use Rattle.rules.specs.Row.{Table, tableOf, kindAt}
 use Rattle.rules.specs.Scan.{openAt, bodyRegion, elseOf}
-use Rattle.rules.specs.Line.{Line, lineAt, linesBytes}
+use Rattle.rules.specs.Line.{lineWidth, Line, lineAt, linesBytes}
 use Rattle.rules.specs.Harden.{lineCount, lineOf, testOf, linesOf}
 use Rattle.rules.specs.Calls.{over}
 use Rattle.layout.specs.Spot.{Grows}
@@ -44,11 +44,11 @@ pub record Makes (bs : List ℕ) (i count : ℕ) : Type 0 where
 -- a buffer that begins with line f holds the lines of row i; one that begins with those of row i holds the lines of d rows
 pub record Holds (bs : List ℕ) (i f : ℕ) (out : List ℕ) : Type 0 where
   pub low : f ≤ lineOf (tableOf bs) i
-  pub enough : 20 * (lineOf (tableOf bs) i + lineCount (kindAt (tableOf bs) i)) ≤ 20 * f + length out
+  pub enough : lineWidth * (lineOf (tableOf bs) i + lineCount (kindAt (tableOf bs) i)) ≤ lineWidth * f + length out
 
 pub record Room (bs : List ℕ) (i d : ℕ) (out : List ℕ) : Type 0 where
   pub rows : i + d ≤ length bs / 6
-  pub enough : 20 * lineOf (tableOf bs) (i + d) ≤ 20 * lineOf (tableOf bs) i + length out
+  pub enough : lineWidth * lineOf (tableOf bs) (i + d) ≤ lineWidth * lineOf (tableOf bs) i + length out
 
 -- bytes from byte n on, before and behind them what was held
 abbrev pub overAt : (n : ℕ) → (bytes held : List ℕ) → List ℕ
@@ -56,4 +56,4 @@ overAt n bytes held = take n held ++ over bytes (drop n held)
 
 -- the lines of row i are written to a buffer that begins with line f
 pub record Emitted (bs : List ℕ) (i f : ℕ) (out out′ : List ℕ) : Type 0 where
-  pub is : out′ ≡ overAt (20 * (lineOf (tableOf bs) i - f)) (rowBytes (tableOf bs) i) out
+  pub is : out′ ≡ overAt (lineWidth * (lineOf (tableOf bs) i - f)) (rowBytes (tableOf bs) i) out

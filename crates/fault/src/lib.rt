@@ -9,6 +9,7 @@ pub mod pass;
 use pass::Passed;
 use rows::first::calls_beyond;
 use rules::answer::Fault;
+use rules::limits::ROWS;
 use rules::number;
 use rules::refusal::Refusal;
 
@@ -47,8 +48,8 @@ pub fn find(rows: &[u8]) -> Fault
     if rows.len() % 6 != 0 {
         return found(Refusal::NoWholeRows, rows.len() / 6);
     }
-    if rows.len() / 6 > 1024 {
-        return found(Refusal::TooManyRows, 1024);
+    if rows.len() / 6 > ROWS {
+        return found(Refusal::TooManyRows, ROWS);
     }
     match pass::rows(rows) {
         Passed::Stopped(r, row) => found(r, row),

@@ -1,13 +1,13 @@
 // What is open at a row, and what a row of each kind does to it or why it is turned away.
 use rules::kind::Kind;
+use rules::limits::CONSTRUCTS;
+use rules::limits::FUNCTIONS;
+use rules::limits::REGIONS;
 use rules::refusal::Refusal;
 ghost use mathlib.Core.Path.{_≡_};
 ghost use Prim.Native.Nat.{_<_};
 ghost use Rattle.fault.specs.Standing.{loopsWithout, Sane};
 ghost use Rattle.fault.specs.Next.{PlainOk, JumpOk, EnterOk, NextOk};
-
-// The limit of regions in a function.
-const REGIONS: usize = 64;
 
 // The open parts and the loop bodies among them, the regions opened in the running function, and the functions opened.
 // Beside it goes a byte for each open part, the function's body first: the kind byte of the row that opened it.
@@ -52,7 +52,7 @@ fn begin(s: Standing, parts: &mut [u8]) -> Next
     if s.depth != 0 {
         return Next::Faulty(Refusal::Misplaced);
     }
-    if s.count >= 32 {
+    if s.count >= FUNCTIONS {
         return Next::Faulty(Refusal::TooManyFunctions);
     }
     parts[0] = 1;
@@ -72,7 +72,7 @@ fn enter(part: u8, loops: usize, s: Standing, parts: &mut [u8]) -> Next
     if s.depth == 0 {
         return Next::Faulty(Refusal::Misplaced);
     }
-    if s.depth > 16 {
+    if s.depth > CONSTRUCTS {
         return Next::Faulty(Refusal::TooManyParts);
     }
     if s.opened >= REGIONS {

@@ -10,6 +10,7 @@ use Rattle.rules.specs.declared.refusal.Refusal.the-variants.{ShortOutput}
 use Rattle.rules.specs.Bytes.{same}
 use Rattle.rules.specs.Row.{tableOf}
 use Rattle.rules.specs.Refusal.{refusalNumber}
+use Rattle.rules.specs.Line.{lineWidth}
 use Rattle.rules.specs.Harden.{lineOf, hardenedBytes}
 use Rattle.rules.specs.Calls.{over, shortOutput, writing}
 use Rattle.hardener.specs.declared.pass.Passed.{Passed}
@@ -38,9 +39,9 @@ fitting false size given room = leb size room
 
 -- the given bytes are as many as the lines', and the scratch holds a batch; or the output holds the lines
 pub record Fit (comparing : Bool) (bs lines out : List ℕ) : Type 0 where
-  pub as-long : comparing ≡ true → length lines ≡ 20 * lineOf (tableOf bs) (length bs / 6)
+  pub as-long : comparing ≡ true → length lines ≡ lineWidth * lineOf (tableOf bs) (length bs / 6)
   pub scratch : comparing ≡ true → length out ≡ 1280
-  pub room : comparing ≡ false → 20 * lineOf (tableOf bs) (length bs / 6) ≤ length out
+  pub room : comparing ≡ false → lineWidth * lineOf (tableOf bs) (length bs / 6) ≤ length out
 
 -- of n rows so many from row i on: those whose lines fit the scratch, or all
 pub record Batch (comparing : Bool) (i n count : ℕ) : Type 0 where

@@ -2,7 +2,7 @@
 ghost use mathlib.Core.Path.{_≡_};
 ghost use Prim.Native.Nat.{_+_, _≤_, _<_};
 ghost use lib.ListN.{length};
-ghost use Rattle.rules.specs.Line.{noOperands, doLine, tickLine, testLine, leaveLine, outLine, callLine, backLine, retLine};
+ghost use Rattle.rules.specs.Line.{lineWidth, noOperands, doLine, tickLine, testLine, leaveLine, outLine, callLine, backLine, retLine};
 ghost use Rattle.line.specs.Line.{struct, fields, put};
 use bytes::copy;
 use bytes::high;
@@ -152,7 +152,7 @@ impl Line {
 
     // Writes the line's bytes from byte at on.
     pub fn write(self, out: &mut [u8], at: usize)
-        requires { ⌜ at + 20 ≤ length (now out) ⌝ }
+        requires { ⌜ at + lineWidth ≤ length (now out) ⌝ }
         ensures { λ _. ⌜ now (out .exit) ≡ put (now (out .entry)) at self ⌝ }
     {
         let bytes = [
