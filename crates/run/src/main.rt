@@ -12,11 +12,6 @@ ghost use lib.ListN.{length};
 
 mod answer;
 mod arguments;
-mod hardened_steps;
-mod limit;
-mod line;
-mod row;
-mod source_steps;
 mod word;
 mod wrong;
 
@@ -26,6 +21,12 @@ use console::input;
 use console::input::Read;
 use console::output;
 use console::start;
+use rules::limits::COUNTERS;
+use rules::limits::NO_STEP;
+use rules::limits::VARIABLES;
+use rules::strike::strike_by;
+use show::hardened_steps;
+use show::source_steps;
 
 // Slots for the longest trace.
 fn slots() -> [u16; 65535] {
@@ -48,7 +49,7 @@ trace lists a trace of more than 20 rows, show lists each step.
 
 fn take_words() {
     let mut buffer = io::buffer();
-    let mut variables = [0u16; 16];
+    let mut variables = [0u16; VARIABLES];
     match arguments::read(&mut buffer, &mut variables) {
         Given::Wrong(f) => {
             let expected = f.expected;
@@ -65,12 +66,12 @@ fn take_words() {
 
 // No budget holds step 65,535, so that a jump before it is none.
 fn tell_no_jump(a: Asked) {
-    if a.struck && a.step == 65535 {
+    if a.struck && a.step == NO_STEP {
         io::write_all(2, b"step 65535 is no jump: no budget holds it\n");
     }
 }
 
-fn run(a: Asked, variables: [u16; 16], chunk: &mut [u8], bytes: &mut [u8])
+fn run(a: Asked, variables: [u16; VARIABLES], chunk: &mut [u8], bytes: &mut [u8])
     requires { ⌜ 65536 ≡ length (now bytes) ⌝ }
 {
     let mut text = io::large_buffer();
@@ -97,7 +98,7 @@ fn run(a: Asked, variables: [u16; 16], chunk: &mut [u8], bytes: &mut [u8])
 fn source_run(
     a: Asked,
     rows: &[u8],
-    variables: [u16; 16],
+    variables: [u16; VARIABLES],
     trace: &mut [u16; 65535],
     text: &mut [u8; 65536],
 ) {
@@ -112,15 +113,16 @@ fn source_run(
 fn hardened_run(
     a: Asked,
     lines: &[u8],
-    variables: [u16; 16],
+    variables: [u16; VARIABLES],
     trace: &mut [u16; 65535],
     text: &mut [u8; 65536],
 ) {
     let mut at = 0;
     if a.show {
-        at = hardened_steps::list(lines, variables, a.budget, a.step, a.place, trace, text);
+        let strike = strike_by(a.step, a.place);
+        at = hardened_steps::list(lines, variables, a.budget, strike, trace, text);
     }
-    let mut counters = [0u16; 1024];
+    let mut counters = [0u16; COUNTERS];
     let r = finuraho::run_hardened(
         lines,
         variables,
