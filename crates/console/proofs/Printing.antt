@@ -14,7 +14,7 @@ use Rattle.io.specs.Digits.{digits, Fewest}
 use Rattle.text.proofs.Putting.{puts-none, puts-more}
 use Rattle.console.specs.Print.{Printed, Named, Flushed}
 
--- a place from which output is not lost was no lost one
+-- a count from which output is not lost was no lost one
 not-lost : {m n : ℕ} → (65536 < m → 65536 < n) → n ≤ 65536 → m ≤ 65536
 not-lost {m} {n} f h = by (leb m 65536) refl
   where
@@ -36,7 +36,7 @@ printed-none {at} {before} =
       same-length = refl;
       stays-lost = λ h. h;
       dropped = λ h. refl;
-      place = λ h. h;
+      bounded = λ h. h;
     }
 
 module _ {t u : List ℕ} {at : ℕ} {before between after : List ℕ} {m n : ℕ} (p : Printed t at before between m)
@@ -74,7 +74,7 @@ module _ {t u : List ℕ} {at : ℕ} {before between after : List ℕ} {m n : �
         same-length = q .same-length ∙ p .same-length;
         stays-lost = λ h. q .stays-lost (p .stays-lost h);
         dropped = λ h. q .dropped (p .stays-lost h) ∙ p .dropped h;
-        place = λ h. q .place (p .place h);
+        bounded = λ h. q .bounded (p .bounded h);
       }
 
 -- ---- one byte
@@ -95,7 +95,7 @@ module _ {b at : ℕ} {text : List ℕ} where
         same-length = length-set text at b;
         stays-lost = λ k. omega arith;
         dropped = λ k. absurd (let z : ⊥ = omega arith in z);
-        place = λ k. omega arith;
+        bounded = λ k. omega arith;
       }
 
   pub printed-lost : 65536 ≤ at → Printed (b ∷ []) at text text 65537
@@ -108,13 +108,13 @@ module _ {b at : ℕ} {text : List ℕ} where
         same-length = refl;
         stays-lost = λ k. omega arith;
         dropped = λ k. refl;
-        place = λ k. omega arith;
+        bounded = λ k. omega arith;
       }
 
   -- the buffer was full and is written out
   pub printed-flushed : {f : ℕ} → Flushed at f → (f ≡ 65537 → ⊥) → 65536 ≤ at → Printed (b ∷ []) at text (set text 0 b) 1
   printed-flushed {f} g n h =
-      let whole : at ≤ 65536 = not-lost {m = at} {n = f} (λ k. absurd (n (g .stays-lost k))) (omega (arith, g .place)) in
+      let whole : at ≤ 65536 = not-lost {m = at} {n = f} (λ k. absurd (n (g .stays-lost k))) (omega (arith, g .bounded)) in
       record {
         fits = λ k. absurd (let z : ⊥ = omega arith in z);
         no-more = λ k. omega arith;
@@ -127,7 +127,7 @@ module _ {b at : ℕ} {text : List ℕ} where
         same-length = length-set text 0 b;
         stays-lost = λ k. absurd (let z : ⊥ = omega arith in z);
         dropped = λ k. absurd (let z : ⊥ = omega arith in z);
-        place = λ k. omega arith;
+        bounded = λ k. omega arith;
       }
 
 -- ---- what the loop keeps: the first i bytes of the word are printed

@@ -9,7 +9,7 @@ use borrow.Author.Tests.{eq-eqb, ne-eqb, eqb-true}
 use lib.Dec.{eqb}
 use lib.ListN.{length, drop, getD, drop-of-length-le}
 use lib.Seq.{drop-cons}
-use Rattle.console.specs.Word.{begins, skipOf, sameBytes, placeOf}
+use Rattle.console.specs.Word.{begins, skipOf, sameBytes, indexOf}
 
 -- ---- beginning with a name
 begins-more : (w n : ℕ) (ws ns : List ℕ) → w ≡ n → begins (w ∷ ws) (n ∷ ns) ≡ begins ws ns
@@ -121,43 +121,43 @@ same-self [] = refl
 same-self (x ∷ xs) = rw (eq-eqb x x refl, same-self xs)
 
 -- ---- where a byte stands
-place-here : (b x : ℕ) (xs : List ℕ) → x ≡ b → placeOf b (x ∷ xs) ≡ 0
-unfolding placeOf
-place-here b x xs e = rw (eq-eqb x b e)
+index-here : (b x : ℕ) (xs : List ℕ) → x ≡ b → indexOf b (x ∷ xs) ≡ 0
+unfolding indexOf
+index-here b x xs e = rw (eq-eqb x b e)
 
-place-later : (b x : ℕ) (xs : List ℕ) → (x ≡ b → ⊥) → placeOf b (x ∷ xs) ≡ suc (placeOf b xs)
-unfolding placeOf
-place-later b x xs e = rw (ne-eqb x b e)
+index-later : (b x : ℕ) (xs : List ℕ) → (x ≡ b → ⊥) → indexOf b (x ∷ xs) ≡ suc (indexOf b xs)
+unfolding indexOf
+index-later b x xs e = rw (ne-eqb x b e)
 
-place-none : (b : ℕ) → placeOf b [] ≡ 0
-unfolding placeOf
-place-none b = refl
+index-none : (b : ℕ) → indexOf b [] ≡ 0
+unfolding indexOf
+index-none b = refl
 
 -- what the loop keeps: none of the first i bytes is such a one
 pub record Passed (b : ℕ) (text : List ℕ) (i : ℕ) : Type 0 where
   pub inside : i ≤ length text
-  pub same : placeOf b text ≡ i + placeOf b (drop i text)
+  pub same : indexOf b text ≡ i + indexOf b (drop i text)
 
 pub passed-none : {b : ℕ} {text : List ℕ} → Passed b text 0
 passed-none = record { inside = omega arith; same = omega arith }
 
 module _ {b : ℕ} {text : List ℕ} {i : ℕ} (p : Passed b text i) where
-  at-next : i < length text → placeOf b text ≡ i + placeOf b (getD text i 0 ∷ drop (suc i) text)
-  at-next h = p .same ∙ ap (λ l. i + placeOf b l) (drop-cons text i 0 h)
+  at-next : i < length text → indexOf b text ≡ i + indexOf b (getD text i 0 ∷ drop (suc i) text)
+  at-next h = p .same ∙ ap (λ l. i + indexOf b l) (drop-cons text i 0 h)
 
-  pub passed-found : i < length text → getD text i 0 ≡ b → i ≡ placeOf b text
-  passed-found h e = omega (arith, at-next h, place-here b (getD text i 0) (drop (suc i) text) e)
+  pub passed-found : i < length text → getD text i 0 ≡ b → i ≡ indexOf b text
+  passed-found h e = omega (arith, at-next h, index-here b (getD text i 0) (drop (suc i) text) e)
 
   pub passed-more : i < length text → (getD text i 0 ≡ b → ⊥) → Passed b text (i + 1)
   passed-more h n =
       record {
         inside = omega arith;
-        same = let later = place-later b (getD text i 0) (drop (suc i) text) n in
-            let more : placeOf b text ≡ suc i + placeOf b (drop (suc i) text) = omega (arith, at-next h, later) in
+        same = let later = index-later b (getD text i 0) (drop (suc i) text) n in
+            let more : indexOf b text ≡ suc i + indexOf b (drop (suc i) text) = omega (arith, at-next h, later) in
             rw add-one more;
       }
 
-  pub passed-all : length text ≤ i → i ≡ placeOf b text
+  pub passed-all : length text ≤ i → i ≡ indexOf b text
   passed-all h =
-      let rest : placeOf b (drop i text) ≡ 0 = ap (placeOf b) (drop-of-length-le text h) ∙ place-none b in
+      let rest : indexOf b (drop i text) ≡ 0 = ap (indexOf b) (drop-of-length-le text h) ∙ index-none b in
       omega (arith, p .same, rest)

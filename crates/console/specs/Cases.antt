@@ -3,7 +3,7 @@ use mathlib.Core.Path.{_≡_, refl}
 use mathlib.Core.Bool.{true, false}
 use mathlib.Core.List.{[], _∷_}
 use Rattle.console.specs.declared.malformed.Wrong.the-variants.{Nothing, CarriageReturn, Long, Uppercase, Space, Other, Empty, Short}
-use Rattle.console.specs.Word.{begins, skipOf, sameBytes, placeOf}
+use Rattle.console.specs.Word.{begins, skipOf, sameBytes, indexOf}
 use Rattle.console.specs.Malformed.{wrongEnd, wrongDigit, wrongByte, atFirst, behindByte, nextSeen, lookOn}
 
 -- `v1=1` begins with `v`, and not with `v2`; every word begins with no bytes
@@ -33,12 +33,12 @@ unfolding sameBytes
 begins-only = refl
 
 -- `=` in `v1=1`, and where there is none
-equals-sign : placeOf 61 (118 ∷ 49 ∷ 61 ∷ 49 ∷ []) ≡ 2
-unfolding placeOf
+equals-sign : indexOf 61 (118 ∷ 49 ∷ 61 ∷ 49 ∷ []) ≡ 2
+unfolding indexOf
 equals-sign = refl
 
-no-sign : placeOf 61 (118 ∷ 49 ∷ []) ≡ 2
-unfolding placeOf
+no-sign : indexOf 61 (118 ∷ 49 ∷ []) ≡ 2
+unfolding indexOf
 no-sign = refl
 
 -- `01af` and a newline

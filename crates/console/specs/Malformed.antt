@@ -50,7 +50,7 @@ isWrong Short = true
 abbrev pub metAt : Wrong → Seen → Seen
 metAt w s = record { line = s .line; column = s .column; wrong = w }
 
--- one byte on: what was wrong already stays, with its place
+-- one byte on: what was wrong already stays, with its line and column
 unfoldable pub nextSeen : (digits : ℕ) → Seen → (b : ℕ) → Seen
 nextSeen d s b =
     cond (isWrong (s .wrong)) s

@@ -1,4 +1,4 @@
--- The buffer of 65,536 bytes in front of standard output. The place in it is how many bytes it holds; once output is lost it is 65,537.
+-- The buffer of 65,536 bytes in front of standard output. What counts its bytes is 65,537 once output is lost.
 use Prim.Native.Nat.{ℕ, _+_, _-_, _%_, _≤_, _<_}
 use mathlib.Core.Path.{_≡_}
 use mathlib.Core.List.{List, _++_}
@@ -17,7 +17,7 @@ pub record Printed (text : List ℕ) (at : ℕ) (before after : List ℕ) (next 
   pub same-length : length after ≡ length before
   pub stays-lost : 65536 < at → 65536 < next
   pub dropped : 65536 < at → after ≡ before
-  pub place : at ≤ 65537 → next ≤ 65537
+  pub bounded : at ≤ 65537 → next ≤ 65537
 
 -- the same of a word with a number in decimal digits behind it, and no zeros before them
 pub record Named (word : List ℕ) (number at : ℕ) (before after : List ℕ) (next : ℕ) : Type 0 where
@@ -27,6 +27,6 @@ pub record Named (word : List ℕ) (number at : ℕ) (before after : List ℕ) (
 
 -- the buffer is empty once it is written out, or output is lost
 pub record Flushed (at next : ℕ) : Type 0 where
-  pub place : next ≤ 65537
+  pub bounded : next ≤ 65537
   pub empty : next < 65537 → next ≡ 0
   pub stays-lost : 65536 < at → next ≡ 65537

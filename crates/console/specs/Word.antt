@@ -22,6 +22,6 @@ sameBytes (x ∷ xs) [] = false
 sameBytes (x ∷ xs) (y ∷ ys) = eqb x y && sameBytes xs ys
 
 -- where the first such byte stands; the length where there is none
-unfoldable pub placeOf : (b : ℕ) → List ℕ → ℕ
-placeOf b [] = 0
-placeOf b (x ∷ xs) = cond (eqb x b) 0 (suc (placeOf b xs))
+unfoldable pub indexOf : (b : ℕ) → List ℕ → ℕ
+indexOf b [] = 0
+indexOf b (x ∷ xs) = cond (eqb x b) 0 (suc (indexOf b xs))

@@ -1,10 +1,10 @@
-// Standard output by way of a buffer, which is written out whenever it is full. Where that fails the place in the buffer becomes one
-// behind its end, and there it stays: what comes after is dropped.
+// Standard output by way of a buffer, which is written out whenever it is full. Where that fails the count of its bytes becomes one
+// more than it can hold, and so it stays: what comes after is dropped.
 ghost use mathlib.Core.List.{[], _∷_};
 ghost use Rattle.console.specs.Print.{Printed, Named, Flushed};
 use crate::output;
 
-// The place in the buffer once output is lost.
+// The count once output is lost.
 const LOST: usize = 65537;
 
 // One more byte, behind `at` others: how many the buffer then holds.

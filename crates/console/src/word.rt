@@ -1,7 +1,7 @@
 // Words of the command line.
 ghost use mathlib.Core.Path.{_≡_};
 ghost use Rattle.io.specs.Counts.{Counts};
-ghost use Rattle.console.specs.Word.{skipOf, sameBytes, placeOf};
+ghost use Rattle.console.specs.Word.{skipOf, sameBytes, indexOf};
 
 // How many bytes the name has, where the word begins with it; else 0.
 pub fn skip(word: &[u8], name: &[u8]) -> usize
@@ -33,7 +33,7 @@ pub fn is(word: &[u8], name: &[u8]) -> bool
 // Where the first such byte stands; the length where there is none.
 pub fn find(b: u8, text: &[u8]) -> usize
     ensures { λ r. ⌜ Counts r (now (text .entry)) ⌝ }
-    ensures { λ r. ⌜ r ≡ placeOf b (now (text .entry)) ⌝ }
+    ensures { λ r. ⌜ r ≡ indexOf b (now (text .entry)) ⌝ }
 {
     let mut i = 0;
     while i < text.len() {

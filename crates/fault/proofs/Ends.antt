@@ -23,9 +23,9 @@ use Rattle.rules.specs.Fault.{isFaulty, faultyRow, callingRow, faultRow, stopRo
 use Rattle.rules.proofs.Logic.{clash}
 use Rattle.rules.proofs.Search.{first-is}
 use Rattle.rules.proofs.Accepted.{then-left, then-right, if-not, table-length}
-use Rattle.table.specs.First.{firstKind, callsBeyond}
-use Rattle.table.proofs.Rows.{rest-all, cut-end}
-use Rattle.table.proofs.Verdicts.{table-refused, left-open, none-open}
+use Rattle.rows.specs.First.{firstKind, callsBeyond}
+use Rattle.rows.proofs.Rows.{rest-all, cut-end}
+use Rattle.walk.proofs.Verdicts.{table-refused, left-open, none-open}
 use Rattle.table.proofs.Whole.{CallsTo, calls-start, calls-on, calls-done, calls-beyond, beyond-is}
 use Rattle.table.proofs.Accepting.{verdict-of}
 use Rattle.fault.specs.declared.open.Standing.{Standing}

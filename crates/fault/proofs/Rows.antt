@@ -15,9 +15,9 @@ use Rattle.rules.specs.Row.{rowWidth, tableOf}
 use Rattle.rules.specs.Scan.{Open, Shape, shapeOf, regionsAfter, openAfter, regions, openAt, isFunction, functions}
 use Rattle.rules.specs.Check.{misplacedIn, oneTooMany, rowVerdict}
 use Rattle.rules.proofs.Scan.{open-next, regions-next}
-use Rattle.table.proofs.Rows.{isKnown, Reads, reads, reads-wrong}
-use Rattle.table.proofs.Verdicts.{row-wrong, row-misplaced, row-parts, row-good}
-use Rattle.table.proofs.Stepping.{and-none, same-functions}
+use Rattle.rows.proofs.Rows.{isKnown, Reads, reads, reads-wrong}
+use Rattle.walk.proofs.Verdicts.{row-wrong, row-misplaced, row-parts, row-good}
+use Rattle.walk.proofs.Stepping.{and-none, same-functions}
 use Rattle.fault.specs.declared.open.Standing.{Standing}
 use Rattle.fault.specs.Standing.{Parts, Stands}
 use Rattle.fault.specs.Next.{At}

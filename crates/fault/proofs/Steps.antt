@@ -14,14 +14,14 @@ use Rattle.rules.specs.Limits.{maxFunctions}
 use Rattle.rules.specs.Row.{tableOf}
 use Rattle.rules.specs.Scan.{Part, thenPart, loopBody, Open, pushes, turns, closes, stays, partOf, fromLoop, regions, openAt, isFunction, functions}
 use Rattle.rules.specs.Check.{isOutside, isThen, misplacedIn, oneTooMany, allConstructs, allRegions}
-use Rattle.table.proofs.Verdicts.{row-misplaced, row-functions}
-use Rattle.table.proofs.Stepping.{or-true, few-parts, few-regions, many-regions, many-constructs}
+use Rattle.walk.proofs.Verdicts.{row-misplaced, row-functions}
 use Rattle.table.proofs.Functions.{next-function}
 use Rattle.fault.specs.declared.open.Standing.{Standing}
 use Rattle.fault.specs.declared.open.Next.{Next}
 use Rattle.fault.specs.declared.open.Next.the-variants.{Faulty, On}
 use Rattle.fault.specs.Standing.{partByte, Parts, Sane, loopBytes, loopsWithout}
 use Rattle.fault.specs.Next.{NextOk, Plain, by-do, by-call, PlainOk, Jump, by-break, by-continue, JumpOk, Enters, by-if, by-loop, EnterOk}
+use Rattle.fault.proofs.Limits.{or-true, few-parts, few-regions, many-regions, many-constructs}
 use Rattle.fault.proofs.Parts.{bytes-none, bytes-low, bytes-push, bytes-turn, bytes-close, loop-counted, loops-in, outside, inside, none-then, not-then, is-then, begin-parts, enter-parts, turn-parts, close-parts}
 use Rattle.fault.proofs.Rows.{read, wrong-row, Does, row-on, row-out, row-over, row-does}
 

@@ -10,7 +10,7 @@ use Rattle.rules.specs.declared.refusal.Verdict.the-variants.{Refused}
 use Rattle.rules.specs.Row.{rowWidth, tableOf}
 use Rattle.rules.specs.Scan.{thenPart, loopBody}
 use Rattle.rules.specs.Check.{rowVerdict}
-use Rattle.table.specs.First.{firstKind}
+use Rattle.rows.specs.First.{firstKind}
 use Rattle.fault.specs.declared.open.Standing.{Standing}
 use Rattle.fault.specs.declared.open.Next.{Next}
 use Rattle.fault.specs.declared.open.Next.the-variants.{Faulty, On}

@@ -7,10 +7,10 @@ pub mod open;
 pub mod pass;
 
 use pass::Passed;
+use rows::first::calls_beyond;
 use rules::answer::Fault;
 use rules::number;
 use rules::refusal::Refusal;
-use table::row::calls_beyond;
 
 fn found(r: Refusal, row: usize) -> Fault
     ensures { λ f. ⌜ f ≡ faultAt r row ⌝ }

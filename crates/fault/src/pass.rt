@@ -2,8 +2,8 @@
 use crate::open::Next;
 use crate::open::Standing;
 use crate::open::step;
+use rows::first::first_kind;
 use rules::refusal::Refusal;
-use table::row::first_kind;
 ghost use mathlib.Core.Path.{_≡_};
 ghost use Prim.Native.Nat.{_≤_, _<_};
 ghost use lib.ListN.{length};

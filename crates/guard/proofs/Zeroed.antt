@@ -2,7 +2,7 @@
 use Prim.Native.Nat.{ℕ, _+_, _-_, _≤_}
 use native.Mathlib.Omega.{arith}
 use mathlib.Core.Path.{_≡_}
-use mathlib.Core.List.{List, []}
+use mathlib.Core.List.{List}
 use lib.ListN.{length, length-append, length-take, length-replicate, length-drop}
 use borrow.Rule.Slice.PartMut.{putMid, midOf, mid-len, post-is}
 use Rattle.rules.specs.Calls.{zeros}

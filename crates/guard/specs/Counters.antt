@@ -11,7 +11,7 @@ counter ws d r = getD ws (maxRegions * d + r) 0
 abbrev pub withCounter : List ℕ → (d r v : ℕ) → List ℕ
 withCounter ws d r v = set ws (maxRegions * d + r) v
 
--- the n words from a place on are 0
+-- the n words from word `from` on are 0
 abbrev pub zeroed : List ℕ → (from n : ℕ) → List ℕ
 zeroed ws from n = take from ws ++ (zeros n ++ drop (from + n) ws)
 

@@ -5,6 +5,7 @@ ghost use Rattle.guard.specs.Fields.{CallIn, Room};
 ghost use Rattle.guard.specs.Call.{shifted, callOf};
 use crate::counters;
 use line::Line;
+use rules::limits::DEEPEST;
 use rules::limits::LINES;
 use rules::limits::OPEN;
 use rules::step::Step;
@@ -35,12 +36,12 @@ pub fn call(
     let held = counters[i];
     let e = l.e;
     let wrong = held != e;
-    let full = 16 <= h.depth + 1;
+    let full = DEEPEST <= h.depth + 1;
     if wrong {
         return stay(Step::Alarm, h);
     }
     if full {
-        return stay(Step::TooManyOpen(16), h);
+        return stay(Step::TooManyOpen(DEEPEST), h);
     }
     counters[i] = l.a;
     counters::fresh(counters, h.depth + 1, l.b);

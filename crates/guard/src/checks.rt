@@ -1,6 +1,7 @@
 // The lines that change nothing but counters: tick, test, leave, out and back.
 ghost use mathlib.Core.Path.{_≡_};
 ghost use Prim.Native.Nat.{_<_};
+ghost use Rattle.rules.specs.Limits.{maxRegions};
 ghost use Rattle.guard.specs.Guard.{counted, tickOf, testOf, leaveOf, outOf, backOf};
 ghost use Rattle.guard.specs.Fields.{RegionsIn, LeaveIn, OutIn, Room};
 use crate::counters;
@@ -8,7 +9,7 @@ use line::Line;
 use rules::step::Step;
 
 pub fn tick(l: Line, at: u16, depth: u16, counters: &mut [u16]) -> Step
-    requires { ⌜ (l .r < 64) × (at < 65535) × (Room depth (now counters)) ⌝ }
+    requires { ⌜ (l .r < maxRegions) × (at < 65535) × (Room depth (now counters)) ⌝ }
     ensures { λ r. ⌜ counted r (now (counters .exit)) ≡ tickOf l at depth (now (counters .entry)) ⌝ }
 {
     let i = counters::index(depth, l.r);
@@ -80,7 +81,7 @@ pub fn out(l: Line, depth: u16, counters: &mut [u16]) -> Step
 
 // The function that returned last ended at `last`.
 pub fn back(l: Line, last: u16, at: u16, depth: u16, counters: &mut [u16]) -> Step
-    requires { ⌜ (l .r < 64) × (at < 65535) × (Room depth (now counters)) ⌝ }
+    requires { ⌜ (l .r < maxRegions) × (at < 65535) × (Room depth (now counters)) ⌝ }
     ensures { λ r. ⌜ counted r (now (counters .exit)) ≡ backOf l last at depth (now (counters .entry)) ⌝ }
 {
     let i = counters::index(depth, l.r);

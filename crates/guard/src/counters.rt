@@ -1,7 +1,9 @@
 // The counters: word 64 * depth + r is region r's counter of the open function at that depth.
+use rules::limits::REGIONS;
 ghost use mathlib.Core.Path.{_≡_};
 ghost use Prim.Native.Nat.{_+_, _*_, _≤_, _<_};
 ghost use lib.ListN.{length};
+ghost use Rattle.rules.specs.Limits.{counterWords, maxOpen, maxRegions};
 ghost use Rattle.rules.specs.Calls.{zeros};
 ghost use Rattle.guard.specs.Counters.{withCounter, zeroed, freshAt};
 
@@ -18,17 +20,17 @@ pub fn clear(words: &mut [u16])
 
 // Where region r's counter of the function at a depth stands.
 pub fn index(depth: u16, r: u8) -> usize
-    requires { ⌜ (depth < 16) × (r < 64) ⌝ }
-    ensures { λ i. ⌜ (i ≡ 64 * depth + r) × (i < 1024) ⌝ }
+    requires { ⌜ (depth < maxOpen) × (r < maxRegions) ⌝ }
+    ensures { λ i. ⌜ (i ≡ maxRegions * depth + r) × (i < counterWords) ⌝ }
 {
-    64 * (depth as usize) + (r as usize)
+    REGIONS * (depth as usize) + (r as usize)
 }
 
 pub fn put(words: &mut [u16], depth: u16, r: u8, v: u16)
-    requires { ⌜ (depth < 16) × (r < 64) × (1024 ≤ length (now words)) ⌝ }
+    requires { ⌜ (depth < maxOpen) × (r < maxRegions) × (counterWords ≤ length (now words)) ⌝ }
     ensures { λ _. ⌜ now (words .exit) ≡ withCounter (now (words .entry)) depth r v ⌝ }
 {
-    let i = 64 * (depth as usize) + (r as usize);
+    let i = REGIONS * (depth as usize) + (r as usize);
     words[i] = v;
 }
 
@@ -43,9 +45,9 @@ pub fn zero_part(words: &mut [u16], from: usize, n: usize)
 
 // The counters of a function that opens: 0, but region 0's.
 pub fn fresh(words: &mut [u16], depth: u16, v: u16)
-    requires { ⌜ (depth < 16) × (1024 ≤ length (now words)) ⌝ }
+    requires { ⌜ (depth < maxOpen) × (counterWords ≤ length (now words)) ⌝ }
     ensures { λ _. ⌜ now (words .exit) ≡ freshAt (now (words .entry)) depth v ⌝ }
 {
-    zero_part(words, 64 * (depth as usize), 64);
+    zero_part(words, REGIONS * (depth as usize), REGIONS);
     put(words, depth, 0, v);
 }

@@ -1,6 +1,3 @@
-pub mod RowLines
-pub mod Leaves
-pub mod Calls
-pub mod Emits
+pub mod Answers
 pub mod Compares
 pub mod Passes

@@ -1,7 +1,7 @@
 -- One pass over a table, for both uses: the rows that are made, the lines that agree or are kept, and what it comes to. Assumes nothing.
 use mathlib.Core.Path.{_≡_, refl, sym, ap, _∙_}
 use mathlib.Core.Bool.{Bool, true, false}
-use mathlib.Core.List.{List, [], _++_, append-assoc}
+use mathlib.Core.List.{List, _++_, append-assoc}
 use Prim.Native.Nat.{ℕ, zero, suc, _+_, _*_, _-_, _/_, _≤_, _<_}
 use native.Mathlib.Nat.{add-zero, add-suc}
 use native.Mathlib.Omega.{arith}
@@ -22,10 +22,11 @@ use Rattle.rules.proofs.Encode.{same-refl, same-is}
 use Rattle.rules.proofs.ValueBound.{two-lines}
 use Rattle.hardener.specs.declared.pass.Passed.{Passed}
 use Rattle.hardener.specs.declared.pass.Passed.the-variants.{No, Bytes}
-use Rattle.hardener.specs.Emit.{rowsBytes, Room}
+use Rattle.emit.specs.Emit.{rowsBytes, Room}
 use Rattle.hardener.specs.Answer.{written}
-use Rattle.hardener.specs.Pass.{areThese, answered, PassedIs, fitting, Fit, Batch, agreed, Stretch, MadeIs}
-use Rattle.hardener.proofs.Emits.{bytes-length, bytes-split, rows-length, answer-length, short-answer, whole-answer}
+use Rattle.hardener.specs.Pass.{answered, PassedIs, fitting, Fit, Batch, agreed, Stretch, MadeIs}
+use Rattle.emit.proofs.Emits.{bytes-length, bytes-split, rows-length, answer-length}
+use Rattle.hardener.proofs.Answers.{short-answer, whole-answer}
 use Rattle.hardener.proofs.Compares.{not-same}
 
 -- ---- lines that agree with given bytes

@@ -14,7 +14,7 @@ use Rattle.rules.specs.Harden.{lineOf, hardenedBytes}
 use Rattle.rules.specs.Calls.{over, shortOutput, writing}
 use Rattle.hardener.specs.declared.pass.Passed.{Passed}
 use Rattle.hardener.specs.declared.pass.Passed.the-variants.{No, Bytes}
-use Rattle.hardener.specs.Emit.{rowsBytes}
+use Rattle.emit.specs.Emit.{rowsBytes}
 use Rattle.hardener.specs.Answer.{written}
 
 -- each case: whether the lines are the given ones; what hardening answers (01, "What turns a call away")

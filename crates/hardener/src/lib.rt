@@ -10,20 +10,20 @@ ghost use Rattle.rules.specs.Calls.{shortOutput, writing};
 ghost use Rattle.hardener.specs.Answer.{written};
 use crate::pass::Passed;
 use rules::answer::Wrote;
+use rules::limits::FUNCTIONS;
+use rules::limits::ROWS;
 use rules::number;
 use rules::refusal::Refusal;
 
 pub mod compare;
-pub mod emit;
-pub mod lines;
 pub mod pass;
 
 // Writes the hardened table to the front of out, where it fits there, and nothing where it does not.
 pub fn harden_linked(
     rows: &[u8],
-    ends: &[u16; 1024],
-    elses: &[u16; 1024],
-    heads: &[u16; 32],
+    ends: &[u16; ROWS],
+    elses: &[u16; ROWS],
+    heads: &[u16; FUNCTIONS],
     out: &mut [u8],
 ) -> Wrote
     requires { ⌜ verdictOf (now rows) ≡ Accepted ⌝ }
@@ -42,9 +42,9 @@ pub fn harden_linked(
 // Whether the table hardens to the lines.
 pub fn hardens_to_lines(
     rows: &[u8],
-    ends: &[u16; 1024],
-    elses: &[u16; 1024],
-    heads: &[u16; 32],
+    ends: &[u16; ROWS],
+    elses: &[u16; ROWS],
+    heads: &[u16; FUNCTIONS],
     lines: &[u8],
 ) -> bool
     requires { ⌜ verdictOf (now rows) ≡ Accepted ⌝ }

@@ -12,10 +12,12 @@ ghost use Rattle.layout.specs.Layout.{Laid};
 ghost use Rattle.layout.specs.Spot.{Ends, Elses, Heads};
 ghost use Rattle.hardener.specs.Pass.{fitting, Batch, Fit, MadeIs, PassedIs};
 use crate::compare;
-use crate::emit;
-use line::Line;
 use layout::row;
+use layout::scope::MAP;
 use layout::spot;
+use line::Line;
+use rules::limits::FUNCTIONS;
+use rules::limits::ROWS;
 
 // How many rows are compared at a time: so many that the comparison is wide, so few that the scratch is short.
 const BATCH: usize = 32;
@@ -97,9 +99,9 @@ fn make(
 // Hardens an accepted table whose links are known, to the front of out, where it fits there; or tells whether it hardens to `lines`.
 pub fn pass(
     rows: &[u8],
-    ends: &[u16; 1024],
-    elses: &[u16; 1024],
-    heads: &[u16; 32],
+    ends: &[u16; ROWS],
+    elses: &[u16; ROWS],
+    heads: &[u16; FUNCTIONS],
     comparing: bool,
     lines: &[u8],
     out: &mut [u8],
@@ -108,9 +110,9 @@ pub fn pass(
     requires { ⌜ (comparing ≡ true → length (now out) ≡ 1280) ⌝ }
     ensures { λ r. ⌜ PassedIs comparing (now (rows .entry)) (now (lines .entry)) (now (out .entry)) (now (out .exit)) r ⌝ }
 {
-    let mut map = [0u16; 6150];
-    let mut bases = [0u16; 1025];
-    let mut values = [0u16; 1024];
+    let mut map = [0u16; MAP];
+    let mut bases = [0u16; ROWS + 1];
+    let mut values = [0u16; ROWS];
     layout::lay_out(rows, &mut map, &mut bases, &mut values);
     let size = Line::WIDTH * row::index(spot::line_of(rows, &map, rows.len() / row::WIDTH));
     if !fits(comparing, size, lines.len(), out.len()) {

@@ -1,6 +1,6 @@
 -- The part that a row stands in and the innermost loop around it: the row that opened each, and what is open there.
 -- Assumes that the table is accepted, where it says so.
-use mathlib.Core.Path.{_≡_, refl, sym, ap, _∙_, subst}
+use mathlib.Core.Path.{_≡_, refl, ap, _∙_}
 use mathlib.Core.Bool.{Bool, true, false, cond, not}
 use mathlib.Core.List.{List, [], _∷_}
 use Prim.Native.Nat.{ℕ, zero, suc, _≤_, _<_}

@@ -13,7 +13,7 @@ use Rattle.rules.specs.Check.{isOutside, misplacedIn}
 use Rattle.rules.proofs.Logic.{clash}
 use Rattle.rules.proofs.Accepted.{proper, table-length}
 use Rattle.rules.proofs.Function.{placed-in}
-use Rattle.layout.specs.Place.{Surveyed}
+use Rattle.layout.specs.Scope.{Surveyed}
 use Rattle.layout.specs.Spot.{Inside, InLoop}
 
 pub kind-is : (bs : List ℕ) (i : ℕ) {k j : Kind} → k ≡ kindAt (tableOf bs) i → k ≡ j → kindAt (tableOf bs) i ≡ j

@@ -1,5 +1,5 @@
 pub mod Rows
-pub mod Places
+pub mod Scopes
 pub mod Survey
 pub mod Takes
 pub mod Numbers

@@ -3,7 +3,7 @@ use mathlib.Core.Logic.{_≢_, _⊎_, inl, inr}
 use mathlib.Core.Path.{_≡_, refl, sym, ap, _∙_, subst}
 use mathlib.Core.Bool.{Bool, true, false}
 use mathlib.Core.List.{List, [], _∷_}
-use Prim.Native.Nat.{ℕ, zero, suc, _+_, _*_, _/_, _≤_, _<_}
+use Prim.Native.Nat.{ℕ, zero, suc, _+_, _/_, _≤_, _<_}
 use native.Mathlib.Numerals.{add-one}
 use native.Mathlib.Nat.{le-refl, add-zero, not-suc-le-zero, eq-or-lt-of-le}
 use native.Mathlib.Omega.{arith}
@@ -23,10 +23,10 @@ use Rattle.rules.proofs.Scan.{regions-mono}
 use Rattle.rules.proofs.Value.{takes-off}
 use Rattle.rules.proofs.Accepted.{table-length}
 use Rattle.rules.proofs.ValueBound.{value-bound, base-bound, regions-bound}
-use Rattle.layout.specs.declared.place.Place.{Place}
-use Rattle.layout.specs.Place.{placeOf, Surveyed, Stands}
+use Rattle.layout.specs.declared.scope.Scope.{Scope}
+use Rattle.layout.specs.Scope.{scopeOf, Surveyed, Stands}
 use Rattle.layout.specs.Number.{takesAt, valueOf, tookBefore, Took, Spent, Spends, sums, Summed, Based, Valued}
-use Rattle.layout.proofs.Places.{few-rows, region-regions}
+use Rattle.layout.proofs.Scopes.{few-rows, region-regions}
 
 -- ---- the word of each region
 zeros : (n g : ℕ) → _≡_ {A = ℕ} (getD (replicate n 0) g 0) 0
@@ -38,7 +38,7 @@ pub nothing-spent : (bs : List ℕ) → Spent bs (replicate 1025 0) 0
 unfolding taken
 nothing-spent bs = record { room = omega (arith, length-replicate {A = ℕ} 1025 0); each = λ g. zeros 1025 g }
 
-module _ {bs spent : List ℕ} {i g : ℕ} {here : Place} (s : Stands bs i here) (p : Spent bs spent i) (q : g ≡ here .region) where
+module _ {bs spent : List ℕ} {i g : ℕ} {here : Scope} (s : Stands bs i here) (p : Spent bs spent i) (q : g ≡ here .region) where
   pub spend-in : g < length spent
   spend-in = omega (arith, s .region-low, s .row, s .few-rows, p .room)
 
@@ -52,9 +52,9 @@ takes-away : (k : Kind) (g : ℕ) (fs : List Open) → g ≢ regionOf fs → tak
 takes-away k g [] h = refl
 takes-away k g (f ∷ fs) h = takes-off k g f fs (λ x. h (sym x))
 
-pub spend-more : {bs spent : List ℕ} {i g w : ℕ} {here : Place} → Stands bs i here → Spent bs spent i → g ≡ here .region → w ≡ takesAt (tableOf bs) i
+pub spend-more : {bs spent : List ℕ} {i g w : ℕ} {here : Scope} → Stands bs i here → Spent bs spent i → g ≡ here .region → w ≡ takesAt (tableOf bs) i
     → Spent bs (set spent g (getD spent g 0 + w)) (suc i)
-unfolding taken takesAt placeOf
+unfolding taken takesAt scopeOf
 spend-more {bs} {spent} {i} {g} {w} {here} s p q e =
     record { room = omega (arith, p .room, length-set spent g (getD spent g 0 + w)); each = λ x. by x (eqb x g) refl }
   where
@@ -73,9 +73,9 @@ spend-more {bs} {spent} {i} {g} {w} {here} s p q e =
         getD-set-other spent g x _ 0 n ∙ p .each x
         ∙ sym (ap (λ v. taken (tableOf bs) x i + v) (takes-away (kindAt (tableOf bs) i) x (openAt (tableOf bs) i) (λ z. n (z ∙ sym own))) ∙ add-zero _)
 
-pub spend-took : {bs spent took : List ℕ} {i g w : ℕ} {here : Place} → Stands bs i here → Spent bs spent i → g ≡ here .region → w ≡ takesAt (tableOf bs) i
+pub spend-took : {bs spent took : List ℕ} {i g w : ℕ} {here : Scope} → Stands bs i here → Spent bs spent i → g ≡ here .region → w ≡ takesAt (tableOf bs) i
     → Spends bs i (set spent g (getD spent g 0 + w)) took (set took i (getD spent g 0))
-unfolding tookBefore placeOf
+unfolding tookBefore scopeOf
 spend-took {bs} {spent} {took} {i} {g} s p q e =
     let own : g ≡ regionOf (openAt (tableOf bs) i) = q ∙ ap (λ x. x .region) (s .is) in
     record { spent-is = spend-more s p q e; took-is = ap (set took i) (p .each g ∙ ap (λ x. taken (tableOf bs) x i) own) }
@@ -182,13 +182,13 @@ sums-base t l h (suc g) = rw (sums-base t l h g, h g)
 sums-are : {bs spent : List ℕ} → Spent bs spent (length bs / 6) → (g : ℕ) → sums spent g ≡ base (tableOf bs) g
 sums-are {bs} {spent} p g = sums-base (tableOf bs) spent (λ k. p .each k ∙ ap (taken (tableOf bs) k) (sym (table-length bs))) g
 
-pub sums-fit : {bs spent : List ℕ} {count : ℕ} {end : Place} → Stands bs (length bs / 6) end → Spent bs spent (length bs / 6) → count ≡ end .opened
+pub sums-fit : {bs spent : List ℕ} {count : ℕ} {end : Scope} → Stands bs (length bs / 6) end → Spent bs spent (length bs / 6) → count ≡ end .opened
     → (g : ℕ) → g ≤ count + 1 → sums spent g < 65536
 sums-fit {bs} s p q g h = omega (arith, sums-are p g, base-bound (tableOf bs) g, table-length bs, s .opened-low, s .few-rows)
 
-pub bases-all : {bs spent bases : List ℕ} {count : ℕ} {end : Place} → Stands bs (length bs / 6) end → Spent bs spent (length bs / 6) → count ≡ end .opened
+pub bases-all : {bs spent bases : List ℕ} {count : ℕ} {end : Scope} → Stands bs (length bs / 6) end → Spent bs spent (length bs / 6) → count ≡ end .opened
     → Summed spent bases (count + 1) → length bases ≡ length spent → Based bs bases
-unfolding placeOf
+unfolding scopeOf
 bases-all {bs} {end = end} s p q u l =
     let o : end .opened ≡ regions (tableOf bs) (length bs / 6) = ap (λ x. x .opened) (s .is) in
     record { room = omega (arith, p .room); each = λ g h. u .each g (omega arith) ∙ sums-are p g }
@@ -197,12 +197,12 @@ bases-all {bs} {end = end} s p q u l =
 region-in : (bs : List ℕ) (i : ℕ) → i ≤ length bs / 6 → regionOf (openAt (tableOf bs) i) ≤ regions (tableOf bs) (length bs / 6)
 region-in bs i l = omega (arith, region-regions (tableOf bs) i, regions-mono (tableOf bs) {i = i} (length bs / 6) l)
 
-module _ {bs bases : List ℕ} {i g took : ℕ} {here : Place} (s : Stands bs i here) (b : Based bs bases) (p : took ≡ tookBefore (tableOf bs) i) (q : g ≡ here .region) where
+module _ {bs bases : List ℕ} {i g took : ℕ} {here : Scope} (s : Stands bs i here) (b : Based bs bases) (p : took ≡ tookBefore (tableOf bs) i) (q : g ≡ here .region) where
   pub value-base-in : g < length bases
   value-base-in = omega (arith, s .region-low, s .row, s .few-rows, b .room)
 
   pub value-is : getD bases g 0 + took ≡ valueOf (tableOf bs) i
-  unfolding valueOf value placeOf tookBefore
+  unfolding valueOf value scopeOf tookBefore
   value-is =
       let own : g ≡ regionOf (openAt (tableOf bs) i) = q ∙ ap (λ x. x .region) (s .is) in
       rw (own, p) (omega (arith, b .each (regionOf (openAt (tableOf bs) i)) (region-in bs i (s .row))))
@@ -213,7 +213,7 @@ value-low bs i a l =
     omega
     (arith, value-bound (tableOf bs) (regionOf (openAt (tableOf bs) i)) i (omega (arith, table-length bs)), region-regions (tableOf bs) i, regions-bound (tableOf bs) i, table-length bs, few-rows bs a)
 
-pub value-fits : {bs bases : List ℕ} {i g took : ℕ} {here : Place} → Stands bs i here → Based bs bases → took ≡ tookBefore (tableOf bs) i → g ≡ here .region
+pub value-fits : {bs bases : List ℕ} {i g took : ℕ} {here : Scope} → Stands bs i here → Based bs bases → took ≡ tookBefore (tableOf bs) i → g ≡ here .region
     → Fits w16 (getD bases g 0 + took)
 value-fits {bs} {i = i} s b p q = record { fits = omega (arith, value-is s b p q, value-low bs i (s .accepted) (s .row)) }
 

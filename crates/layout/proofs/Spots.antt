@@ -1,36 +1,36 @@
 -- What the readers of a row answer: its spot, the region that it opens, line numbers, its opener, its loop, its callee.
 -- Assumes nothing.
 use mathlib.Core.Path.{_≡_, refl, sym, ap, _∙_, subst}
-use mathlib.Core.Bool.{Bool, true, false}
-use mathlib.Core.List.{List, [], _∷_}
+use mathlib.Core.Bool.{Bool}
+use mathlib.Core.List.{List, _∷_}
 use Prim.Native.Nat.{ℕ, suc, _+_, _-_, _/_, _≤_, _<_}
 use native.Mathlib.Numerals.{add-one}
 use native.Mathlib.Omega.{arith}
 use lib.ListN.{length, getD}
 use lib.Dec.{eqb}
 use Rattle.rules.specs.declared.kind.Kind.{Kind}
-use Rattle.rules.specs.declared.kind.Kind.the-variants.{Function, If, Loop, Call}
+use Rattle.rules.specs.declared.kind.Kind.the-variants.{Call}
 use Rattle.rules.specs.Row.{tableOf, kindAt, operandsAt}
-use Rattle.rules.specs.Scan.{Part, body, loopBody, Open, pushes, shapeOf, regions, openAt, regionOf, bodyRegion, openerOf, around, fromLoop, local, endOf, functionCount, functionRow}
+use Rattle.rules.specs.Scan.{Part, body, loopBody, Open, pushes, shapeOf, regions, openAt, regionOf, bodyRegion, openerOf, around, fromLoop, endOf, functionCount, functionRow}
 use Rattle.rules.specs.Value.{base, value}
 use Rattle.rules.specs.Check.{isOutside}
-use Rattle.rules.specs.Harden.{ownRegion, lineOf, endValue}
+use Rattle.rules.specs.Harden.{lineOf}
 use Rattle.rules.specs.Links.{isOpening}
 use Rattle.rules.proofs.Scan.{Chain, chain, body-least, regions-mono}
 use Rattle.rules.proofs.Value.{held}
 use Rattle.rules.proofs.Accepted.{proper, table-length}
 use Rattle.rules.proofs.Close.{end-is}
-use Rattle.rules.proofs.Function.{FunctionAt, function-at, function-end, callee-known}
+use Rattle.rules.proofs.Function.{function-at, function-end, callee-known}
 use Rattle.rules.proofs.RegionBound.{own-bound, opened-bound, functions-bound}
-use Rattle.layout.specs.declared.place.Place.{Place}
+use Rattle.layout.specs.declared.scope.Scope.{Scope}
 use Rattle.layout.specs.declared.spot.Spot.{Spot}
 use Rattle.rules.specs.declared.operands.Operands.{Operands}
-use Rattle.layout.specs.Place.{placeOf, Surveyed, Stands}
+use Rattle.layout.specs.Scope.{scopeOf, Surveyed, Stands}
 use Rattle.layout.specs.Number.{valueOf, Based, Valued}
 use Rattle.layout.specs.Spot.{Near, Inside, InLoop, Opens, Grows, SpotIs, childOf, inBody, isLoop, OpenerIs, LoopIs, CalleeIs, Head, endOfBody, Ends, Heads}
 use Rattle.layout.proofs.Survey.{some-open}
 use Rattle.layout.proofs.Numbers.{value-low}
-use Rattle.layout.proofs.Around.{opening-pushes, pushes-opening, opened-by, LoopOf, loop-at}
+use Rattle.layout.proofs.Around.{opening-pushes, pushes-opening, opened-by, loop-at}
 
 -- ---- regions by their numbers in the function
 -- row i is within the table
@@ -62,17 +62,17 @@ grows {bs} {m} {i} {k} {p} s o e h = let z = some-open (openAt (tableOf bs) i) (
         record { row = o .row; near = record { low = omega (arith, c .0, l, b); high = omega (arith, u, c .0, l, b) } }
 
 -- ---- the readers
-module _ {bs : List ℕ} {i : ℕ} {here : Place} (s : Stands bs i here) where
+module _ {bs : List ℕ} {i : ℕ} {here : Scope} (s : Stands bs i here) where
   opened-in : here .opened ≤ regions (tableOf bs) (length bs / 6)
-  unfolding placeOf
+  unfolding scopeOf
   opened-in = omega (arith, ap (λ x. x .opened) (s .is), regions-mono (tableOf bs) {i = i} (length bs / 6) (s .row))
 
   pub spot-near : {m : List ℕ} → Surveyed bs m → Inside bs i → Near (here .region) (here .body)
-  unfolding placeOf
+  unfolding scopeOf
   spot-near v o = rw (s .is) (own-near v o)
 
   pub spot-is : {values : List ℕ} {r : ℕ} → Valued bs values → Inside bs i → r ≡ here .region - here .body → SpotIs bs i (record { r = r; e = getD values i 0 })
-  unfolding placeOf
+  unfolding scopeOf
   spot-is v o q =
       record {
         r-is = q ∙ ap (λ x. x .region - x .body) (s .is);
@@ -81,28 +81,28 @@ module _ {bs : List ℕ} {i : ℕ} {here : Place} (s : Stands bs i here) where
       }
 
   pub base-is : {bases : List ℕ} {g : ℕ} → Based bs bases → g ≡ here .opened → getD bases g 0 ≡ base (tableOf bs) (regions (tableOf bs) i)
-  unfolding placeOf
+  unfolding scopeOf
   base-is {bases} {g} b q =
       ap (λ x. getD bases x 0) q ∙ b .each (here .opened) opened-in ∙ ap (λ x. base (tableOf bs) (x .opened)) (s .is)
 
   pub child-near : Grows bs i → Near (here .opened) (here .body)
-  unfolding placeOf
+  unfolding scopeOf
   child-near g = rw (s .is) (g .near)
 
   pub child-is : {r : ℕ} → r ≡ here .opened - here .body → r ≡ childOf (tableOf bs) i
-  unfolding placeOf childOf
+  unfolding scopeOf childOf
   child-is q = q ∙ ap (λ x. x .opened - x .body) (s .is)
 
   pub line-is : here .line ≡ lineOf (tableOf bs) i
-  unfolding placeOf
+  unfolding scopeOf
   line-is = ap (λ x. x .line) (s .is)
 
   pub in-body-is : eqb (here .region) (here .body) ≡ inBody (tableOf bs) i
-  unfolding placeOf inBody
+  unfolding scopeOf inBody
   in-body-is = ap (λ x. eqb (x .region) (x .body)) (s .is)
 
   pub opener-is : {o : ℕ} → Inside bs i → o ≡ here .opener → OpenerIs bs i o
-  unfolding placeOf
+  unfolding scopeOf
   opener-is {o} n q =
       let z : o ≡ openerOf (openAt (tableOf bs) i) = q ∙ ap (λ x. x .opener) (s .is) in
       let r = opened-by (tableOf bs) i (openAt (tableOf bs) i) (held (tableOf bs) i) (n .within) in
@@ -113,7 +113,7 @@ module _ {bs : List ℕ} {i : ℕ} {here : Place} (s : Stands bs i here) where
       }
 
   pub loop-is : {m : List ℕ} {o : ℕ} → Surveyed bs m → InLoop bs i → o ≡ here .repeat → LoopIs bs i o
-  unfolding placeOf
+  unfolding scopeOf
   loop-is {m} {o} v n q =
       let z : o ≡ openerOf (fromLoop (openAt (tableOf bs) i)) = q ∙ ap (λ x. x .repeat) (s .is) in
       let l = loop-at (tableOf bs) (proper bs (s .accepted)) i (omega (arith, table-length bs, s .row)) (n .within) in

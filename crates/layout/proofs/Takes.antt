@@ -1,11 +1,10 @@
 -- What a row takes, by its kind. Assumes nothing.
 use mathlib.Core.Path.{_≡_, refl, sym, ap, _∙_, subst}
-use mathlib.Core.Bool.{Bool, true, false}
+use mathlib.Core.Bool.{false}
 use mathlib.Core.List.{List, [], _∷_}
-use Prim.Native.Nat.{ℕ, _/_, _≤_, _<_}
+use Prim.Native.Nat.{ℕ, _/_, _<_}
 use native.Mathlib.Omega.{arith}
 use lib.ListN.{length}
-use lib.Dec.{eqb}
 use Rattle.rules.specs.declared.kind.Kind.{Kind}
 use Rattle.rules.specs.declared.kind.Kind.the-variants.{Function, Do, If, Else, Loop, End, Break, Continue, Call, Unknown}
 use Rattle.rules.specs.Row.{Table, tableOf, kindAt}
@@ -15,10 +14,9 @@ use Rattle.rules.specs.Check.{isOutside, misplacedIn}
 use Rattle.rules.proofs.Logic.{clash}
 use Rattle.rules.proofs.Scan.{Chain, chain, body-least}
 use Rattle.rules.proofs.Value.{takes-top}
-use Rattle.rules.proofs.Accepted.{table-length}
 use Rattle.rules.proofs.Function.{Formed, formed, isBody}
-use Rattle.layout.specs.declared.place.Place.{Place}
-use Rattle.layout.specs.Place.{placeOf, Stands}
+use Rattle.layout.specs.declared.scope.Scope.{Scope}
+use Rattle.layout.specs.Scope.{scopeOf, Stands}
 use Rattle.layout.specs.Number.{takesAt}
 use Rattle.layout.proofs.Around.{from-loop}
 use Rattle.layout.proofs.Survey.{ok, within, kind-is, not-misplaced, some-open}
@@ -55,7 +53,7 @@ part-end : (t : Table) (f : Open) (fs : List Open) → Formed t (f ∷ fs) → (
 part-end t f [] g e = absurd (e refl)
 part-end t f (h ∷ hs) g e = not-body-takes (f .part) (g .0)
 
-module _ {bs : List ℕ} {i : ℕ} {here : Place} {k : Kind} (s : Stands bs i here) (l : i < length bs / 6) (e : k ≡ kindAt (tableOf bs) i) where
+module _ {bs : List ℕ} {i : ℕ} {here : Scope} {k : Kind} (s : Stands bs i here) (l : i < length bs / 6) (e : k ≡ kindAt (tableOf bs) i) where
   pub takes-function : k ≡ Function → 0 ≡ takesAt (tableOf bs) i
   takes-function q = no-takes (tableOf bs) i Function (kind-is s l e q) (λ p. refl)
 
@@ -92,7 +90,7 @@ module _ {bs : List ℕ} {i : ℕ} {here : Place} {k : Kind} (s : Stands bs i he
   end-by : (d : ℕ) → k ≡ End
       → ((f : Open) (fs : List Open) → Formed (tableOf bs) (f ∷ fs) → Chain (regions (tableOf bs) i) (f ∷ fs) → here .region ≡ f .region → here .body ≡ bodyRegion (f ∷ fs) → takes End (f .part) ≡ d)
       → d ≡ takesAt (tableOf bs) i
-  unfolding takesAt placeOf misplacedIn
+  unfolding takesAt scopeOf misplacedIn
   end-by d q h = let z = some-open (openAt (tableOf bs) i) (not-misplaced s l e q) in by (z .0) (z .1) (z .2) (kind-is s l e q)
     where
       by : (f : Open) (hs : List Open) → openAt (tableOf bs) i ≡ f ∷ hs → kindAt (tableOf bs) i ≡ End

@@ -1,4 +1,4 @@
-pub mod Place
+pub mod Scope
 pub mod Number
 pub mod Spot
 pub mod Layout

@@ -3,6 +3,7 @@ use Prim.Native.Nat.{ℕ, zero, suc, _+_, _/_, _≤_, _<_}
 use mathlib.Core.Path.{_≡_}
 use mathlib.Core.List.{List}
 use lib.ListN.{length, getD, set}
+use Rattle.rules.specs.Limits.{maxRows}
 use Rattle.rules.specs.Row.{Table, tableOf, kindAt}
 use Rattle.rules.specs.Scan.{openAt, regionOf, regions}
 use Rattle.rules.specs.Value.{takesIn, taken, base, valueIn}
@@ -47,5 +48,5 @@ pub record Based (bs bases : List ℕ) : Type 0 where
 
 -- word i is the value of row i
 pub record Valued (bs values : List ℕ) : Type 0 where
-  pub room : 1024 ≤ length values
+  pub room : maxRows ≤ length values
   pub each : (i : ℕ) → i < length bs / 6 → getD values i 0 ≡ valueOf (tableOf bs) i

@@ -1,10 +1,11 @@
 -- What a line says of a row: regions by their numbers in the function, values, the rows that opened what is open, links.
-use Prim.Native.Nat.{ℕ, suc, _+_, _/_, _≤_, _<_}
+use Prim.Native.Nat.{ℕ, _+_, _/_, _≤_, _<_}
 use mathlib.Core.Path.{_≡_}
 use mathlib.Core.Bool.{Bool, true, false}
 use mathlib.Core.List.{List}
 use lib.ListN.{length, getD}
 use lib.Dec.{eqb}
+use Rattle.rules.specs.Limits.{maxRows}
 use Rattle.rules.specs.declared.kind.Kind.{Kind}
 use Rattle.rules.specs.declared.kind.Kind.the-variants.{Function, Do, If, Else, Loop, End, Break, Continue, Call, Unknown}
 use Rattle.rules.specs.Row.{Table, tableOf, kindAt}
@@ -99,11 +100,11 @@ endOfBody t o = value t (regions t o) (endOf t o) + 1
 -- the links of the table: word i is the end row of what row i opens; the else row of the if in row i, or 0; word n is the row of
 -- function n
 pub record Ends (bs ends : List ℕ) : Type 0 where
-  pub room : 1024 ≤ length ends
+  pub room : maxRows ≤ length ends
   pub each : (i : ℕ) → i < length (tableOf bs) → isOpening (kindAt (tableOf bs) i) ≡ true → getD ends i 0 ≡ endOf (tableOf bs) i
 
 pub record Elses (bs elses : List ℕ) : Type 0 where
-  pub room : 1024 ≤ length elses
+  pub room : maxRows ≤ length elses
   pub each : (i : ℕ) → i < length (tableOf bs) → kindAt (tableOf bs) i ≡ If → getD elses i 0 ≡ elseLink (tableOf bs) i
 
 pub record Heads (bs heads : List ℕ) : Type 0 where

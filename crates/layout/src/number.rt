@@ -1,19 +1,20 @@
 // Values: what each row takes, the bases of the regions, and each row's value.
 ghost use mathlib.Core.Path.{_≡_};
-ghost use Prim.Native.Nat.{ℕ, suc, _/_, _≤_, _<_};
+ghost use Prim.Native.Nat.{ℕ, _/_, _≤_, _<_};
 ghost use lib.ListN.{length};
+ghost use Rattle.rules.specs.Limits.{maxRows};
 ghost use Rattle.rules.specs.declared.refusal.Verdict.the-variants.{Accepted};
 ghost use Rattle.rules.specs.Row.{tableOf};
 ghost use Rattle.rules.specs.Check.{verdictOf};
-ghost use Rattle.layout.specs.Place.{Stands, Surveyed};
+ghost use Rattle.layout.specs.Scope.{mapWords, Stands, Surveyed};
 ghost use Rattle.layout.specs.Number.{takesAt, valueOf, tookBefore, Took, Spent, Spends, sums, Summed, Based, Valued};
-use crate::place;
-use crate::place::Place;
 use crate::row;
+use crate::scope;
+use crate::scope::Scope;
 use rules::kind::Kind;
 
 // What row i takes in its region.
-fn take(rows: &[u8], i: usize, here: Place) -> u16
+fn take(rows: &[u8], i: usize, here: Scope) -> u16
     requires { ⌜ (Stands (now rows) i here) × (i < length (now rows) / 6) ⌝ }
     ensures { λ r. ⌜ (r ≡ takesAt (tableOf (now (rows .entry))) i) × (r ≤ 2) ⌝ }
 {
@@ -37,7 +38,7 @@ fn take(rows: &[u8], i: usize, here: Place) -> u16
 }
 
 // Adds what row i takes to the word of its region, and keeps in word i of `took` what the rows before it took there.
-fn spend(rows: &[u8], i: usize, here: Place, spent: &mut [u16], took: &mut [u16])
+fn spend(rows: &[u8], i: usize, here: Scope, spent: &mut [u16], took: &mut [u16])
     requires { ⌜ (Stands (now rows) i here) × (i < length (now rows) / 6) × (i < length (now took)) ⌝ }
     requires { ⌜ Spent (now rows) (now spent) i ⌝ }
     ensures { λ _. ⌜ Spends (now (rows .entry)) i (now (spent .exit)) (now (took .entry)) (now (took .exit)) ⌝ }
@@ -51,21 +52,21 @@ fn spend(rows: &[u8], i: usize, here: Place, spent: &mut [u16], took: &mut [u16]
 // Fills the map, and adds up what all rows take, in each region. One pass: a sum waits for the one before it, and the survey fills
 // that time.
 pub fn survey_and_spend(rows: &[u8], map: &mut [u16], spent: &mut [u16], took: &mut [u16])
-    requires { ⌜ (verdictOf (now rows) ≡ Accepted) × (6150 ≤ length (now map)) ⌝ }
-    requires { ⌜ (Spent (now rows) (now spent) 0) × (1024 ≤ length (now took)) ⌝ }
+    requires { ⌜ (verdictOf (now rows) ≡ Accepted) × (mapWords ≤ length (now map)) ⌝ }
+    requires { ⌜ (Spent (now rows) (now spent) 0) × (maxRows ≤ length (now took)) ⌝ }
     ensures { λ _. ⌜ Surveyed (now (rows .entry)) (now (map .exit)) ⌝ }
     ensures { λ _. ⌜ (Spent (now (rows .entry)) (now (spent .exit)) (length (now (rows .entry)) / 6)) × (Took (now (rows .entry)) (now (took .exit)) (length (now (rows .entry)) / 6)) ⌝ }
 {
     let n = rows.len() / row::WIDTH;
-    let mut here = place::outermost();
+    let mut here = scope::outermost();
     let mut i = 0;
     while i < n {
-        place::keep(map, i, here);
+        scope::keep(map, i, here);
         spend(rows, i, here, spent, took);
-        here = place::after(rows, map, i, here);
+        here = scope::after(rows, map, i, here);
         i += 1;
     }
-    place::keep(map, n, here);
+    scope::keep(map, n, here);
 }
 
 // A running sum of 1 and the sizes: a region's size is 1 and what its rows take. Each word becomes the sum before it.
@@ -89,7 +90,7 @@ pub fn region_bases(rows: &[u8], map: &[u16], words: &mut [u16])
     ensures { λ _. ⌜ Based (now (rows .entry)) (now (words .exit)) ⌝ }
 {
     let n = rows.len() / row::WIDTH;
-    let end = place::stand(rows, map, n);
+    let end = scope::stand(rows, map, n);
     let count = row::index(end.opened) + 1;
     sum(words, count);
 }
@@ -100,14 +101,14 @@ fn value(rows: &[u8], map: &[u16], bases: &[u16], i: usize, took: u16) -> u16
     requires { ⌜ (Based (now rows) (now bases)) × (took ≡ tookBefore (tableOf (now rows)) i) ⌝ }
     ensures { λ r. ⌜ r ≡ valueOf (tableOf (now (rows .entry))) i ⌝ }
 {
-    let here = place::stand(rows, map, i);
+    let here = scope::stand(rows, map, i);
     let g = row::index(here.region);
     bases[g] + took
 }
 
 // The values of all rows: word i, which was what the rows before row i took in its region, becomes the value of row i.
 pub fn row_values(rows: &[u8], map: &[u16], bases: &[u16], values: &mut [u16])
-    requires { ⌜ (Surveyed (now rows) (now map)) × (Based (now rows) (now bases)) × (1024 ≤ length (now values)) ⌝ }
+    requires { ⌜ (Surveyed (now rows) (now map)) × (Based (now rows) (now bases)) × (maxRows ≤ length (now values)) ⌝ }
     requires { ⌜ Took (now rows) (now values) (length (now rows) / 6) ⌝ }
     ensures { λ _. ⌜ Valued (now (rows .entry)) (now (values .exit)) ⌝ }
 {

@@ -2,31 +2,14 @@
 ghost use mathlib.Core.Path.{_≡_};
 ghost use Prim.Native.Nat.{_+_, _/_, _<_};
 ghost use lib.ListN.{length};
-ghost use Rattle.rules.specs.Row.{kindOf, tableOf, kindAt, operandsAt};
+ghost use Rattle.rules.specs.Row.{tableOf, kindAt, operandsAt};
+use rows::kind::kind_of;
 use rules::bytes::word;
 use rules::kind::Kind;
 use rules::operands::Operands;
 
 // A row's bytes.
 pub const WIDTH: usize = 6;
-
-// The kind that a row's first byte says.
-fn kind_of(b: u8) -> Kind
-    ensures { λ r. ⌜ r ≡ kindOf b ⌝ }
-{
-    match b {
-        1 => Kind::Function,
-        2 => Kind::Do,
-        3 => Kind::If,
-        4 => Kind::Else,
-        5 => Kind::Loop,
-        6 => Kind::End,
-        7 => Kind::Break,
-        8 => Kind::Continue,
-        9 => Kind::Call,
-        _ => Kind::Unknown,
-    }
-}
 
 // The kind of row i.
 pub fn kind(rows: &[u8], i: usize) -> Kind

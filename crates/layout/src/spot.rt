@@ -7,11 +7,11 @@ ghost use Rattle.rules.specs.declared.kind.Kind.{Kind};
 ghost use Rattle.rules.specs.Scan.{regions, endOf};
 ghost use Rattle.rules.specs.Value.{base};
 ghost use Rattle.rules.specs.Harden.{lineOf};
-ghost use Rattle.layout.specs.Place.{Surveyed};
+ghost use Rattle.layout.specs.Scope.{Surveyed};
 ghost use Rattle.layout.specs.Number.{Based, Valued};
 ghost use Rattle.layout.specs.Spot.{Near, Inside, InLoop, Opens, Grows, SpotIs, childOf, inBody, isLoop, OpenerIs, LoopIs, Head, CalleeIs, endOfBody, Ends, Heads};
-use crate::place;
 use crate::row;
+use crate::scope;
 use rules::kind::Kind;
 
 // A row's region, by its number in the function, and the row's value.
@@ -33,7 +33,7 @@ pub fn spot_of(rows: &[u8], map: &[u16], values: &[u16], i: usize) -> Spot
     requires { ⌜ (Surveyed (now rows) (now map)) × (Valued (now rows) (now values)) × (Inside (now rows) i) ⌝ }
     ensures { λ r. ⌜ SpotIs (now (rows .entry)) i r ⌝ }
 {
-    let here = place::stand(rows, map, i);
+    let here = scope::stand(rows, map, i);
     Spot {
         r: local(here.region, here.body),
         e: values[i],
@@ -45,7 +45,7 @@ pub fn base_of(rows: &[u8], map: &[u16], bases: &[u16], i: usize) -> u16
     requires { ⌜ (Surveyed (now rows) (now map)) × (Based (now rows) (now bases)) × (i < length (now rows) / 6) ⌝ }
     ensures { λ r. ⌜ r ≡ base (tableOf (now (rows .entry))) (regions (tableOf (now (rows .entry))) i) ⌝ }
 {
-    let here = place::stand(rows, map, i);
+    let here = scope::stand(rows, map, i);
     bases[row::index(here.opened)]
 }
 
@@ -54,7 +54,7 @@ pub fn child_of(rows: &[u8], map: &[u16], i: usize) -> u8
     requires { ⌜ (Surveyed (now rows) (now map)) × (Grows (now rows) i) ⌝ }
     ensures { λ r. ⌜ r ≡ childOf (tableOf (now (rows .entry))) i ⌝ }
 {
-    let here = place::stand(rows, map, i);
+    let here = scope::stand(rows, map, i);
     local(here.opened, here.body)
 }
 
@@ -63,7 +63,7 @@ pub fn line_of(rows: &[u8], map: &[u16], i: usize) -> u16
     requires { ⌜ (Surveyed (now rows) (now map)) × (i ≤ length (now rows) / 6) ⌝ }
     ensures { λ r. ⌜ r ≡ lineOf (tableOf (now (rows .entry))) i ⌝ }
 {
-    let here = place::stand(rows, map, i);
+    let here = scope::stand(rows, map, i);
     here.line
 }
 
@@ -88,7 +88,7 @@ pub fn in_body(rows: &[u8], map: &[u16], i: usize) -> bool
     requires { ⌜ (Surveyed (now rows) (now map)) × (Inside (now rows) i) ⌝ }
     ensures { λ r. ⌜ r ≡ inBody (tableOf (now (rows .entry))) i ⌝ }
 {
-    let here = place::stand(rows, map, i);
+    let here = scope::stand(rows, map, i);
     here.region == here.body
 }
 
@@ -116,7 +116,7 @@ pub fn opener_of(rows: &[u8], map: &[u16], i: usize) -> usize
     requires { ⌜ (Surveyed (now rows) (now map)) × (Inside (now rows) i) ⌝ }
     ensures { λ r. ⌜ OpenerIs (now (rows .entry)) i r ⌝ }
 {
-    let here = place::stand(rows, map, i);
+    let here = scope::stand(rows, map, i);
     row::index(here.opener)
 }
 
@@ -125,7 +125,7 @@ pub fn loop_of(rows: &[u8], map: &[u16], i: usize) -> usize
     requires { ⌜ (Surveyed (now rows) (now map)) × (InLoop (now rows) i) ⌝ }
     ensures { λ r. ⌜ LoopIs (now (rows .entry)) i r ⌝ }
 {
-    let here = place::stand(rows, map, i);
+    let here = scope::stand(rows, map, i);
     row::index(here.repeat)
 }
 

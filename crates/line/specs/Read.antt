@@ -4,7 +4,6 @@ use mathlib.Core.Bool.{Bool, true, false, cond}
 use mathlib.Core.List.{List}
 use lib.Dec.{eqb}
 use lib.ListN.{getD}
-use Rattle.rules.specs.declared.operands.Operands.{Operands}
 use Rattle.rules.specs.Bytes.{wordAt}
 use Rattle.rules.specs.Line.{Line, doLine, tickLine, testLine, leaveLine, outLine, callLine, backLine, retLine, lineWidth}
 use Rattle.line.specs.declared.Line as Declared

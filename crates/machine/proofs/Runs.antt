@@ -1,12 +1,11 @@
 -- Runs of the code: what its loop keeps, and that a run of the code agrees with a run of the hardened machine. Assumes a hardened table.
 use mathlib.Core.Path.{_≡_, refl, sym, ap, _∙_, subst}
-use mathlib.Core.List.{List, [], _∷_}
+use mathlib.Core.List.{List}
 use Prim.Native.Nat.{ℕ, zero, suc, _+_, _-_, _≤_, _<_}
 use native.Mathlib.Omega.{arith}
 use lib.ListN.{length}
 use Rattle.rules.specs.declared.strike.Strike.the-variants.{None}
-use Rattle.rules.specs.declared.step.Step.{Step}
-use Rattle.rules.specs.declared.step.Step.the-variants.{Went, Finished, Alarm, TooManyOpen, Beyond}
+use Rattle.rules.specs.declared.step.Step.the-variants.{Went}
 use Rattle.rules.specs.Line.{Line, linesIn}
 use Rattle.rules.specs.Run.{Turn, on, ends, untaken, Answer, after, run}
 use Rattle.rules.specs.Hardened.{Counters, Hardened, hardenedStep, strikingStep}

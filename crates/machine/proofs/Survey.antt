@@ -15,9 +15,7 @@ use Rattle.rules.specs.Function.{functionAt, startOf}
 use Rattle.rules.proofs.Search.{first-is}
 use Rattle.rules.proofs.Place.{function-at-next, function-at-mono}
 use Rattle.line.specs.declared.Line as Declared
-use Rattle.line.specs.declared.kind.LineKind.{LineKind}
-use Rattle.line.specs.declared.kind.LineKind.the-variants.{Do, Tick, Test, Leave, Out, Call, Back, Ret}
-use Rattle.line.specs.Read.{lineKindAt, structAt, asLine, endsFunction}
+use Rattle.line.specs.Read.{lineKindAt, structAt, endsFunction}
 use Rattle.machine.specs.Map.{Passed, passed, passedOf}
 use Rattle.machine.specs.Stands.{Sound, Located}
 use Rattle.line.proofs.Decode.{line-is, ends-ret}

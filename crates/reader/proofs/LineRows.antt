@@ -1,26 +1,25 @@
 -- The row that a line of each kind stands for, as the bytes that the code writes. Assumes nothing.
 use mathlib.Core.Path.{_≡_, refl, sym, ap, _∙_, subst}
 use mathlib.Core.Bool.{Bool, true, false, cond}
-use mathlib.Core.List.{List, [], _∷_, _++_}
-use Prim.Native.Nat.{ℕ, zero, suc, _+_, _*_, _-_, _/_, _%_, _≤_, _<_}
+use mathlib.Core.List.{List, [], _∷_}
+use Prim.Native.Nat.{ℕ, suc, _+_, _*_, _-_, _/_, _≤_, _<_}
 use native.Mathlib.Numerals.{add-one}
 use native.Mathlib.Omega.{arith}
 use lib.Dec.{eqb, ltb}
 use lib.ListN.{length, getD, List·getD-eq-default}
 use Rattle.rules.specs.declared.kind.Kind.{Kind}
-use Rattle.rules.specs.declared.kind.Kind.the-variants.{Function, Do, If, Else, Loop, End, Break, Continue, Call}
-use Rattle.rules.specs.Bytes.{low, high, wordAt}
+use Rattle.rules.specs.declared.kind.Kind.the-variants.{Do, If, Else, Loop, End, Break, Continue, Call}
+use Rattle.rules.specs.Bytes.{low, high}
 use Rattle.rules.specs.Row.{kindByte, rowBytes, tableBytes}
 use Rattle.rules.specs.Line.{Line, retLine, lineWidth, linesIn, lineAt, isRet}
 use Rattle.rules.specs.Function.{functionAt}
-use Rattle.rules.specs.ReadBack.{bare, leavesTo, rowFor, begins, functionRowIf}
+use Rattle.rules.specs.ReadBack.{leavesTo, rowFor, begins, functionRowIf}
 use Rattle.rules.proofs.Logic.{clash}
 use Rattle.line.specs.declared.Line as Declared
 use Rattle.line.specs.declared.kind.LineKind as Lk
 use Rattle.line.specs.Read.{lineKindAt, structAt, asLine, endsFunction}
 use Rattle.line.proofs.Decode.{length-lines, line-is, ends-ret}
 use Rattle.reader.specs.declared.row.Row.{Row}
-use Rattle.reader.specs.Functions.{Short}
 use Rattle.reader.specs.Row.{six, bareRow, copiedRow, callRow, Added}
 use Rattle.reader.specs.Candidate.{isLeave, testKind, leaveKind, outKind, Here}
 use Rattle.reader.proofs.Stores.{added-none}

@@ -1,13 +1,13 @@
 -- The pass that finds the function of each line. Assumes nothing.
-use mathlib.Core.Path.{_≡_, refl, sym, ap, _∙_, subst}
+use mathlib.Core.Path.{_≡_, refl, sym, ap, _∙_}
 use mathlib.Core.Bool.{Bool, true, false, cond}
 use mathlib.Core.List.{List, [], _∷_}
-use Prim.Native.Nat.{ℕ, zero, suc, _+_, _*_, _/_, _≤_, _<_}
+use Prim.Native.Nat.{ℕ, zero, suc, _+_, _/_, _≤_, _<_}
 use native.Mathlib.Nat.{not-suc-le-zero}
 use native.Mathlib.Omega.{arith}
 use lib.ListN.{length, getD, set, length-set}
 use lib.Seq.{getD-set-same, getD-set-other}
-use Rattle.rules.specs.Line.{Line, lineWidth, linesIn, lineAt, isRet}
+use Rattle.rules.specs.Line.{Line, lineWidth, linesIn, isRet}
 use Rattle.rules.specs.Function.{functionAt}
 use Rattle.rules.proofs.Logic.{Order, less, same, more, order}
 use Rattle.rules.proofs.Place.{one-if, function-at-next}

@@ -1,6 +1,6 @@
 -- Reading the rows line by line. Assumes nothing.
 use mathlib.Core.Path.{_≡_, refl, sym, ap, _∙_, subst}
-use mathlib.Core.Bool.{Bool, true, false, cond}
+use mathlib.Core.Bool.{Bool, true, false}
 use mathlib.Core.List.{List, [], _∷_, _++_, append-assoc}
 use Prim.Native.Nat.{ℕ, zero, suc, _+_, _*_, _-_, _/_, _≤_, _<_}
 use native.Mathlib.Omega.{arith}
@@ -9,7 +9,7 @@ use Rattle.rules.specs.Row.{Table, rowBytes, tableBytes}
 use Rattle.rules.specs.Line.{Line, doLine, tickLine, testLine, leaveLine, outLine, callLine, backLine, retLine, lineWidth, linesIn, lineAt, isRet}
 use Rattle.rules.specs.ReadBack.{rowFor, begins, functionRowIf, unreadTo, unread, sourceBytes}
 use Rattle.rules.proofs.Logic.{append-nil, clash}
-use Rattle.line.specs.declared.kind.LineKind.the-variants.{Do, Tick}
+use Rattle.line.specs.declared.kind.LineKind.the-variants.{Tick}
 use Rattle.line.specs.Read.{lineKindAt, structAt, asLine, endsFunction}
 use Rattle.line.proofs.Decode.{length-lines, line-is}
 use Rattle.reader.specs.Functions.{Short}

@@ -13,6 +13,9 @@ pub const REGIONS: usize = 64;
 // Functions open in a run, the first function 0 among them.
 pub const OPEN: usize = 16;
 
+// The same as a depth is counted.
+pub const DEEPEST: u16 = OPEN as u16;
+
 // A counter word for each region of each open function.
 pub const COUNTERS: usize = 1024;
 

@@ -20,7 +20,7 @@ use Rattle.rules.proofs.Accepted.{proper, table-length}
 use Rattle.rules.proofs.Function.{callee-known}
 use Rattle.rules.proofs.FieldBound.{word-bound, do-fields, test-fields}
 use Rattle.rules.proofs.RegionBound.{functions-bound}
-use Rattle.layout.proofs.Places.{few-rows}
+use Rattle.layout.proofs.Scopes.{few-rows}
 use Rattle.state.specs.declared.machine.Registers.{Registers}
 use Rattle.state.specs.declared.machine.Moved.{Moved}
 use Rattle.state.specs.Machine.{moved, did, didOf, done}

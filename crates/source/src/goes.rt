@@ -10,11 +10,12 @@ ghost use Rattle.rules.specs.Scan.{openAt, partOf, endOf};
 ghost use Rattle.rules.specs.Check.{verdictOf};
 ghost use Rattle.rules.specs.Links.{Links};
 ghost use Rattle.rules.specs.Source.{falseRow};
-ghost use Rattle.layout.specs.Place.{Surveyed};
+ghost use Rattle.layout.specs.Scope.{Surveyed};
 ghost use Rattle.layout.specs.Spot.{Inside, Opens, Ends, Elses, Heads};
 ghost use Rattle.source.specs.Goes.{endGoes, goOf, Known};
-use layout::place;
 use layout::row;
+use layout::scope;
+use layout::scope::MAP;
 use layout::spot;
 use rules::kind::Kind;
 use rules::limits::FUNCTIONS;
@@ -76,7 +77,7 @@ fn row_go(rows: &[u8], map: &[u16], ends: &[u16], elses: &[u16], heads: &[u16], 
     }
 }
 
-// Where every row goes, from the places of the rows and the links.
+// Where every row goes, from the scopes of the rows and the links.
 fn fill(
     rows: &[u8],
     map: &[u16],
@@ -109,7 +110,7 @@ pub fn find(
     requires { ⌜ length (now goes) ≡ maxRows ⌝ }
     ensures { λ _. ⌜ Known (now (rows .entry)) (now (goes .exit)) ⌝ }
 {
-    let mut map = [0u16; 6150];
-    place::survey(rows, &mut map);
+    let mut map = [0u16; MAP];
+    scope::survey(rows, &mut map);
     fill(rows, &map, ends, elses, heads, goes);
 }

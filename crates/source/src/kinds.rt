@@ -1,7 +1,7 @@
 // What a row of each kind does.
 ghost use mathlib.Core.Path.{_≡_};
 ghost use Prim.Native.Nat.{suc, _/_, _<_};
-ghost use lib.ListN.{length};
+ghost use Rattle.rules.specs.Limits.{maxRows, maxOpen};
 ghost use Rattle.rules.specs.declared.kind.Kind.{Kind};
 ghost use Rattle.rules.specs.Row.{tableOf, kindAt, operandsAt};
 ghost use Rattle.rules.specs.Bounds.{VariablesIn};
@@ -10,6 +10,7 @@ ghost use Rattle.state.specs.Open.{opened};
 ghost use Rattle.source.specs.Goes.{goOf, Known};
 ghost use Rattle.source.specs.Step.{goesTo, Standing, afterDo, afterTest, afterJump, afterReturn, afterEnd, afterCall};
 use layout::row;
+use rules::limits::DEEPEST;
 use rules::limits::OPEN;
 use rules::limits::ROWS;
 use rules::limits::VARIABLES;
@@ -32,7 +33,7 @@ fn to_row(k: u16, h: Registers) -> Moved
 
 // The run goes on at the next row.
 pub fn next_row(h: Registers) -> Moved
-    requires { ⌜ h .at < 1024 ⌝ }
+    requires { ⌜ h .at < maxRows ⌝ }
     ensures { λ r. ⌜ r ≡ goesTo h (suc (h .at)) ⌝ }
 {
     to_row(h.at + 1, h)
@@ -47,7 +48,12 @@ fn go_of(rows: &[u8], goes: &[u16; ROWS], h: Registers) -> u16
 }
 
 // The variables change, and the row goes into the next trace slot.
-pub fn do_row(rows: &[u8], h: Registers, variables: &mut [u16; VARIABLES], trace: &mut [u16]) -> Moved
+pub fn do_row(
+    rows: &[u8],
+    h: Registers,
+    variables: &mut [u16; VARIABLES],
+    trace: &mut [u16],
+) -> Moved
     requires { ⌜ (Standing (now rows) h) × (kindAt (tableOf (now rows)) (h .at) ≡ Kind.Do) × (HasSlot h (now trace)) ⌝ }
     ensures { λ r. ⌜ done r (now (variables .exit)) (now (trace .exit)) ≡ afterDo (tableOf (now (rows .entry))) h (now (variables .entry)) (now (trace .entry)) ⌝ }
 {
@@ -56,7 +62,12 @@ pub fn do_row(rows: &[u8], h: Registers, variables: &mut [u16; VARIABLES], trace
 }
 
 // An if or a loop: into its part where the test holds.
-pub fn test_row(rows: &[u8], goes: &[u16; ROWS], h: Registers, variables: &[u16; VARIABLES]) -> Moved
+pub fn test_row(
+    rows: &[u8],
+    goes: &[u16; ROWS],
+    h: Registers,
+    variables: &[u16; VARIABLES],
+) -> Moved
     requires { ⌜ (Standing (now rows) h) × (Known (now rows) (now goes)) × (VariablesIn (operandsAt (tableOf (now rows)) (h .at))) ⌝ }
     ensures { λ r. ⌜ r ≡ afterTest (tableOf (now (rows .entry))) h (now (variables .entry)) ⌝ }
 {
@@ -76,7 +87,7 @@ pub fn jump_row(rows: &[u8], goes: &[u16; ROWS], h: Registers) -> Moved
 
 // The running function returns to the one that waited last, or the run is finished.
 fn returned(h: Registers, resumes: &[u16; OPEN], functions: &[u8; OPEN]) -> Moved
-    requires { ⌜ h .depth < 16 ⌝ }
+    requires { ⌜ h .depth < maxOpen ⌝ }
     ensures { λ r. ⌜ r ≡ afterReturn h (now (resumes .entry)) (now (functions .entry)) ⌝ }
 {
     if 0 < h.depth {
@@ -93,7 +104,7 @@ pub fn end_row(
     resumes: &[u16; OPEN],
     functions: &[u8; OPEN],
 ) -> Moved
-    requires { ⌜ (Standing (now rows) h) × (Known (now rows) (now goes)) × (h .depth < 16) ⌝ }
+    requires { ⌜ (Standing (now rows) h) × (Known (now rows) (now goes)) × (h .depth < maxOpen) ⌝ }
     ensures { λ r. ⌜ r ≡ afterEnd (tableOf (now (rows .entry))) h (now (resumes .entry)) (now (functions .entry)) ⌝ }
 {
     let k = go_of(rows, goes, h);
@@ -112,11 +123,11 @@ pub fn call_row(
     functions: &mut [u8; OPEN],
 ) -> Moved
     requires { ⌜ (Standing (now rows) h) × (Known (now rows) (now goes)) ⌝ }
-    requires { ⌜ (kindAt (tableOf (now rows)) (h .at) ≡ Kind.Call) × (h .depth < 16) ⌝ }
+    requires { ⌜ (kindAt (tableOf (now rows)) (h .at) ≡ Kind.Call) × (h .depth < maxOpen) ⌝ }
     ensures { λ r. ⌜ opened r (now (resumes .exit)) (now (functions .exit)) ≡ afterCall (tableOf (now (rows .entry))) h (now (resumes .entry)) (now (functions .entry)) ⌝ }
 {
-    if 16 <= h.depth + 1 {
-        return stay(Step::TooManyOpen(16), h);
+    if DEEPEST <= h.depth + 1 {
+        return stay(Step::TooManyOpen(DEEPEST), h);
     }
     let o = row::operands_of(rows, row::index(h.at));
     opening(h, o.n as u8, go_of(rows, goes, h), resumes, functions)

@@ -38,11 +38,5 @@ pub fn run_linked(
 {
     let mut goes = [0u16; ROWS];
     goes::find(rows, ends, elses, heads, &mut goes);
-    answer(run::run_rows(
-        rows,
-        &goes,
-        begun(1, variables),
-        budget,
-        trace,
-    ))
+    answer(run::run_rows(rows, &goes, begun(1, variables), budget, trace))
 }

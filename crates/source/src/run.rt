@@ -2,12 +2,12 @@
 ghost use Rattle.source.specs.Goes.{Known};
 ghost use Rattle.source.specs.Run.{partsIn, stoppedWith, Going, Ended};
 use crate::step;
+use rules::limits::ROWS;
+use rules::step::Step;
 use state::machine::Machine;
 use state::machine::Stopped;
 use state::machine::at_end;
 use state::machine::standing;
-use rules::limits::ROWS;
-use rules::step::Step;
 
 // Takes the machine apart, so that its registers stay in those of the processor, and puts it together where it stops.
 pub fn run_rows(

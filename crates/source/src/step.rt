@@ -4,12 +4,12 @@ ghost use Rattle.rules.specs.Row.{tableOf};
 ghost use Rattle.source.specs.Goes.{Known};
 ghost use Rattle.source.specs.Step.{CanStep, partsOf, after, stepOf};
 use crate::kinds;
-use state::machine::Registers;
-use state::machine::Moved;
 use rules::kind::Kind;
 use rules::limits::OPEN;
 use rules::limits::ROWS;
 use rules::limits::VARIABLES;
+use state::machine::Moved;
+use state::machine::Registers;
 
 // `goes` says where each row goes. The loop is the one caller, so that this is compiled into it.
 pub fn row(

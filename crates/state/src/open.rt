@@ -1,6 +1,7 @@
 // The open functions: those that wait, each with its number and where it goes on, and the running one.
 ghost use mathlib.Core.Path.{_≡_};
 ghost use Prim.Native.Nat.{_<_};
+ghost use Rattle.rules.specs.Limits.{maxOpen};
 ghost use Rattle.state.specs.Open.{opened, openedOf, closedOf};
 use crate::machine::Moved;
 use crate::machine::Registers;
@@ -37,7 +38,7 @@ pub fn opening(
 
 // The running function, whose region 0 ended at v, returns to the one that waited last.
 pub fn returning(h: Registers, v: u16, resumes: &[u16; OPEN], functions: &[u8; OPEN]) -> Moved
-    requires { ⌜ (0 < h .depth) × (h .depth < 16) ⌝ }
+    requires { ⌜ (0 < h .depth) × (h .depth < maxOpen) ⌝ }
     ensures { λ r. ⌜ r ≡ closedOf h v (now (resumes .entry)) (now (functions .entry)) ⌝ }
 {
     let k = (h.depth - 1) as usize;

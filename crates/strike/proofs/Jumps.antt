@@ -1,23 +1,22 @@
 -- A run of the code with a jump agrees with the hardened machine's. Assumes a hardened table.
 use mathlib.Core.Path.{_≡_, refl, sym, ap, _∙_, subst}
-use mathlib.Core.Bool.{Bool, true, false, cond, not, _&&_}
-use mathlib.Core.List.{List, []}
+use mathlib.Core.Bool.{Bool, true, false, cond}
+use mathlib.Core.List.{List}
 use Prim.Native.Nat.{ℕ, zero, suc, _+_, _-_, _≤_, _<_}
 use native.Mathlib.Nat.{add-zero, zero-add, suc-add}
 use native.Mathlib.Omega.{arith}
-use lib.Dec.{eqb, leb}
+use lib.Dec.{leb}
 use lib.ListN.{length, getD}
-use borrow.Author.Tests.{eq-eqb, ne-eqb, leb-true, leb-false, le-ltb, le-leb, lt-leb}
+use borrow.Author.Tests.{eq-eqb, leb-true, leb-false, le-leb, lt-leb}
 use Rattle.rules.specs.declared.strike.Strike.{Strike}
 use Rattle.rules.specs.declared.strike.Strike.the-variants.{None, Jump}
 use Rattle.rules.specs.declared.step.Step.{Step}
 use Rattle.rules.specs.declared.step.Step.the-variants.{Went, Finished, Alarm, TooManyOpen, Beyond}
-use Rattle.rules.specs.Limits.{noStep}
 use Rattle.rules.specs.Line.{Line, linesIn}
 use Rattle.rules.specs.Function.{startOf, finishOf, lastPlace}
 use Rattle.rules.specs.State.{goTo}
-use Rattle.rules.specs.Run.{Turn, on, untaken, next, after, run, outcomeOf}
-use Rattle.rules.specs.Hardened.{Counters, Hardened, hardenedStep, strikeBy, placeLine, struck, strikingStep, hardenedStart, hardenedRun}
+use Rattle.rules.specs.Run.{Turn, on, untaken, next, after, run}
+use Rattle.rules.specs.Hardened.{Counters, Hardened, hardenedStep, placeLine, struck, strikingStep, hardenedStart, hardenedRun}
 use Rattle.rules.specs.Demands.{before}
 use Rattle.rules.proofs.Jump.{not-now, after-same, not-reached}
 use Rattle.machine.specs.Step.{Map, Parts, After, lastLine, stepOf}

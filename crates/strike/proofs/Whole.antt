@@ -1,7 +1,7 @@
 -- A whole run of the code: what it starts in stands for the start, and what it answers is what the definitions say. Assumes a hardened
 -- table.
 use mathlib.Core.Path.{_≡_, refl, sym, ap, _∙_, subst}
-use mathlib.Core.List.{List, [], _++_}
+use mathlib.Core.List.{List, _++_}
 use Prim.Native.Nat.{ℕ, _≤_}
 use native.Mathlib.Omega.{arith}
 use lib.ListN.{length, length-set, drop}

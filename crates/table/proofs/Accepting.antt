@@ -1,34 +1,33 @@
 -- What `check` answers: the verdict of the bytes, and the links of an accepted table. Assumes nothing.
-use mathlib.Core.Path.{_≡_, refl, sym, ap, _∙_, subst}
-use mathlib.Core.Bool.{Bool, true, false, cond, not, _||_}
-use mathlib.Core.List.{List, []}
-use Prim.Native.Nat.{ℕ, suc, _+_, _/_, _%_, _-_, _≤_, _<_}
+use mathlib.Core.Path.{_≡_, refl, sym, _∙_}
+use mathlib.Core.Bool.{Bool, true, false, cond}
+use mathlib.Core.List.{List}
+use Prim.Native.Nat.{ℕ, suc, _/_, _%_, _-_, _≤_, _<_}
 use native.Mathlib.Omega.{arith}
 use native.Mathlib.Decide.{decLt}
-use lib.Dec.{eqb, ltb}
+use lib.Dec.{ltb}
 use lib.ListN.{length, getD}
-use borrow.Author.Tests.{eq-eqb, ne-eqb, lt-ltb, le-ltb, ltb-true, ltb-false}
+use borrow.Author.Tests.{ne-eqb, lt-ltb, le-ltb}
 use Rattle.rules.specs.declared.kind.Kind.{Kind}
 use Rattle.rules.specs.declared.kind.Kind.the-variants.{Function, Do, If, Else, Loop, End, Break, Continue, Call, Unknown}
 use Rattle.rules.specs.declared.refusal.Refusal.{Refusal}
 use Rattle.rules.specs.declared.refusal.Refusal.the-variants.{NoWholeRows, TooManyRows}
 use Rattle.rules.specs.declared.refusal.Verdict.{Verdict}
 use Rattle.rules.specs.declared.refusal.Verdict.the-variants.{Accepted, Refused}
-use Rattle.rules.specs.Limits.{maxRows}
-use Rattle.rules.specs.Row.{Table, rowWidth, tableOf, kindAt}
-use Rattle.rules.specs.Scan.{Part, body, thenPart, loopBody, pushes, shapeOf, isElseOf, elseOf, hasElse, endOf, functionCount}
-use Rattle.rules.specs.Check.{noWholeRows, tooManyRows, tableVerdict, callsVerdict, verdictOf}
+use Rattle.rules.specs.Row.{Table, tableOf, kindAt}
+use Rattle.rules.specs.Scan.{Part, body, thenPart, loopBody, pushes, shapeOf, isElseOf, elseOf, endOf, functionCount}
+use Rattle.rules.specs.Check.{tableVerdict, callsVerdict, verdictOf}
 use Rattle.rules.specs.Links.{isOpening, elseLink, Links, Checked}
 use Rattle.rules.proofs.Logic.{clash}
 use Rattle.rules.proofs.Search.{Found, hit, miss, found}
 use Rattle.rules.proofs.Accepted.{Proper, proper, refused-not}
 use Rattle.rules.proofs.Close.{end-is}
-use Rattle.table.specs.Standing.{Linked}
+use Rattle.walk.specs.Standing.{Linked}
 use Rattle.table.specs.Checking.{Scanned, AllOk}
 use Rattle.table.specs.declared.check.All.{All}
 use Rattle.table.specs.declared.check.All.the-variants.{Rejected, Counted}
-use Rattle.table.proofs.Once.{else-below}
-use Rattle.table.proofs.Verdicts.{none-open}
+use Rattle.walk.proofs.Once.{else-below}
+use Rattle.walk.proofs.Verdicts.{none-open}
 
 -- ---- the links of an accepted table
 opened-by : (k : Kind) → isOpening k ≡ true → (p : Part) × (shapeOf k ≡ pushes p)

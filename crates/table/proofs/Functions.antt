@@ -1,14 +1,14 @@
 -- A function of the table: from the row that opens it, outside of every function, to past its end row. What `body` and `function`
 -- answer, as laws. Assumes nothing.
-use mathlib.Core.Logic.{_≢_, _⊎_, inl, inr}
-use mathlib.Core.Path.{_≡_, refl, sym, ap, _∙_, subst}
-use mathlib.Core.Bool.{Bool, true, false, cond, _&&_}
-use mathlib.Core.List.{List, [], _∷_}
+use mathlib.Core.Logic.{_⊎_, inl, inr}
+use mathlib.Core.Path.{_≡_, refl, sym, ap, _∙_}
+use mathlib.Core.Bool.{Bool, true, false, _&&_}
+use mathlib.Core.List.{List, []}
 use Prim.Native.Nat.{ℕ, suc, _+_, _*_, _-_, _≤_, _<_}
 use native.Mathlib.Nat.{eq-or-lt-of-le}
 use native.Mathlib.Numerals.{add-one}
 use native.Mathlib.Omega.{arith}
-use lib.Dec.{leb, eqb}
+use lib.Dec.{eqb}
 use lib.ListN.{length, take, drop, set, getD, length-set, length-drop}
 use lib.Seq.{drop-drop, getD-set-same, getD-set-other}
 use borrow.Author.Tests.{le-leb, lt-leb, eq-eqb, ne-eqb}
@@ -16,7 +16,7 @@ use Rattle.rules.specs.declared.kind.Kind.{Kind}
 use Rattle.rules.specs.declared.kind.Kind.the-variants.{Function, Do, If, Else, Loop, End, Break, Continue, Call, Unknown}
 use Rattle.rules.specs.declared.refusal.Refusal.{Refusal}
 use Rattle.rules.specs.declared.refusal.Refusal.the-variants.{WrongField, Misplaced, TooManyFunctions}
-use Rattle.rules.specs.Limits.{maxRows, maxFunctions}
+use Rattle.rules.specs.Limits.{maxFunctions}
 use Rattle.rules.specs.Row.{Table, rowWidth, tableOf, kindAt}
 use Rattle.rules.specs.Scan.{body, Open, regions, isFunction, functions, functionRow}
 use Rattle.rules.specs.Check.{misplacedIn, oneTooMany}
@@ -24,19 +24,20 @@ use Rattle.rules.proofs.Logic.{clash}
 use Rattle.rules.proofs.Search.{first-is}
 use Rattle.rules.proofs.Scan.{open-next, regions-next}
 use Rattle.rules.proofs.Function.{functions-mono}
-use Rattle.table.specs.First.{firstKind}
-use Rattle.table.specs.Standing.{Headed, Inside, Outside}
-use Rattle.table.specs.Walked.{TurnedAway, Before, seqRows, SeqOk}
+use Rattle.rows.specs.First.{firstKind}
+use Rattle.walk.specs.Standing.{Inside}
+use Rattle.table.specs.Outside.{Headed, Outside}
+use Rattle.walk.specs.Walked.{TurnedAway, seqRows, SeqOk}
 use Rattle.table.specs.Checking.{strayCause, oneRows, OneOk}
-use Rattle.table.specs.declared.walk.Seq.{Seq}
-use Rattle.table.specs.declared.walk.Seq.the-variants.{Broken, AtEnd, AtElse}
+use Rattle.walk.specs.declared.answer.Seq.{Seq}
+use Rattle.walk.specs.declared.answer.Seq.the-variants.{Broken, AtEnd, AtElse}
 use Rattle.table.specs.declared.check.One.{One}
 use Rattle.table.specs.declared.check.One.the-variants.{Unsound, Long}
-use Rattle.table.proofs.Linking.{stays-linked, end-linked}
-use Rattle.table.proofs.Rows.{drops, isKnown, Reads, reads, reads-wrong, cut-length, cut-within, cut-on}
-use Rattle.table.proofs.Verdicts.{wrong-refused, row-good, misplaced-refused, functions-refused}
-use Rattle.table.proofs.Stepping.{inside-at, same-functions, else-misplaced}
-use Rattle.table.proofs.Nested.{seq-at}
+use Rattle.walk.proofs.Linking.{stays-linked, end-linked}
+use Rattle.rows.proofs.Rows.{drops, isKnown, Reads, reads, reads-wrong, cut-length, cut-within, cut-on}
+use Rattle.walk.proofs.Verdicts.{wrong-refused, row-good, misplaced-refused, functions-refused}
+use Rattle.walk.proofs.Stepping.{inside-at, same-functions, else-misplaced}
+use Rattle.walk.proofs.Nested.{seq-at}
 
 abbrev bodyOf : (base g : ℕ) → Open
 bodyOf base g = record { part = body; opener = base; region = g }

@@ -1,13 +1,3 @@
-pub mod Fields
-pub mod Once
-pub mod Linking
-pub mod Rows
-pub mod Verdicts
-pub mod Stepping
-pub mod DoRows
-pub mod Constructs
-pub mod Nested
-pub mod Sequence
 pub mod Functions
 pub mod Whole
 pub mod Accepting

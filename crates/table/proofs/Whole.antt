@@ -1,8 +1,8 @@
 -- The loops over the functions and over the calls of a table: their invariants and answers, as laws. Assumes nothing.
-use mathlib.Core.Path.{_≡_, refl, sym, ap, _∙_, subst}
+use mathlib.Core.Path.{_≡_, refl, sym, ap, _∙_}
 use mathlib.Core.Bool.{Bool, true, false, _&&_}
-use mathlib.Core.List.{List, []}
-use Prim.Native.Nat.{ℕ, zero, suc, _+_, _*_, _/_, _-_, _≤_, _<_}
+use mathlib.Core.List.{List}
+use Prim.Native.Nat.{ℕ, suc, _+_, _*_, _-_, _≤_, _<_}
 use native.Mathlib.Numerals.{add-one}
 use native.Mathlib.Decide.{le-ind}
 use native.Mathlib.Omega.{arith}
@@ -10,22 +10,19 @@ use lib.Dec.{leb}
 use lib.ListN.{length, take, drop, length-drop}
 use Rattle.rules.specs.declared.refusal.Refusal.{Refusal}
 use Rattle.rules.specs.declared.refusal.Refusal.the-variants.{NoSuchFunction}
-use Rattle.rules.specs.declared.refusal.Verdict.{Verdict}
 use Rattle.rules.specs.declared.refusal.Verdict.the-variants.{Accepted, Refused}
-use Rattle.rules.specs.Limits.{maxRows, maxFunctions}
-use Rattle.rules.specs.Row.{Row, Table, rowWidth, rowIn, rowAt, tableOf}
+use Rattle.rules.specs.Row.{Row, Table, rowIn, rowAt, tableOf}
 use Rattle.rules.specs.Scan.{openAt, functions, functionCount}
-use Rattle.rules.specs.Refusal.{andThen, refuseIf}
+use Rattle.rules.specs.Refusal.{refuseIf}
 use Rattle.rules.specs.Check.{isCall, noSuchFunction, rowsVerdict, callsVerdict}
 use Rattle.rules.proofs.Accepted.{table-length}
-use Rattle.table.specs.First.{callsBeyond}
-use Rattle.table.specs.Standing.{Linked, Headed, Outside}
-use Rattle.table.specs.Checking.{oneRows, OneOk, Scanned, AllOk}
+use Rattle.rows.specs.First.{callsBeyond}
+use Rattle.table.specs.Outside.{Outside}
+use Rattle.table.specs.Checking.{oneRows, OneOk, AllOk}
 use Rattle.table.specs.declared.check.One.{One}
 use Rattle.table.specs.declared.check.One.the-variants.{Unsound, Long}
-use Rattle.table.specs.declared.check.All.{All}
 use Rattle.table.specs.declared.check.All.the-variants.{Rejected, Counted}
-use Rattle.table.proofs.Rows.{rest-all, drops, cut-end, cut-row, cut-within}
+use Rattle.rows.proofs.Rows.{rest-all, drops, cut-end, cut-row, cut-within}
 use Rattle.table.proofs.Functions.{outside-at}
 
 -- ---- the functions: up to row `at`, with n of them

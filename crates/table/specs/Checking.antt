@@ -11,8 +11,9 @@ use Rattle.rules.specs.declared.refusal.Verdict.the-variants.{Accepted}
 use Rattle.rules.specs.Row.{rowWidth, tableOf}
 use Rattle.rules.specs.Scan.{openAt, functionCount}
 use Rattle.rules.specs.Check.{rowsVerdict}
-use Rattle.table.specs.Standing.{Linked, Headed, Outside}
-use Rattle.table.specs.Walked.{TurnedAway}
+use Rattle.walk.specs.Standing.{Linked}
+use Rattle.table.specs.Outside.{Headed, Outside}
+use Rattle.walk.specs.Walked.{TurnedAway}
 use Rattle.table.specs.declared.check.One.{One}
 use Rattle.table.specs.declared.check.One.the-variants.{Unsound, Long}
 use Rattle.table.specs.declared.check.All.{All}

@@ -1,5 +1,2 @@
-pub mod First
-pub mod Dos
-pub mod Standing
-pub mod Walked
+pub mod Outside
 pub mod Checking

@@ -1,22 +1,25 @@
 // Checking a whole table: tests 1 and 2, its functions one after the other, the end of the table, and its calls.
-use crate::row::calls_beyond;
-use crate::row::first_kind;
-use crate::row::is_function;
-use crate::walk::Seq;
-use crate::walk::link;
-use crate::walk::sequence;
+use rows::first::calls_beyond;
+use rows::first::first_kind;
+use rows::kind::is_function;
 use rules::kind::Kind;
+use rules::limits::FUNCTIONS;
+use rules::limits::ROWS;
 use rules::refusal::Refusal;
 use rules::refusal::Verdict;
+use walk::answer::Seq;
+use walk::link::link;
+use walk::parts::sequence;
 ghost use mathlib.Core.Path.{_≡_};
-ghost use Prim.Native.Nat.{ℕ, _+_, _*_, _≤_, _<_};
+ghost use Prim.Native.Nat.{_+_, _*_, _≤_, _<_};
 ghost use lib.ListN.{length};
-ghost use Rattle.rules.specs.Row.{tableOf};
+ghost use Rattle.rules.specs.Limits.{maxRows, maxFunctions};
+ghost use Rattle.rules.specs.Row.{rowWidth, tableOf};
 ghost use Rattle.rules.specs.Scan.{functionCount};
 ghost use Rattle.rules.specs.Check.{callsVerdict};
 ghost use Rattle.rules.specs.Links.{Checked};
 ghost use Rattle.rules.specs.Calls.{zeros};
-ghost use Rattle.table.specs.First.{firstKind};
+ghost use Rattle.rows.specs.First.{firstKind};
 ghost use Rattle.table.specs.Checking.{strayCause, OneOk, AllOk};
 
 // A function: refused, or so many rows long.
@@ -58,12 +61,12 @@ fn body(
     elses: &mut [u16],
     heads: &mut [u16],
 ) -> One
-    requires { ⌜ 6 * base + length (now rows) ≤ 6144 ⌝ }
-    requires { ⌜ (length (now ends) ≡ 1024) × (length (now elses) ≡ 1024) × (length (now heads) ≡ 32) ⌝ }
+    requires { ⌜ rowWidth * base + length (now rows) ≤ rowWidth * maxRows ⌝ }
+    requires { ⌜ (length (now ends) ≡ maxRows) × (length (now elses) ≡ maxRows) × (length (now heads) ≡ maxFunctions) ⌝ }
     requires { ⌜ (5 < length (now rows)) × (firstKind (now rows) ≡ Kind.Function) ⌝ }
     ensures { λ r. ⌜ OneOk (now (rows .entry)) base count (now (ends .entry)) (now (elses .entry)) (now (heads .entry)) (now (ends .exit)) (now (elses .exit)) (now (heads .exit)) r ⌝ }
 {
-    if count >= 32 {
+    if count >= FUNCTIONS {
         return One::Unsound(Refusal::TooManyFunctions);
     }
     link(heads, count, base);
@@ -86,8 +89,8 @@ fn function(
     elses: &mut [u16],
     heads: &mut [u16],
 ) -> One
-    requires { ⌜ 6 * base + length (now rows) ≤ 6144 ⌝ }
-    requires { ⌜ (length (now ends) ≡ 1024) × (length (now elses) ≡ 1024) × (length (now heads) ≡ 32) ⌝ }
+    requires { ⌜ rowWidth * base + length (now rows) ≤ rowWidth * maxRows ⌝ }
+    requires { ⌜ (length (now ends) ≡ maxRows) × (length (now elses) ≡ maxRows) × (length (now heads) ≡ maxFunctions) ⌝ }
     requires { ⌜ 5 < length (now rows) ⌝ }
     ensures { λ r. ⌜ OneOk (now (rows .entry)) base count (now (ends .entry)) (now (elses .entry)) (now (heads .entry)) (now (ends .exit)) (now (elses .exit)) (now (heads .exit)) r ⌝ }
 {
@@ -100,8 +103,8 @@ fn function(
 
 // The functions of the table, one after the other.
 fn functions(rows: &[u8], ends: &mut [u16], elses: &mut [u16], heads: &mut [u16]) -> All
-    requires { ⌜ length (now rows) ≤ 6144 ⌝ }
-    requires { ⌜ (length (now ends) ≡ 1024) × (length (now elses) ≡ 1024) × (length (now heads) ≡ 32) ⌝ }
+    requires { ⌜ length (now rows) ≤ rowWidth * maxRows ⌝ }
+    requires { ⌜ (length (now ends) ≡ maxRows) × (length (now elses) ≡ maxRows) × (length (now heads) ≡ maxFunctions) ⌝ }
     ensures { λ r. ⌜ AllOk (now (rows .entry)) (now (ends .exit)) (now (elses .exit)) (now (heads .exit)) r ⌝ }
 {
     let mut at = 0;
@@ -136,25 +139,25 @@ fn calls(rows: &[u8], count: usize) -> Verdict
 }
 
 // A word for each row, for its links.
-pub fn row_words() -> [u16; 1024]
-    ensures { λ r. ⌜ r ≡ zeros 1024 ⌝ }
+pub fn row_words() -> [u16; ROWS]
+    ensures { λ r. ⌜ r ≡ zeros maxRows ⌝ }
 {
-    [0; 1024]
+    [0; ROWS]
 }
 
 // A word for each function, for its row.
-pub fn function_words() -> [u16; 32]
-    ensures { λ r. ⌜ r ≡ zeros 32 ⌝ }
+pub fn function_words() -> [u16; FUNCTIONS]
+    ensures { λ r. ⌜ r ≡ zeros maxFunctions ⌝ }
 {
-    [0; 32]
+    [0; FUNCTIONS]
 }
 
 // The verdict of the bytes as a source table, and where it is accepted its links.
 pub fn check(
     rows: &[u8],
-    ends: &mut [u16; 1024],
-    elses: &mut [u16; 1024],
-    heads: &mut [u16; 32],
+    ends: &mut [u16; ROWS],
+    elses: &mut [u16; ROWS],
+    heads: &mut [u16; FUNCTIONS],
 ) -> Verdict
     ensures { λ r. ⌜ Checked (now (rows .entry)) r (now (ends .exit)) (now (elses .exit)) (now (heads .exit)) ⌝ }
 {
@@ -164,7 +167,7 @@ pub fn check(
     if rows.len() % 6 != 0 {
         return Verdict::Refused(Refusal::NoWholeRows);
     }
-    if rows.len() / 6 > 1024 {
+    if rows.len() / 6 > ROWS {
         return Verdict::Refused(Refusal::TooManyRows);
     }
     match functions(rows, ends, elses, heads) {

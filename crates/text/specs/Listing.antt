@@ -46,7 +46,7 @@ pub record Written (text before after : List ℕ) (end : ℕ) : Type 0 where
   pub text-is : after ≡ text ++ drop (length text) before
   pub length-is : end ≡ length text
 
--- the text is stored from `at`, and `next` is the place behind it
+-- the text is stored from `at`, and `next` is the byte behind it
 pub record Puts (text : List ℕ) (at : ℕ) (before after : List ℕ) (next : ℕ) : Type 0 where
   pub after-is : after ≡ sets before at text
   pub next-is : next ≡ at + length text

@@ -1,4 +1,4 @@
-use mathlib.Core.Path.{ap, sym, _∙_, refl, subst}
+use mathlib.Core.Path.{sym, _∙_}
 use denote.Ref.{now}
 use mathlib.Core.Bool.{true, false}
 use native.Mathlib.Omega.{arith}

@@ -1,7 +1,7 @@
-use mathlib.Core.Path.{ap, sym, _∙_, refl, subst}
+use mathlib.Core.Path.{ap, sym, _∙_}
 use native.Mathlib.Omega.{arith}
 use denote.Ref.{now}
-use Rattle.finuraho.specs.Given.{refusedRunWith, runs, hardenedRuns}
+use Rattle.finuraho.specs.Given.{hardenedRuns}
 use Rattle.rules.proofs.Calls.{run-hardened-refused}
 use Rattle.rules.proofs.Promise.{promise}
 use borrow.Author.Needs.{needs}

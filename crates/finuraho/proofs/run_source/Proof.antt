@@ -1,7 +1,6 @@
-use mathlib.Core.Path.{ap, sym, _∙_, refl, subst}
-use native.Mathlib.Omega.{arith}
+use mathlib.Core.Path.{ap, sym, _∙_}
 use denote.Ref.{now}
-use Rattle.finuraho.specs.Given.{refusedRunWith, runs, hardenedRuns}
+use Rattle.finuraho.specs.Given.{runs}
 use Rattle.rules.proofs.Calls.{run-source-refused}
 use borrow.Author.Needs.{needs}
 use Rattle.finuraho.proofs.run_source.Statement.{statement}

@@ -1,6 +1,5 @@
-use mathlib.Core.Path.{ap, sym, _∙_, refl, subst}
+use mathlib.Core.Path.{subst}
 use denote.Ref.{now}
-use native.Mathlib.Omega.{arith}
 use Rattle.reader.specs.Found.{FoundIs}
 use Rattle.reader.proofs.Finds.{none-told, some-told}
 use borrow.Author.Needs.{needs}

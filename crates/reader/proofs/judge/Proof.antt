@@ -1,6 +1,5 @@
-use mathlib.Core.Path.{ap, sym, _∙_, refl, subst}
+use mathlib.Core.Path.{sym, _∙_, refl}
 use denote.Ref.{now}
-use native.Mathlib.Omega.{arith}
 use Rattle.reader.proofs.Finds.{judged}
 use borrow.Author.Needs.{needs}
 use Rattle.reader.proofs.judge.Statement.{statement}

@@ -1,11 +1,11 @@
-use mathlib.Core.Path.{ap, sym, _∙_, refl, subst}
+use mathlib.Core.Path.{ap, sym, _∙_}
 use native.Mathlib.Omega.{arith}
 use denote.Ref.{now}
 use Rattle.rules.specs.declared.refusal.Verdict.the-variants.{Accepted}
 use Rattle.rules.specs.Calls.{countersAfter}
 use Rattle.strike.specs.Struck.{acceptedRun}
 use Rattle.rules.proofs.strike.strike_by.Reads as strike-by-reads
-use Rattle.finuraho.specs.Given.{refusedRunWith, runs, hardenedRuns}
+use Rattle.finuraho.specs.Given.{hardenedRuns}
 use Rattle.rules.proofs.Calls.{run-hardened-no-slots, run-hardened-no-words, run-hardened-accepted}
 use borrow.Author.Needs.{needs}
 use Rattle.finuraho.proofs.run.hardened_run.Statement.{statement}

@@ -1,4 +1,4 @@
-use mathlib.Core.Path.{ap, sym, _∙_, refl, subst}
+use mathlib.Core.Path.{ap}
 use borrow.Author.Needs.{needs}
 use Rattle.finuraho.proofs.run.refused.Statement.{statement}
 use Rattle.finuraho.proofs.run.refused.Tie as tie

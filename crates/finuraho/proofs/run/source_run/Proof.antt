@@ -1,7 +1,7 @@
-use mathlib.Core.Path.{ap, sym, _∙_, refl, subst}
+use mathlib.Core.Path.{ap, sym, _∙_}
 use native.Mathlib.Omega.{arith}
 use denote.Ref.{now}
-use Rattle.finuraho.specs.Given.{refusedRunWith, runs, hardenedRuns}
+use Rattle.finuraho.specs.Given.{runs}
 use Rattle.rules.proofs.Calls.{run-source-short, run-source-accepted}
 use borrow.Author.Needs.{needs}
 use Rattle.finuraho.proofs.run.source_run.Statement.{statement}

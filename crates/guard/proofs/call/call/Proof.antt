@@ -20,7 +20,6 @@ use Rattle.state.proofs.open.opening.Reads as opening-reads
 shallow : {d : ℕ} → d + 1 < 16 → d < 15
 shallow h = omega arith
 
-
 index-requires : tie.Need-index-requires
 index-requires c κs = search needs
 

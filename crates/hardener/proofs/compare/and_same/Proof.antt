@@ -1,8 +1,4 @@
 use Rattle.hardener.proofs.Compares.{and-kept, and-lost}
-use mathlib.Core.Path.{ap, sym, _∙_, refl}
-use borrow.Author.Needs.{needs}
-use lib.Dec.{eqb}
-use mathlib.Core.Bool.{_&&_}
 use Rattle.hardener.proofs.compare.and_same.Statement.{statement}
 use Rattle.hardener.proofs.compare.and_same.Tie as tie
 use Rattle.hardener.proofs.compare.and_same.Reads as reads

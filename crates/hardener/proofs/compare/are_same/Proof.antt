@@ -1,4 +1,3 @@
-use mathlib.Core.Path.{ap, sym, _∙_, refl}
 use borrow.Author.Needs.{needs}
 use native.Mathlib.Omega.{arith}
 use denote.Ref.{now}

@@ -11,7 +11,7 @@ use Rattle.hardener.proofs.pass.make.Tie as tie
 use Rattle.hardener.proofs.pass.make.Reads as reads
 use Rattle.hardener.proofs.pass.make.Lts as lts
 use Rattle.hardener.proofs.compare.agrees.Reads as agrees-reads
-use Rattle.hardener.proofs.emit.emit_rows.Reads as emit-rows-reads
+use Rattle.emit.proofs.emit_rows.Reads as emit-rows-reads
 use Rattle.hardener.proofs.pass.batch.Reads as batch-reads
 use Rattle.layout.proofs.row.index.Reads as index-reads
 use Rattle.layout.proofs.spot.line_of.Reads as line-of-reads

@@ -6,7 +6,7 @@ use Rattle.layout.proofs.number.region_bases.Tie as tie
 use Rattle.layout.proofs.number.region_bases.Reads as reads
 use Rattle.layout.proofs.number.region_bases.Lts as lts
 use Rattle.layout.proofs.number.sum.Reads as sum-reads
-use Rattle.layout.proofs.place.stand.Reads as stand-reads
+use Rattle.layout.proofs.scope.stand.Reads as stand-reads
 use Rattle.layout.proofs.row.index.Reads as index-reads
 
 stand-requires : tie.Need-stand-requires

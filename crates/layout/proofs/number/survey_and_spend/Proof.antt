@@ -9,9 +9,9 @@ use Rattle.layout.proofs.number.survey_and_spend.Tie as tie
 use Rattle.layout.proofs.number.survey_and_spend.Reads as reads
 use Rattle.layout.proofs.number.survey_and_spend.Lts as lts
 use Rattle.layout.proofs.number.spend.Reads as spend-reads
-use Rattle.layout.proofs.place.after.Reads as after-reads
-use Rattle.layout.proofs.place.keep.Reads as keep-reads
-use Rattle.layout.proofs.place.outermost.Reads as outermost-reads
+use Rattle.layout.proofs.scope.after.Reads as after-reads
+use Rattle.layout.proofs.scope.keep.Reads as keep-reads
+use Rattle.layout.proofs.scope.outermost.Reads as outermost-reads
 
 abbrev Inv-loop : tie.InvT-loop
 Inv-loop rows map₀ spent₀ took₀ n here₀ i₀ map spent took here i =

@@ -4,7 +4,7 @@ use Rattle.layout.proofs.row.kind.Statement.{statement}
 use Rattle.layout.proofs.row.kind.Tie as tie
 use Rattle.layout.proofs.row.kind.Reads as reads
 use Rattle.layout.proofs.row.kind.Lts as lts
-use Rattle.layout.proofs.row.kind_of.Reads as kind-of-reads
+use Rattle.rows.proofs.kind.kind_of.Reads as kind-of-reads
 
 mul-kind-of : tie.Need-mul-kind-of
 mul-kind-of c = search needs

@@ -4,7 +4,7 @@ use Rattle.layout.proofs.spot.in_body.Statement.{statement}
 use Rattle.layout.proofs.spot.in_body.Tie as tie
 use Rattle.layout.proofs.spot.in_body.Reads as reads
 use Rattle.layout.proofs.spot.in_body.Lts as lts
-use Rattle.layout.proofs.place.stand.Reads as stand-reads
+use Rattle.layout.proofs.scope.stand.Reads as stand-reads
 
 stand-requires : tie.Need-stand-requires
 stand-requires c κs = search needs

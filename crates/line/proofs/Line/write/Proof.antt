@@ -23,7 +23,6 @@ spells : (bs : List ℕ) (at : ℕ) (l : Declared.Line) (x : List ℕ) (n₀ n�
 unfolding put
 spells bs at l x n₀ n₁ e₀ e₁ a₀ a₁ b₀ b₁ c₀ c₁ g₀ g₁ p₀ p₁ q₀ q₁ r₀ r₁ s₀ s₁ t₀ t₁ u₀ u₁ w = rw (w, p₀, p₁, q₀, q₁, r₀, r₁, s₀, s₁, t₀, t₁, u₀, u₁)
 
-
 low-requires : tie.Need-low-requires
 low-requires c κs = search needs
 

@@ -1,12 +1,11 @@
 use Rattle.line.proofs.Puts.{copies}
 use borrow.Author.Needs.{needs}
 use native.Mathlib.Omega.{arith}
-use mathlib.Core.Path.{_≡_, refl}
+use mathlib.Core.Path.{_≡_}
 use denote.Ref.{now}
 use Prim.Native.Nat.{_≤_, _-_}
-use native.Mathlib.Numerals.{add-one}
 use lib.ListN.{length, length-set}
-use lib.Seq.{paste, paste-zero, paste-suc}
+use lib.Seq.{paste}
 use Rattle.line.proofs.bytes.copy.Statement.{statement}
 use Rattle.line.proofs.bytes.copy.Tie as tie
 use Rattle.line.proofs.bytes.copy.Reads as reads

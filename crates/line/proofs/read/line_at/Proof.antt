@@ -31,7 +31,6 @@ made : (bs : List ℕ) (k n e a b c go : ℕ) → n ≡ wordAt bs (20 * k + 4) �
 unfolding structAt
 made bs k n e a b c go pn pe pa pb pc pg = rw (pn, pe, pa, pb, pc, pg)
 
-
 mul-at : tie.Need-mul-at
 mul-at c = search needs
 

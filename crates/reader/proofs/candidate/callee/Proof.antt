@@ -1,4 +1,4 @@
-use mathlib.Core.Path.{ap, sym, _∙_, refl}
+use mathlib.Core.Path.{ap, _∙_}
 use denote.Ref.{now}
 use native.Mathlib.Omega.{arith}
 use Rattle.reader.proofs.Numbering.{owner-inside, owner-beyond}

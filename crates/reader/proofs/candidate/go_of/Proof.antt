@@ -1,4 +1,3 @@
-use native.Mathlib.Omega.{arith}
 use borrow.Author.Needs.{needs}
 use Rattle.line.specs.Read.{structAt}
 use Rattle.reader.proofs.candidate.go_of.Statement.{statement}

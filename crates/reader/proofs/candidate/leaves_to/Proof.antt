@@ -1,4 +1,4 @@
-use mathlib.Core.Path.{ap, sym, _∙_, refl}
+use mathlib.Core.Path.{ap, sym, _∙_}
 use denote.Ref.{now}
 use lib.Dec.{eqb}
 use Rattle.reader.specs.Candidate.{isLeave}

@@ -1,8 +1,7 @@
 use Rattle.reader.specs.Row.{copiedRow, bareRow}
-use mathlib.Core.Path.{ap, sym, _∙_, refl}
+use mathlib.Core.Path.{ap, sym, _∙_}
 use denote.Ref.{now}
 use Rattle.reader.proofs.LineRows.{do-row, tick-row, test-row, leave-row, out-row, call-row, back-row, ret-row}
-use native.Mathlib.Omega.{arith}
 use borrow.Author.Needs.{needs}
 use Rattle.reader.proofs.candidate.stand.Statement.{statement}
 use Rattle.reader.proofs.candidate.stand.Tie as tie

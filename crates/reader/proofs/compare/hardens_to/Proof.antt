@@ -1,6 +1,5 @@
-use mathlib.Core.Path.{ap, sym, _∙_, refl, subst}
+use mathlib.Core.Path.{ap, sym, _∙_}
 use denote.Ref.{now}
-use native.Mathlib.Omega.{arith}
 use Rattle.rules.specs.Refusal.{isAccepted}
 use Rattle.rules.specs.Check.{verdictOf}
 use Rattle.reader.proofs.Compares.{judged-refused, judged-accepted}

@@ -2,7 +2,6 @@
 use Prim.Native.Nat.{_-_}
 use native.Mathlib.Omega.{arith}
 use Rattle.reader.proofs.Passes.{DosTo, dos-start, dos-more}
-use borrow.Author.Needs.{needs}
 use Rattle.reader.proofs.dos.dos.Statement.{statement}
 use Rattle.reader.proofs.dos.dos.Tie as tie
 use Rattle.reader.proofs.dos.dos.Reads as reads

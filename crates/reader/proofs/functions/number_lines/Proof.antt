@@ -3,8 +3,8 @@ use Prim.Native.Nat.{_/_, _-_}
 use lib.ListN.{length, length-set}
 use borrow.Author.Needs.{needs}
 use native.Mathlib.Omega.{arith}
-use mathlib.Core.Path.{_∙_, ap}
-use Rattle.reader.proofs.Numbering.{Numbering, numbering-first, few-functions, numberings}
+use mathlib.Core.Path.{ap}
+use Rattle.reader.proofs.Numbering.{Numbering, few-functions, numberings}
 use Rattle.reader.proofs.functions.number_lines.Statement.{statement}
 use Rattle.reader.proofs.functions.number_lines.Tie as tie
 use Rattle.reader.proofs.functions.number_lines.Reads as reads

@@ -1,7 +1,6 @@
-use mathlib.Core.Path.{ap, sym, _∙_, refl}
+use mathlib.Core.Path.{ap, sym, _∙_}
 use Rattle.reader.proofs.Numbering.{chosen, other}
 use Rattle.line.specs.Read.{endsFunction}
-use native.Mathlib.Omega.{arith}
 use borrow.Author.Needs.{needs}
 use Rattle.reader.proofs.functions.pass.Statement.{statement}
 use Rattle.reader.proofs.functions.pass.Tie as tie

@@ -1,7 +1,6 @@
 use native.Mathlib.Omega.{arith}
 use Prim.Native.Nat.{_-_}
-use borrow.Author.Needs.{needs}
-use Rattle.layout.proofs.Places.{few-rows}
+use Rattle.layout.proofs.Scopes.{few-rows}
 use Rattle.source.proofs.Targets.{Filling, fill-starts, fill-on, filled}
 use Rattle.source.proofs.goes.fill.Statement.{statement}
 use Rattle.source.proofs.goes.fill.Tie as tie

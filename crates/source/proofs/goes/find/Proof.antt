@@ -5,7 +5,7 @@ use Rattle.source.proofs.goes.find.Statement.{statement}
 use Rattle.source.proofs.goes.find.Tie as tie
 use Rattle.source.proofs.goes.find.Reads as reads
 use Rattle.source.proofs.goes.find.Lts as lts
-use Rattle.layout.proofs.place.survey.Reads as survey-reads
+use Rattle.layout.proofs.scope.survey.Reads as survey-reads
 use Rattle.source.proofs.goes.fill.Reads as fill-reads
 
 slice-aggregate-survey : tie.Need-slice-aggregate-survey

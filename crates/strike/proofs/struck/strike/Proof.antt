@@ -23,7 +23,6 @@ by-jump : (bs : List ℕ) (m : Map) (b k place : ℕ) (p : Parts) (j : Strike) �
 unfolding struckOf
 by-jump bs m b k place p j e = ap (λ x. struckOf bs m b x p) (sym e)
 
-
 enum-told : tie.Need-enum-told
 enum-told c = search needs
 

@@ -1,6 +1,5 @@
 -- `table::check::function` meets its contract. Assumes nothing.
 use borrow.Author.Needs.{needs}
-use native.Mathlib.Omega.{arith}
 use Rattle.table.proofs.Functions.{function-at, function-stray}
 use Rattle.table.proofs.check.function.Statement.{statement}
 use Rattle.table.proofs.check.function.Tie as tie

@@ -1,5 +1,4 @@
 use Rattle.reader.proofs.Stores.{call-is}
-use mathlib.Core.Path.{ap, sym, _∙_, refl, subst}
 use borrow.Author.Needs.{needs}
 use Rattle.reader.proofs.row.Row.call.Statement.{statement}
 use Rattle.reader.proofs.row.Row.call.Tie as tie

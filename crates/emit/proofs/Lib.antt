@@ -1,0 +1,4 @@
+pub mod RowLines
+pub mod Leaves
+pub mod Calls
+pub mod Emits

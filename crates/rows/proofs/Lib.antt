@@ -1,0 +1,4 @@
+pub mod Fields
+pub mod FirstRow
+pub mod Rows
+pub mod DoRows

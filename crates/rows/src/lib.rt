@@ -1,0 +1,5 @@
+// The rows of a source table, one at a time: the kind and the fields that their bytes say.
+pub mod dos;
+pub mod first;
+pub mod fits;
+pub mod kind;

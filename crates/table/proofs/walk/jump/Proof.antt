@@ -1,9 +1,0 @@
--- `table::walk::jump` meets its contract. Assumes nothing.
-use Rattle.table.proofs.walk.jump.Statement.{statement}
-use Rattle.table.proofs.walk.jump.Tie as tie
-
-pub jump-spec : {M : Type 1} → statement M
-jump-spec = tie.close
-    (tie.spec
-    (λ c. rw (c .if1 .taken))
-    (λ c. rw (c .if1 .left)))
