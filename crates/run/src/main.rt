@@ -21,6 +21,7 @@ use console::input;
 use console::input::Read;
 use console::output;
 use console::start;
+use rules::answer::Ran;
 use rules::limits::COUNTERS;
 use rules::limits::NO_STEP;
 use rules::limits::VARIABLES;
@@ -74,63 +75,63 @@ fn tell_no_jump(a: Asked) {
 fn run(a: Asked, variables: [u16; VARIABLES], chunk: &mut [u8], bytes: &mut [u8])
     requires { ⌜ 65536 ≡ length (now bytes) ⌝ }
 {
-    let mut text = io::large_buffer();
-    let mut trace = slots();
-    if a.hardened {
-        match input::take_lines(chunk, bytes) {
-            Read::Bytes(n) => {
-                let all = output::within(n, bytes);
-                hardened_run(a, &bytes[..all], variables, &mut trace, &mut text);
-            }
-            Read::Nothing => {}
-        }
-        return;
-    }
-    match input::take_rows(chunk, bytes) {
+    match take(a.hardened, chunk, bytes) {
         Read::Bytes(n) => {
             let all = output::within(n, bytes);
-            source_run(a, &bytes[..all], variables, &mut trace, &mut text);
+            run_table(a, &bytes[..all], variables);
         }
         Read::Nothing => {}
     }
 }
 
-fn source_run(
-    a: Asked,
-    rows: &[u8],
-    variables: [u16; VARIABLES],
-    trace: &mut [u16; 65535],
-    text: &mut [u8; 65536],
-) {
-    let mut at = 0;
-    if a.show {
-        at = source_steps::list(rows, variables, a.budget, trace, text);
+// The lines or the rows, as bytes.
+fn take(hardened: bool, chunk: &mut [u8], bytes: &mut [u8]) -> Read
+    requires { ⌜ 65536 ≡ length (now bytes) ⌝ }
+{
+    if hardened {
+        return input::take_lines(chunk, bytes);
     }
-    let r = finuraho::run_source(rows, variables, a.budget, trace);
-    answer::tell(r, a.trace, trace, at, text);
+    input::take_rows(chunk, bytes)
 }
 
-fn hardened_run(
+fn run_table(a: Asked, table: &[u8], variables: [u16; VARIABLES]) {
+    let mut text = io::large_buffer();
+    let mut trace = slots();
+    let at = list_steps(a, table, variables, &mut trace, &mut text);
+    let r = ran(a, table, variables, &mut trace);
+    answer::tell(r, a.trace, &trace, at, &mut text);
+}
+
+// With the word `show`: how many bytes the buffer then holds.
+fn list_steps(
     a: Asked,
-    lines: &[u8],
+    table: &[u8],
     variables: [u16; VARIABLES],
     trace: &mut [u16; 65535],
     text: &mut [u8; 65536],
-) {
-    let mut at = 0;
-    if a.show {
-        let strike = strike_by(a.step, a.place);
-        at = hardened_steps::list(lines, variables, a.budget, strike, trace, text);
+) -> usize {
+    if !a.show {
+        return 0;
     }
-    let mut counters = [0u16; COUNTERS];
-    let r = finuraho::run_hardened(
-        lines,
-        variables,
-        a.budget,
-        a.step,
-        a.place,
-        trace,
-        &mut counters,
-    );
-    answer::tell(r, a.trace, trace, at, text);
+    if a.hardened {
+        let strike = strike_by(a.step, a.place);
+        return hardened_steps::list(table, variables, a.budget, strike, trace, text);
+    }
+    source_steps::list(table, variables, a.budget, trace, text)
+}
+
+fn ran(a: Asked, table: &[u8], variables: [u16; VARIABLES], trace: &mut [u16; 65535]) -> Ran {
+    if a.hardened {
+        let mut counters = [0u16; COUNTERS];
+        return finuraho::run_hardened(
+            table,
+            variables,
+            a.budget,
+            a.step,
+            a.place,
+            trace,
+            &mut counters,
+        );
+    }
+    finuraho::run_source(table, variables, a.budget, trace)
 }
