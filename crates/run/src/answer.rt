@@ -65,7 +65,7 @@ fn list_trace(rows: &[u16], whole: bool, at: usize, text: &mut [u8; 65536]) -> u
 }
 
 // The answer behind what the buffer holds already, or `refused N`. Behind steps there is never a refusal.
-pub fn tell(r: Ran, whole: bool, trace: &[u16], at: usize, text: &mut [u8; 65536]) {
+pub fn tell(r: Ran, whole: bool, trace: &[u16; 65535], at: usize, text: &mut [u8; 65536]) {
     if r.number != 0 {
         output::refused(r.number, text);
         return;

@@ -6,6 +6,8 @@ use crate::word::Word;
 use crate::wrong::Expected;
 use console::number::Number;
 use console::word::is;
+use rules::limits::NO_STEP;
+use rules::limits::VARIABLES;
 
 // A budget, a jump, `trace` and `show` are given once at most.
 pub struct Asked {
@@ -37,7 +39,7 @@ pub enum Taken {
 }
 
 // Reads each word into the buffer, where the first wrong one stays.
-pub fn read(buffer: &mut [u8], variables: &mut [u16; 16]) -> Given
+pub fn read(buffer: &mut [u8], variables: &mut [u16; VARIABLES]) -> Given
     requires { ⌜ 4096 ≡ length (now buffer) ⌝ }
 {
     let n = os::arg(1, buffer);
@@ -54,11 +56,11 @@ pub fn read(buffer: &mut [u8], variables: &mut [u16; 16]) -> Given
 }
 
 // The words behind the first.
-fn read_rest(start: Asked, buffer: &mut [u8], variables: &mut [u16; 16]) -> Given
+fn read_rest(start: Asked, buffer: &mut [u8], variables: &mut [u16; VARIABLES]) -> Given
     requires { ⌜ 4096 ≡ length (now buffer) ⌝ }
 {
     let count = os::arg_count();
-    let mut seen = [0u8; 16];
+    let mut seen = [0u8; VARIABLES];
     let mut asked = start;
     let mut i = 2;
     while i < count {
@@ -93,12 +95,12 @@ fn begun(hardened: bool) -> Asked {
         budgeted: false,
         struck: false,
         budget: 65535,
-        step: 65535,
+        step: NO_STEP,
         place: 0,
     }
 }
 
-fn take(w: Word, a: Asked, variables: &mut [u16; 16], seen: &mut [u8; 16]) -> Taken {
+fn take(w: Word, a: Asked, variables: &mut [u16; VARIABLES], seen: &mut [u8; VARIABLES]) -> Taken {
     match w {
         Word::Budget(x) => take_budget(x, a),
         Word::Variable(k, v) => take_variable(k, v, a, variables, seen),
@@ -174,8 +176,8 @@ fn take_variable(
     k: u16,
     value: Number,
     a: Asked,
-    variables: &mut [u16; 16],
-    seen: &mut [u8; 16],
+    variables: &mut [u16; VARIABLES],
+    seen: &mut [u8; VARIABLES],
 ) -> Taken {
     if 15 < k {
         return Taken::Wrong(fitting(Expected::Any, a.hardened));

@@ -12,11 +12,6 @@ ghost use lib.ListN.{length};
 
 mod answer;
 mod arguments;
-mod hardened_steps;
-mod limit;
-mod line;
-mod row;
-mod source_steps;
 mod word;
 mod wrong;
 
@@ -26,6 +21,13 @@ use console::input;
 use console::input::Read;
 use console::output;
 use console::start;
+use rules::answer::Ran;
+use rules::limits::COUNTERS;
+use rules::limits::NO_STEP;
+use rules::limits::VARIABLES;
+use rules::strike::strike_by;
+use show::hardened_steps;
+use show::source_steps;
 
 // Slots for the longest trace.
 fn slots() -> [u16; 65535] {
@@ -48,7 +50,7 @@ trace lists a trace of more than 20 rows, show lists each step.
 
 fn take_words() {
     let mut buffer = io::buffer();
-    let mut variables = [0u16; 16];
+    let mut variables = [0u16; VARIABLES];
     match arguments::read(&mut buffer, &mut variables) {
         Given::Wrong(f) => {
             let expected = f.expected;
@@ -65,70 +67,71 @@ fn take_words() {
 
 // No budget holds step 65,535, so that a jump before it is none.
 fn tell_no_jump(a: Asked) {
-    if a.struck && a.step == 65535 {
+    if a.struck && a.step == NO_STEP {
         io::write_all(2, b"step 65535 is no jump: no budget holds it\n");
     }
 }
 
-fn run(a: Asked, variables: [u16; 16], chunk: &mut [u8], bytes: &mut [u8])
+fn run(a: Asked, variables: [u16; VARIABLES], chunk: &mut [u8], bytes: &mut [u8])
     requires { ⌜ 65536 ≡ length (now bytes) ⌝ }
 {
-    let mut text = io::large_buffer();
-    let mut trace = slots();
-    if a.hardened {
-        match input::take_lines(chunk, bytes) {
-            Read::Bytes(n) => {
-                let all = output::within(n, bytes);
-                hardened_run(a, &bytes[..all], variables, &mut trace, &mut text);
-            }
-            Read::Nothing => {}
-        }
-        return;
-    }
-    match input::take_rows(chunk, bytes) {
+    match take(a.hardened, chunk, bytes) {
         Read::Bytes(n) => {
             let all = output::within(n, bytes);
-            source_run(a, &bytes[..all], variables, &mut trace, &mut text);
+            run_table(a, &bytes[..all], variables);
         }
         Read::Nothing => {}
     }
 }
 
-fn source_run(
-    a: Asked,
-    rows: &[u8],
-    variables: [u16; 16],
-    trace: &mut [u16; 65535],
-    text: &mut [u8; 65536],
-) {
-    let mut at = 0;
-    if a.show {
-        at = source_steps::list(rows, variables, a.budget, trace, text);
+// The lines or the rows, as bytes.
+fn take(hardened: bool, chunk: &mut [u8], bytes: &mut [u8]) -> Read
+    requires { ⌜ 65536 ≡ length (now bytes) ⌝ }
+{
+    if hardened {
+        return input::take_lines(chunk, bytes);
     }
-    let r = finuraho::run_source(rows, variables, a.budget, trace);
-    answer::tell(r, a.trace, trace, at, text);
+    input::take_rows(chunk, bytes)
 }
 
-fn hardened_run(
+fn run_table(a: Asked, table: &[u8], variables: [u16; VARIABLES]) {
+    let mut text = io::large_buffer();
+    let mut trace = slots();
+    let at = list_steps(a, table, variables, &mut trace, &mut text);
+    let r = ran(a, table, variables, &mut trace);
+    answer::tell(r, a.trace, &trace, at, &mut text);
+}
+
+// With the word `show`: how many bytes the buffer then holds.
+fn list_steps(
     a: Asked,
-    lines: &[u8],
-    variables: [u16; 16],
+    table: &[u8],
+    variables: [u16; VARIABLES],
     trace: &mut [u16; 65535],
     text: &mut [u8; 65536],
-) {
-    let mut at = 0;
-    if a.show {
-        at = hardened_steps::list(lines, variables, a.budget, a.step, a.place, trace, text);
+) -> usize {
+    if !a.show {
+        return 0;
     }
-    let mut counters = [0u16; 1024];
-    let r = finuraho::run_hardened(
-        lines,
-        variables,
-        a.budget,
-        a.step,
-        a.place,
-        trace,
-        &mut counters,
-    );
-    answer::tell(r, a.trace, trace, at, text);
+    if a.hardened {
+        let strike = strike_by(a.step, a.place);
+        return hardened_steps::list(table, variables, a.budget, strike, trace, text);
+    }
+    source_steps::list(table, variables, a.budget, trace, text)
+}
+
+fn ran(a: Asked, table: &[u8], variables: [u16; VARIABLES], trace: &mut [u16; 65535]) -> Ran {
+    if a.hardened {
+        let mut counters = [0u16; COUNTERS];
+        return finuraho::run_hardened(
+            table,
+            variables,
+            a.budget,
+            a.step,
+            a.place,
+            trace,
+            &mut counters,
+        );
+    }
+    finuraho::run_source(table, variables, a.budget, trace)
 }

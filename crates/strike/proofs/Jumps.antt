@@ -167,7 +167,7 @@ module _ (bs : List ℕ) (m : Map) (rd : Ready bs m) (held : List ℕ) (b k plac
       (resumes-are bs m rd held p s st) (by-place (leb place (placesIn m (p .registers))) refl))
 
 -- ---- the steps before it
-lands-inside : (bs : List ℕ) (m : Map) (left place : ℕ) (o : Step) (f : ℕ → After) (z : After) → z .step ≡ o
+pub lands-inside : (bs : List ℕ) (m : Map) (left place : ℕ) (o : Step) (f : ℕ → After) (z : After) → z .step ≡ o
     → landsAfter bs m left place (onward o f z) ≡ onward o (λ j. landsAfter bs m left place (f j)) z
 unfolding landsAfter
 lands-inside bs m left place (Went k) f z e = refl
