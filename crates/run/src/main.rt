@@ -11,12 +11,11 @@ ghost use mathlib.Core.Path.{_≡_};
 ghost use lib.ListN.{length};
 
 mod answer;
-mod arguments;
-mod word;
-mod wrong;
 
-use arguments::Asked;
-use arguments::Given;
+use command::arguments;
+use command::arguments::Asked;
+use command::arguments::Given;
+use command::wrong;
 use console::input;
 use console::input::Read;
 use console::output;

@@ -1,11 +1,10 @@
 -- What each turn of the loop that lists a source run keeps. Assumes an accepted table.
-use mathlib.Core.Path.{_≡_, refl, sym, ap, _∙_, subst}
+use mathlib.Core.Path.{_≡_, refl, ap, _∙_, subst}
 use mathlib.Core.List.{List}
 use Prim.Native.Nat.{ℕ, zero, suc, _+_, _-_, _≤_, _<_}
 use native.Mathlib.Omega.{arith}
 use lib.ListN.{length}
-use Rattle.rules.specs.declared.step.Step.{Step}
-use Rattle.rules.specs.declared.step.Step.the-variants.{Went, Finished, Alarm, TooManyOpen, Beyond}
+use Rattle.rules.specs.declared.step.Step.the-variants.{Went}
 use Rattle.rules.specs.Row.{tableOf}
 use Rattle.rules.specs.Run.{run}
 use Rattle.state.specs.Machine.{onward}

@@ -16,8 +16,7 @@ use Rattle.rules.specs.Line.{Line, linesIn}
 use Rattle.rules.specs.Function.{startOf, finishOf, lastPlace}
 use Rattle.rules.specs.State.{goTo}
 use Rattle.rules.specs.Run.{Turn, on, untaken, next, after, run}
-use Rattle.rules.specs.Hardened.{Counters, Hardened, hardenedStep, placeLine, struck, strikingStep, hardenedStart, hardenedRun}
-use Rattle.rules.specs.Demands.{before}
+use Rattle.rules.specs.Hardened.{Counters, Hardened, hardenedStep, placeLine, strikingStep, hardenedStart, hardenedRun}
 use Rattle.rules.proofs.Jump.{not-now, after-same, not-reached}
 use Rattle.machine.specs.Step.{Map, Parts, After, lastLine, stepOf}
 use Rattle.machine.specs.Run.{partsAt, stopsAfter, runOf}

@@ -1,11 +1,9 @@
-use native.Mathlib.Omega.{arith}
+-- `run::answer::list` meets its contract. Assumes nothing.
 use lib.ListN.{length}
 use Prim.Native.Nat.{_-_, _≤_}
 use borrow.Author.Needs.{needs}
 use Rattle.run.proofs.answer.list.Statement.{statement}
 use Rattle.run.proofs.answer.list.Tie as tie
-use Rattle.run.proofs.answer.list.Reads as reads
-use Rattle.run.proofs.answer.list.Lts as lts
 
 abbrev Inv-loop : tie.InvT-loop
 Inv-loop words at text₀ next₀ i₀ t6 text next i = i ≤ length words

@@ -1,9 +1,8 @@
+-- `show::due::earlier` meets its contract. Assumes nothing.
 use Rattle.show.proofs.Strikes.{later-now, later-next}
 use borrow.Author.Needs.{needs}
 use Rattle.show.proofs.due.earlier.Statement.{statement}
 use Rattle.show.proofs.due.earlier.Tie as tie
-use Rattle.show.proofs.due.earlier.Reads as reads
-use Rattle.show.proofs.due.earlier.Lts as lts
 
 returns : tie.Need-returns
 returns c = later-now _ _ (c .if1 .taken)

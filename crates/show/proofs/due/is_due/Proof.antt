@@ -1,10 +1,9 @@
+-- `show::due::is_due` meets its contract. Assumes nothing.
 use mathlib.Core.Path.{sym, ap}
 use Rattle.show.specs.Due.{isDue}
 use borrow.Author.Needs.{needs}
 use Rattle.show.proofs.due.is_due.Statement.{statement}
 use Rattle.show.proofs.due.is_due.Tie as tie
-use Rattle.show.proofs.due.is_due.Reads as reads
-use Rattle.show.proofs.due.is_due.Lts as lts
 
 enum-told : tie.Need-enum-told
 enum-told c = search needs

@@ -1,11 +1,9 @@
+-- `show::due::later` meets its contract. Assumes nothing.
 use mathlib.Core.Path.{sym, ap, _∙_}
 use Rattle.show.specs.Due.{later}
 use borrow.Author.Needs.{needs}
 use Rattle.show.proofs.due.later.Statement.{statement}
 use Rattle.show.proofs.due.later.Tie as tie
-use Rattle.show.proofs.due.later.Reads as reads
-use Rattle.show.proofs.due.later.Lts as lts
-use Rattle.show.proofs.due.earlier.Reads as earlier-reads
 
 enum-told : tie.Need-enum-told
 enum-told c = search needs

@@ -1,10 +1,8 @@
+-- `show::due::left_after` meets its contract. Assumes nothing.
 use Rattle.show.proofs.Strikes.{left-less}
 use borrow.Author.Needs.{needs}
 use Rattle.show.proofs.due.left_after.Statement.{statement}
 use Rattle.show.proofs.due.left_after.Tie as tie
-use Rattle.show.proofs.due.left_after.Reads as reads
-use Rattle.show.proofs.due.left_after.Lts as lts
-use Rattle.show.proofs.due.is_due.Reads as is-due-reads
 
 is-due-requires : tie.Need-is-due-requires
 is-due-requires c κs = search needs

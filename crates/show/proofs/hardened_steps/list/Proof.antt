@@ -1,11 +1,8 @@
+-- `show::hardened_steps::list` meets its contract. Assumes nothing.
 use mathlib.Core.Path.{sym, _∙_}
 use borrow.Author.Needs.{needs}
 use Rattle.show.proofs.hardened_steps.list.Statement.{statement}
 use Rattle.show.proofs.hardened_steps.list.Tie as tie
-use Rattle.show.proofs.hardened_steps.list.Reads as reads
-use Rattle.show.proofs.hardened_steps.list.Lts as lts
-use Rattle.reader.proofs.is_hardened.Reads as is-hardened-reads
-use Rattle.show.proofs.hardened_steps.list_accepted.Reads as list-accepted-reads
 
 is-hardened-requires : tie.Need-is-hardened-requires
 is-hardened-requires c κs = search needs

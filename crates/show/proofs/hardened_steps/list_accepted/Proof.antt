@@ -1,3 +1,4 @@
+-- `show::hardened_steps::list_accepted` meets its contract. Assumes nothing.
 use mathlib.Core.Path.{sym, subst}
 use native.Mathlib.Omega.{arith}
 use denote.Ref.{now}
@@ -9,16 +10,6 @@ use Rattle.strike.proofs.Whole.{going-start}
 use borrow.Author.Needs.{needs}
 use Rattle.show.proofs.hardened_steps.list_accepted.Statement.{statement}
 use Rattle.show.proofs.hardened_steps.list_accepted.Tie as tie
-use Rattle.show.proofs.hardened_steps.list_accepted.Reads as reads
-use Rattle.show.proofs.hardened_steps.list_accepted.Lts as lts
-use Rattle.state.proofs.machine.begun.Reads as begun-reads
-use Rattle.machine.proofs.map.home_of.Reads as home-of-reads
-use Rattle.machine.proofs.map.survey.Reads as survey-reads
-use Rattle.guard.proofs.counters.fresh.Reads as fresh-reads
-use Rattle.show.proofs.hardened_steps.no_counters.Reads as no-counters-reads
-use Rattle.machine.proofs.map.no_owners.Reads as no-owners-reads
-use Rattle.machine.proofs.map.no_starts.Reads as no-starts-reads
-use Rattle.show.proofs.hardened_steps.walk.Reads as walk-reads
 
 no-starts-requires : tie.Need-no-starts-requires
 no-starts-requires c κs = search needs

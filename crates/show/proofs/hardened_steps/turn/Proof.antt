@@ -1,3 +1,4 @@
+-- `show::hardened_steps::turn` meets its contract. Assumes nothing.
 use mathlib.Core.Path.{_∙_}
 use native.Mathlib.Omega.{arith}
 use Rattle.strike.proofs.Jumps.{going-fewer}
@@ -6,14 +7,6 @@ use Rattle.show.proofs.Lines.{placed}
 use borrow.Author.Needs.{needs}
 use Rattle.show.proofs.hardened_steps.turn.Statement.{statement}
 use Rattle.show.proofs.hardened_steps.turn.Tie as tie
-use Rattle.show.proofs.hardened_steps.turn.Reads as reads
-use Rattle.show.proofs.hardened_steps.turn.Lts as lts
-use Rattle.machine.proofs.run.step.Reads as step-reads
-use Rattle.show.proofs.due.is_due.Reads as is-due-reads
-use Rattle.show.proofs.due.place_of.Reads as place-of-reads
-use Rattle.show.proofs.line_text.list.Reads as list-reads
-use Rattle.show.proofs.line_text.list_jump.Reads as list-jump-reads
-use Rattle.strike.proofs.struck.land.Reads as land-reads
 
 is-due-requires : tie.Need-is-due-requires
 is-due-requires c κs = search needs

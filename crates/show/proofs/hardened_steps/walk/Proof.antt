@@ -1,5 +1,5 @@
+-- `show::hardened_steps::walk` meets its contract. Assumes nothing.
 use mathlib.Core.Path.{_∙_}
-use native.Mathlib.Omega.{arith}
 use Prim.Native.Nat.{_+_}
 use Rattle.machine.specs.Step.{mapOf}
 use Rattle.machine.specs.Run.{partsIn}
@@ -7,11 +7,6 @@ use Rattle.state.proofs.Ends.{not-went}
 use Rattle.show.proofs.Lines.{Walking, turnsIn, fewer-turns, walk-starts, going-one, walks-on, walks-over, walk-spent}
 use Rattle.show.proofs.hardened_steps.walk.Statement.{statement}
 use Rattle.show.proofs.hardened_steps.walk.Tie as tie
-use Rattle.show.proofs.hardened_steps.walk.Reads as reads
-use Rattle.show.proofs.hardened_steps.walk.Lts as lts
-use Rattle.show.proofs.due.later.Reads as later-reads
-use Rattle.show.proofs.due.left_after.Reads as left-after-reads
-use Rattle.show.proofs.hardened_steps.turn.Reads as turn-reads
 
 abbrev Inv-loop : tie.InvT-loop
 Inv-loop lines starts owners home budget counters₀ trace₀ at₀ text₀ m₀ left₀ rest₀ counters trace at text m left rest =

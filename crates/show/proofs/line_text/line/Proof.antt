@@ -1,16 +1,8 @@
+-- `show::line_text::line` meets its contract. Assumes nothing.
 use Rattle.show.proofs.Fields.{fields-in}
 use borrow.Author.Needs.{needs}
 use Rattle.show.proofs.line_text.line.Statement.{statement}
 use Rattle.show.proofs.line_text.line.Tie as tie
-use Rattle.show.proofs.line_text.line.Reads as reads
-use Rattle.show.proofs.line_text.line.Lts as lts
-use Rattle.console.proofs.print.put.Reads as put-reads
-use Rattle.line.proofs.read.kind_at.Reads as kind-at-reads
-use Rattle.line.proofs.read.line_at.Reads as line-at-reads
-use Rattle.show.proofs.line_text.counter.Reads as counter-reads
-use Rattle.show.proofs.line_text.ended.Reads as ended-reads
-use Rattle.show.proofs.line_text.looks.Reads as looks-reads
-use Rattle.show.proofs.line_text.word.Reads as word-reads
 
 kind-at-requires : tie.Need-kind-at-requires
 kind-at-requires c κs = search needs

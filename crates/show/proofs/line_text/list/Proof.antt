@@ -1,11 +1,7 @@
+-- `show::line_text::list` meets its contract. Assumes nothing.
 use borrow.Author.Needs.{needs}
 use Rattle.show.proofs.line_text.list.Statement.{statement}
 use Rattle.show.proofs.line_text.list.Tie as tie
-use Rattle.show.proofs.line_text.list.Reads as reads
-use Rattle.show.proofs.line_text.list.Lts as lts
-use Rattle.show.proofs.front.list.Reads as list-reads
-use Rattle.show.proofs.line_text.end.Reads as end-reads
-use Rattle.show.proofs.line_text.line.Reads as line-reads
 
 cast-f : tie.Need-cast-f
 cast-f c = search needs

@@ -1,10 +1,9 @@
+-- `show::line_text::looks` meets its contract. Assumes nothing.
 use Rattle.show.proofs.Fields.{leave-in, one-in}
 use native.Mathlib.Omega.{arith}
 use borrow.Author.Needs.{needs}
 use Rattle.show.proofs.line_text.looks.Statement.{statement}
 use Rattle.show.proofs.line_text.looks.Tie as tie
-use Rattle.show.proofs.line_text.looks.Reads as reads
-use Rattle.show.proofs.line_text.looks.Lts as lts
 
 enum-told : tie.Need-enum-told
 enum-told c = search needs

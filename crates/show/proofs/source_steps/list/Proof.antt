@@ -1,11 +1,8 @@
+-- `show::source_steps::list` meets its contract. Assumes nothing.
 use mathlib.Core.Path.{sym, _∙_}
 use borrow.Author.Needs.{needs}
 use Rattle.show.proofs.source_steps.list.Statement.{statement}
 use Rattle.show.proofs.source_steps.list.Tie as tie
-use Rattle.show.proofs.source_steps.list.Reads as reads
-use Rattle.show.proofs.source_steps.list.Lts as lts
-use Rattle.show.proofs.source_steps.list_accepted.Reads as list-accepted-reads
-use Rattle.table.proofs.check.check.Reads as check-reads
 
 check-requires : tie.Need-check-requires
 check-requires c κs = search needs

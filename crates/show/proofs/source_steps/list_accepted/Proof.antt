@@ -1,13 +1,9 @@
+-- `show::source_steps::list_accepted` meets its contract. Assumes nothing.
 use native.Mathlib.Omega.{arith}
 use Rattle.source.proofs.Runs.{starts}
 use borrow.Author.Needs.{needs}
 use Rattle.show.proofs.source_steps.list_accepted.Statement.{statement}
 use Rattle.show.proofs.source_steps.list_accepted.Tie as tie
-use Rattle.show.proofs.source_steps.list_accepted.Reads as reads
-use Rattle.show.proofs.source_steps.list_accepted.Lts as lts
-use Rattle.show.proofs.source_steps.walk.Reads as walk-reads
-use Rattle.source.proofs.goes.find.Reads as find-reads
-use Rattle.state.proofs.machine.begun.Reads as begun-reads
 
 find-requires : tie.Need-find-requires
 find-requires c κs = search needs

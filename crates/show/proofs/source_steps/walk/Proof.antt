@@ -1,15 +1,11 @@
+-- `show::source_steps::walk` meets its contract. Assumes nothing.
 use mathlib.Core.Path.{_∙_}
 use native.Mathlib.Omega.{arith}
 use Rattle.state.proofs.Ends.{not-went}
 use Rattle.source.specs.Run.{partsIn}
 use Rattle.show.proofs.Rows.{Walking, walk-starts, going-one, walks-on, walks-over, walk-spent}
-use borrow.Author.Needs.{needs}
 use Rattle.show.proofs.source_steps.walk.Statement.{statement}
 use Rattle.show.proofs.source_steps.walk.Tie as tie
-use Rattle.show.proofs.source_steps.walk.Reads as reads
-use Rattle.show.proofs.source_steps.walk.Lts as lts
-use Rattle.show.proofs.row_text.list.Reads as list-reads
-use Rattle.source.proofs.run.step.Reads as step-reads
 
 abbrev Inv-loop : tie.InvT-loop
 Inv-loop rows goes budget trace₀ at₀ text₀ m₀ left₀ trace at text m left =

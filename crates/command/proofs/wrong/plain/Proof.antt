@@ -1,13 +1,11 @@
+-- `command::wrong::plain` meets its contract. Assumes nothing.
 use native.Mathlib.Omega.{arith}
 use mathlib.Core.Path.{_≡_}
 use lib.ListN.{length, length-set}
 use Prim.Native.Nat.{_-_, _≤_}
 use borrow.Author.Needs.{needs}
-use Rattle.run.proofs.wrong.plain.Statement.{statement}
-use Rattle.run.proofs.wrong.plain.Tie as tie
-use Rattle.run.proofs.wrong.plain.Reads as reads
-use Rattle.run.proofs.wrong.plain.Lts as lts
-use Rattle.run.proofs.wrong.shown.Reads as shown-reads
+use Rattle.command.proofs.wrong.plain.Statement.{statement}
+use Rattle.command.proofs.wrong.plain.Tie as tie
 
 abbrev Inv-loop : tie.InvT-loop
 Inv-loop word₀ i₀ word i = (i ≤ length word₀) × (length word ≡ length word₀)

@@ -1,18 +1,10 @@
-use native.Mathlib.Omega.{arith}
+-- `command::arguments::read_rest` meets its contract. Assumes nothing.
 use mathlib.Core.Path.{_≡_}
 use lib.ListN.{length}
 use Prim.Native.Nat.{_-_}
 use borrow.Author.Needs.{needs}
-use Rattle.run.proofs.arguments.read_rest.Statement.{statement}
-use Rattle.run.proofs.arguments.read_rest.Tie as tie
-use Rattle.run.proofs.arguments.read_rest.Reads as reads
-use Rattle.run.proofs.arguments.read_rest.Lts as lts
-use Rattle.os.proofs.arg.Reads as arg-reads
-use Rattle.os.proofs.arg_count.Reads as arg-count-reads
-use Rattle.run.proofs.arguments.is_long.Reads as is-long-reads
-use Rattle.run.proofs.arguments.take.Reads as take-reads
-use Rattle.run.proofs.arguments.wrong.Reads as wrong-reads
-use Rattle.run.proofs.word.read.Reads as read-reads
+use Rattle.command.proofs.arguments.read_rest.Statement.{statement}
+use Rattle.command.proofs.arguments.read_rest.Tie as tie
 
 abbrev Inv-loop : tie.InvT-loop
 Inv-loop buffer₀ variables₀ count seen₀ asked₀ i₀ buffer variables seen asked i = length buffer ≡ 4096
