@@ -1,6 +1,9 @@
 // Which field of a row is wrong (01, "The source table"): each has a largest value, which is 0 for a field that the row does not use.
 use crate::row::Row;
 use console::print;
+use rows::kind::DO;
+use rows::kind::IF;
+use rows::kind::LOOP;
 
 // The first wrong field of op, p, q and n, what it is, and what it may be.
 pub fn put(r: Row, at: usize, text: &mut [u8; 65536]) -> usize {
@@ -31,15 +34,15 @@ fn field(name: &[u8], value: u16, most: u16, at: usize, text: &mut [u8; 65536]) 
 
 fn largest_op(kind: u8) -> u8 {
     match kind {
-        2 => 3,
-        3 | 5 => 2,
+        DO => 3,
+        IF | LOOP => 2,
         _ => 0,
     }
 }
 
 fn largest_p(kind: u8) -> u8 {
     match kind {
-        2 | 3 | 5 => 15,
+        DO | IF | LOOP => 15,
         _ => 0,
     }
 }
@@ -47,8 +50,8 @@ fn largest_p(kind: u8) -> u8 {
 // A do uses q with op 1 to 3, an if and a loop with op 2; otherwise they use n.
 fn largest_q(kind: u8, op: u8) -> u8 {
     match kind {
-        2 => variable_from(1, op),
-        3 | 5 => variable_from(2, op),
+        DO => variable_from(1, op),
+        IF | LOOP => variable_from(2, op),
         _ => 0,
     }
 }

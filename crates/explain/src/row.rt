@@ -1,8 +1,10 @@
 // A row's bytes, and what is open before it.
 ghost use Prim.Native.Nat.{_≤_};
-
-// The bytes of a row.
-const WIDTH: usize = 6;
+use rows::WIDTH;
+use rows::kind::END;
+use rows::kind::FUNCTION;
+use rows::kind::IF;
+use rows::kind::LOOP;
 
 pub struct Row {
     pub kind: u8,
@@ -52,8 +54,8 @@ pub fn depth_at(rows: &[u8], row: usize) -> usize {
 
 fn depth_behind(kind: u8, depth: usize) -> usize {
     match kind {
-        1 | 3 | 5 => std::num::wrapping_add_usize(depth, 1),
-        6 => std::num::wrapping_sub_usize(depth, 1),
+        FUNCTION | IF | LOOP => std::num::wrapping_add_usize(depth, 1),
+        END => std::num::wrapping_sub_usize(depth, 1),
         _ => depth,
     }
 }

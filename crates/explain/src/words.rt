@@ -3,6 +3,11 @@ use crate::fields;
 use crate::row;
 use crate::row::Row;
 use console::print;
+use rows::kind::BREAK;
+use rows::kind::CALL;
+use rows::kind::CONTINUE;
+use rows::kind::ELSE;
+use rows::kind::FUNCTION;
 use rules::answer::Fault;
 
 // Whole lines make whole rows, so that there are none is the one way to meet 1.
@@ -22,7 +27,7 @@ pub fn put(f: Fault, rows: &[u8], at: usize, text: &mut [u8; 65536]) -> usize {
 
 fn wrong(r: Row, at: usize, text: &mut [u8; 65536]) -> usize {
     match r.kind {
-        1..=9 => fields::put(r, at, text),
+        FUNCTION..=CALL => fields::put(r, at, text),
         _ => print::word(b"unknown kind", at, text),
     }
 }
@@ -31,10 +36,10 @@ fn wrong(r: Row, at: usize, text: &mut [u8; 65536]) -> usize {
 fn misplaced(kind: u8, at: usize, text: &mut [u8; 65536]) -> usize {
     match kind {
         0 => print::word(b"something is left open at the end", at, text),
-        1 => print::word(b"a function in a function", at, text),
-        4 => print::word(b"else without an open then part", at, text),
-        7 => print::word(b"break outside a loop", at, text),
-        8 => print::word(b"continue outside a loop", at, text),
+        FUNCTION => print::word(b"a function in a function", at, text),
+        ELSE => print::word(b"else without an open then part", at, text),
+        BREAK => print::word(b"break outside a loop", at, text),
+        CONTINUE => print::word(b"continue outside a loop", at, text),
         _ => print::word(b"outside a function", at, text),
     }
 }

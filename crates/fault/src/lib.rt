@@ -7,6 +7,8 @@ pub mod open;
 pub mod pass;
 
 use pass::Passed;
+use rows::LAST;
+use rows::WIDTH;
 use rows::first::calls_beyond;
 use rules::answer::Fault;
 use rules::limits::ROWS;
@@ -28,8 +30,8 @@ fn calls(rows: &[u8], count: usize) -> Fault
     ensures { λ r. ⌜ r ≡ faultCall (now (rows .entry)) ⌝ }
 {
     let mut at = 0;
-    while 6 * at + 5 < rows.len() {
-        let from = 6 * at;
+    while WIDTH * at + LAST < rows.len() {
+        let from = WIDTH * at;
         if calls_beyond(&rows[from..], count) {
             return found(Refusal::NoSuchFunction, at);
         }
@@ -45,10 +47,10 @@ pub fn find(rows: &[u8]) -> Fault
     if rows.len() == 0 {
         return found(Refusal::NoWholeRows, 0);
     }
-    if rows.len() % 6 != 0 {
-        return found(Refusal::NoWholeRows, rows.len() / 6);
+    if rows.len() % WIDTH != 0 {
+        return found(Refusal::NoWholeRows, rows.len() / WIDTH);
     }
-    if rows.len() / 6 > ROWS {
+    if rows.len() / WIDTH > ROWS {
         return found(Refusal::TooManyRows, ROWS);
     }
     match pass::rows(rows) {

@@ -1,4 +1,8 @@
 // What is open at a row, and what a row of each kind does to it or why it is turned away.
+use rows::kind::ELSE;
+use rows::kind::FUNCTION;
+use rows::kind::IF;
+use rows::kind::LOOP;
 use rules::kind::Kind;
 use rules::limits::CONSTRUCTS;
 use rules::limits::FUNCTIONS;
@@ -55,7 +59,7 @@ fn begin(s: Standing, parts: &mut [u8]) -> Next
     if s.count >= FUNCTIONS {
         return Next::Faulty(Refusal::TooManyFunctions);
     }
-    parts[0] = 1;
+    parts[0] = FUNCTION;
     Next::On(Standing {
         depth: 1,
         loops: 0,
@@ -97,13 +101,13 @@ fn turn(s: Standing, parts: &mut [u8]) -> Next
         return Next::Faulty(Refusal::Misplaced);
     }
     let inner = s.depth - 1;
-    if parts[inner] != 3 {
+    if parts[inner] != IF {
         return Next::Faulty(Refusal::Misplaced);
     }
     if s.opened >= REGIONS {
         return Next::Faulty(Refusal::TooManyParts);
     }
-    parts[inner] = 4;
+    parts[inner] = ELSE;
     Next::On(Standing {
         depth: s.depth,
         loops: s.loops,
@@ -117,7 +121,7 @@ fn loops_without(part: u8, loops: usize) -> usize
     requires { ⌜ (part ≡ 5 → 0 < loops) ⌝ }
     ensures { λ r. ⌜ r ≡ loopsWithout part loops ⌝ }
 {
-    if part == 5 {
+    if part == LOOP {
         return loops - 1;
     }
     loops
@@ -149,9 +153,9 @@ pub fn step(kind: Kind, s: Standing, parts: &mut [u8]) -> Next
     match kind {
         Kind::Function => begin(s, parts),
         Kind::Do => plain(s),
-        Kind::If => enter(3, s.loops, s, parts),
+        Kind::If => enter(IF, s.loops, s, parts),
         Kind::Else => turn(s, parts),
-        Kind::Loop => enter(5, s.loops + 1, s, parts),
+        Kind::Loop => enter(LOOP, s.loops + 1, s, parts),
         Kind::End => close(s, parts),
         Kind::Break => jump(s),
         Kind::Continue => jump(s),

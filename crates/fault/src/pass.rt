@@ -2,6 +2,8 @@
 use crate::open::Next;
 use crate::open::Standing;
 use crate::open::step;
+use rows::LAST;
+use rows::WIDTH;
 use rows::first::first_kind;
 use rules::refusal::Refusal;
 ghost use mathlib.Core.Path.{_≡_};
@@ -46,8 +48,8 @@ pub fn rows(rows: &[u8]) -> Passed
     let mut parts = [0u8; 17];
     let mut s = start();
     let mut at = 0;
-    while 6 * at + 5 < rows.len() {
-        let from = 6 * at;
+    while WIDTH * at + LAST < rows.len() {
+        let from = WIDTH * at;
         let kind = first_kind(&rows[from..]);
         match step(kind, s, &mut parts) {
             Next::Faulty(r) => return Passed::Stopped(r, at),

@@ -9,7 +9,7 @@ use rules::kind::Kind;
 use rules::operands::Operands;
 
 // A row's bytes.
-pub const WIDTH: usize = 6;
+pub const WIDTH: usize = rows::WIDTH;
 
 // The kind of row i.
 pub fn kind(rows: &[u8], i: usize) -> Kind

@@ -17,31 +17,21 @@ use crate::row::Row;
 use line::Line;
 use line::kind::LineKind;
 use line::read;
+use rows::kind::BREAK;
+use rows::kind::CALL;
+use rows::kind::CONTINUE;
+use rows::kind::DO;
+use rows::kind::ELSE;
+use rows::kind::END;
+use rows::kind::FUNCTION;
+use rows::kind::IF;
+use rows::kind::LOOP;
 use rules::bytes::word;
 use rules::limits::LINES;
 use rules::limits::ROWS;
 
 // The bytes of the largest table.
 pub const LARGEST: usize = ROWS * Row::WIDTH;
-
-// The kinds of rows.
-const FUNCTION: u8 = 1;
-
-pub const DO: u8 = 2;
-
-const IF: u8 = 3;
-
-const ELSE: u8 = 4;
-
-const LOOP: u8 = 5;
-
-const END: u8 = 6;
-
-const BREAK: u8 = 7;
-
-const CONTINUE: u8 = 8;
-
-const CALL: u8 = 9;
 
 pub enum Candidate {
     // More rows than a table may have.

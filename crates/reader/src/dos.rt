@@ -6,12 +6,12 @@ ghost use lib.ListN.{length};
 ghost use Rattle.rules.specs.Limits.{maxLines};
 ghost use Rattle.reader.specs.Functions.{Short};
 ghost use Rattle.reader.specs.Candidate.{Pair, DosRead};
-use crate::candidate::DO;
 use crate::candidate::LARGEST;
 use crate::row::Row;
 use line::Line;
 use line::kind::LineKind;
 use line::read;
+use rows::kind::DO;
 
 // Whether a do and its tick stand here.
 fn is_pair(lines: &[u8], line: u16) -> bool

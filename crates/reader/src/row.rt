@@ -19,7 +19,7 @@ pub struct Row {
 
 impl Row {
     // A row's bytes.
-    pub const WIDTH: usize = 6;
+    pub const WIDTH: usize = rows::WIDTH;
 
     // A row whose kind uses no field.
     pub fn bare(kind: u8) -> Row

@@ -1,15 +1,15 @@
 // The dos that stand one after the other: most rows of a program are dos, and this loop is quicker than a construct at a time.
+use crate::LAST;
+use crate::WIDTH;
 use crate::first::word;
 use crate::fits::do_uses;
+use crate::kind::DO;
 ghost use mathlib.Core.Path.{_≡_};
 ghost use Prim.Native.Nat.{_<_};
 ghost use lib.ListN.{length};
 ghost use Rattle.rules.specs.declared.kind.Kind.{Kind};
 ghost use Rattle.rows.specs.First.{firstKind};
 ghost use Rattle.rows.specs.Dos.{isDo, DosAre};
-
-// The kind of a do.
-const DO: u8 = 2;
 
 // The row that the bytes begin with is a do, and its fields are as a do uses them.
 fn is_do(rows: &[u8]) -> bool
@@ -28,8 +28,8 @@ pub fn dos(rows: &[u8]) -> usize
     ensures { λ r. ⌜ DosAre (now (rows .entry)) r ⌝ }
 {
     let mut at = 1;
-    while 6 * at + 5 < rows.len() {
-        let from = 6 * at;
+    while WIDTH * at + LAST < rows.len() {
+        let from = WIDTH * at;
         if is_do(&rows[from..]) {
             at += 1;
         } else {

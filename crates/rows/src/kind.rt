@@ -5,20 +5,39 @@ ghost use Rattle.rules.specs.Row.{kindOf};
 ghost use Rattle.rules.specs.Scan.{isFunction};
 ghost use Rattle.rules.specs.Check.{isCall};
 
+// The kind bytes.
+pub const FUNCTION: u8 = 0x01;
+
+pub const DO: u8 = 0x02;
+
+pub const IF: u8 = 0x03;
+
+pub const ELSE: u8 = 0x04;
+
+pub const LOOP: u8 = 0x05;
+
+pub const END: u8 = 0x06;
+
+pub const BREAK: u8 = 0x07;
+
+pub const CONTINUE: u8 = 0x08;
+
+pub const CALL: u8 = 0x09;
+
 // The kind that a row's first byte says.
 pub fn kind_of(byte: u8) -> Kind
     ensures { λ r. ⌜ r ≡ kindOf byte ⌝ }
 {
     match byte {
-        1 => Kind::Function,
-        2 => Kind::Do,
-        3 => Kind::If,
-        4 => Kind::Else,
-        5 => Kind::Loop,
-        6 => Kind::End,
-        7 => Kind::Break,
-        8 => Kind::Continue,
-        9 => Kind::Call,
+        FUNCTION => Kind::Function,
+        DO => Kind::Do,
+        IF => Kind::If,
+        ELSE => Kind::Else,
+        LOOP => Kind::Loop,
+        END => Kind::End,
+        BREAK => Kind::Break,
+        CONTINUE => Kind::Continue,
+        CALL => Kind::Call,
         _ => Kind::Unknown,
     }
 }

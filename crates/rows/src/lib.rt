@@ -3,3 +3,8 @@ pub mod dos;
 pub mod first;
 pub mod fits;
 pub mod kind;
+
+// A row's bytes, and the last of them.
+pub const WIDTH: usize = 6;
+
+pub const LAST: usize = WIDTH - 1;

@@ -1,4 +1,6 @@
 // Checking a whole table: tests 1 and 2, its functions one after the other, the end of the table, and its calls.
+use rows::LAST;
+use rows::WIDTH;
 use rows::first::calls_beyond;
 use rows::first::first_kind;
 use rows::kind::is_function;
@@ -70,7 +72,7 @@ fn body(
         return One::Unsound(Refusal::TooManyFunctions);
     }
     link(heads, count, base);
-    match sequence(&rows[6..], base + 1, 0, 1, false, ends, elses) {
+    match sequence(&rows[WIDTH..], base + 1, 0, 1, false, ends, elses) {
         Seq::Broken(r) => One::Unsound(r),
         Seq::AtElse(_, _) => One::Unsound(Refusal::Misplaced),
         Seq::AtEnd(n, _) => {
@@ -109,8 +111,8 @@ fn functions(rows: &[u8], ends: &mut [u16], elses: &mut [u16], heads: &mut [u16]
 {
     let mut at = 0;
     let mut count = 0;
-    while 6 * at + 5 < rows.len() {
-        let from = 6 * at;
+    while WIDTH * at + LAST < rows.len() {
+        let from = WIDTH * at;
         match function(&rows[from..], at, count, ends, elses, heads) {
             One::Unsound(r) => return All::Rejected(r),
             One::Long(n) => {
@@ -128,8 +130,8 @@ fn calls(rows: &[u8], count: usize) -> Verdict
     ensures { λ r. ⌜ r ≡ callsVerdict (tableOf (now (rows .entry))) (length (tableOf (now (rows .entry)))) ⌝ }
 {
     let mut at = 0;
-    while 6 * at + 5 < rows.len() {
-        let from = 6 * at;
+    while WIDTH * at + LAST < rows.len() {
+        let from = WIDTH * at;
         if calls_beyond(&rows[from..], count) {
             return Verdict::Refused(Refusal::NoSuchFunction);
         }
@@ -164,10 +166,10 @@ pub fn check(
     if rows.len() == 0 {
         return Verdict::Refused(Refusal::NoWholeRows);
     }
-    if rows.len() % 6 != 0 {
+    if rows.len() % WIDTH != 0 {
         return Verdict::Refused(Refusal::NoWholeRows);
     }
-    if rows.len() / 6 > ROWS {
+    if rows.len() / WIDTH > ROWS {
         return Verdict::Refused(Refusal::TooManyRows);
     }
     match functions(rows, ends, elses, heads) {

@@ -7,6 +7,8 @@ use crate::limit::full;
 use crate::limit::no_region;
 use crate::link::close;
 use crate::link::link;
+use rows::LAST;
+use rows::WIDTH;
 use rows::dos::dos;
 use rows::first::fits;
 use rows::first::kind;
@@ -37,8 +39,8 @@ pub fn sequence(
 {
     let mut at = 0;
     let mut regions = opened;
-    while 6 * at + 5 < rows.len() {
-        let from = 6 * at;
+    while WIDTH * at + LAST < rows.len() {
+        let from = WIDTH * at;
         match construct(
             &rows[from..],
             base + at,
@@ -124,7 +126,7 @@ fn if_part(
     }
     link(elses, base, 0);
     match sequence(
-        &rows[6..],
+        &rows[WIDTH..],
         base + 1,
         depth + 1,
         opened + 1,
@@ -135,7 +137,7 @@ fn if_part(
         Seq::Broken(r) => Step::Faulty(r),
         Seq::AtEnd(n, o) => close(ends, base, base + 1 + n, o),
         Seq::AtElse(n, o) => {
-            let from = 6 * (n + 1);
+            let from = WIDTH * (n + 1);
             else_part(
                 &rows[from..],
                 base + 1 + n,
@@ -210,7 +212,7 @@ fn last_part(
     ensures { λ r. ⌜ LastOk (now (rows .entry)) row base depth opened «in_loop» (now (ends .entry)) (now (elses .entry)) (now (ends .exit)) (now (elses .exit)) r ⌝ }
 {
     match sequence(
-        &rows[6..],
+        &rows[WIDTH..],
         row + 1,
         depth + 1,
         opened + 1,
