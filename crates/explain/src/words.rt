@@ -46,7 +46,7 @@ fn misplaced(kind: u8, at: usize, text: &mut [u8; 65536]) -> usize {
 
 // The function itself and 16 ifs and loops are open; an else opens none more.
 fn too_many(kind: u8, depth: usize, at: usize, text: &mut [u8; 65536]) -> usize {
-    if kind != 4 && depth == 17 {
+    if kind != ELSE && depth == 17 {
         return print::word(b"a 17th open if or loop", at, text);
     }
     print::word(b"a 65th region", at, text)
