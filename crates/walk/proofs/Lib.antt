@@ -1,4 +1,3 @@
-pub mod Limits
 pub mod Once
 pub mod Linking
 pub mod Verdicts
@@ -6,4 +5,3 @@ pub mod Stepping
 pub mod Constructs
 pub mod Nested
 pub mod Sequence
-pub mod Asked

@@ -1,20 +1,23 @@
 -- The loop of `sequence`: its invariant and what it answers, as laws; and what an answer by name says as numbers. Assumes nothing.
-use mathlib.Core.Path.{_≡_, refl, sym, ap}
+use mathlib.Core.Path.{_≡_, refl, sym, ap, _∙_, subst}
 use mathlib.Core.Bool.{Bool}
 use mathlib.Core.List.{List}
-use Prim.Native.Nat.{ℕ, _+_, _*_, _-_, _≤_}
+use Prim.Native.Nat.{ℕ, suc, _+_, _*_, _-_, _≤_, _<_}
 use native.Mathlib.Nat.{add-zero}
 use native.Mathlib.Omega.{arith}
 use lib.ListN.{length, take, drop, length-drop}
 use Rattle.rules.specs.declared.refusal.Refusal.{Refusal}
 use Rattle.rules.specs.declared.refusal.Refusal.the-variants.{Misplaced}
+use Rattle.rules.specs.Row.{rowWidth}
 use Rattle.rules.specs.Scan.{Open}
 use Rattle.walk.specs.Standing.{Inside}
-use Rattle.walk.specs.Walked.{seqRows, stepRows, SeqOk, StepOk}
+use Rattle.walk.specs.Walked.{seqRows, stepRows, restRows, SeqOk, StepOk}
 use Rattle.walk.specs.declared.answer.Seq.{Seq}
 use Rattle.walk.specs.declared.answer.Seq.the-variants.{Broken, AtEnd, AtElse}
 use Rattle.walk.specs.declared.answer.Step.{Step}
 use Rattle.walk.specs.declared.answer.Step.the-variants.{Faulty, Past, EndHere, ElseHere}
+use Rattle.walk.specs.declared.answer.Rest.{Rest}
+use Rattle.walk.specs.declared.answer.Rest.the-variants.{Torn, Rows}
 use Rattle.rows.proofs.Rows.{rest-all, drops}
 use Rattle.walk.proofs.Stepping.{inside-at, inside-end}
 
@@ -77,6 +80,8 @@ module _ {xs : List ℕ} {base d o : ℕ} {b : Bool} {e₀ l₀ e l : List ℕ} 
       leads = λ bs h hs n w. inside-at (s .leads bs h hs n (v .leads bs h hs n w)) (drops xs (6 * at) (6 * k) (6 * (at + k)) (omega arith)) (omega arith) refl refl;
     }
 
+pub ruleset sequences = (to-start, to-out, to-broken, to-end, to-else, to-past)
+
 -- ---- rules for `omega`
 pub end-rows : (r : Seq) (k o : ℕ) → r ≡ AtEnd k o → seqRows r ≡ k + 1
 unfolding seqRows
@@ -90,4 +95,8 @@ pub past-rows : (r : Step) (k o : ℕ) → r ≡ Past k o → stepRows r ≡ k
 unfolding stepRows
 past-rows r k o m = ap stepRows m
 
-pub ruleset rows-of = (end-rows, else-rows, past-rows)
+pub rest-rows-are : (r : Rest) (k o : ℕ) → r ≡ Rows k o → restRows r ≡ k
+unfolding restRows
+rest-rows-are r k o m = ap restRows m
+
+pub ruleset rows-of = (end-rows, else-rows, past-rows, rest-rows-are)

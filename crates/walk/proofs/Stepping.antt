@@ -1,24 +1,25 @@
 -- Where a walk stands one row on, for each kind of row inside a function, and the faults of such a row. Assumes nothing.
-use mathlib.Core.Path.{_≡_, refl, ap, ap₂, _∙_, subst}
-use mathlib.Core.Bool.{Bool, true, false, not, _&&_, _||_}
-use mathlib.Core.List.{List, _∷_}
-use Prim.Native.Nat.{ℕ, suc, _+_, _*_, _-_, _≤_, _<_}
+use mathlib.Core.Path.{_≡_, refl, sym, ap, ap₂, _∙_, subst}
+use mathlib.Core.Bool.{Bool, true, false, not, cond, _&&_, _||_}
+use mathlib.Core.List.{List, [], _∷_}
+use Prim.Native.Nat.{ℕ, zero, suc, _+_, _*_, _-_, _≤_, _<_}
 use native.Mathlib.Numerals.{add-one}
 use native.Mathlib.Omega.{arith}
 use lib.Dec.{leb}
 use lib.ListN.{length, drop, set}
+use borrow.Author.Tests.{le-leb, lt-leb}
 use Rattle.rules.specs.declared.kind.Kind.{Kind}
 use Rattle.rules.specs.declared.kind.Kind.the-variants.{Function, Do, If, Else, Loop, End, Break, Continue, Call, Unknown}
 use Rattle.rules.specs.declared.refusal.Refusal.the-variants.{WrongField, Misplaced, TooManyParts}
 use Rattle.rules.specs.Limits.{maxRows, maxFunctions, maxConstructs, maxRegions}
 use Rattle.rules.specs.Row.{rowWidth, tableOf, kindAt}
-use Rattle.rules.specs.Scan.{elsePart, loopBody, Open, Shape, shapeOf, openAfter, regionsAfter, regions, bodyRegion, functions, isFunction}
-use Rattle.rules.specs.Check.{isThen, misplacedIn, oneTooMany, allRegions, allConstructs, constructsIn}
-use Rattle.rules.proofs.Logic.{not-false, not-true}
+use Rattle.rules.specs.Scan.{Part, body, thenPart, elsePart, loopBody, Open, Shape, shapeOf, openAfter, regionsAfter, regions, openAt, bodyRegion, fromLoop, functions, isFunction}
+use Rattle.rules.specs.Check.{isOutside, isThen, misplacedIn, oneTooMany, allRegions, allConstructs, constructsIn}
+use Rattle.rules.proofs.Logic.{clash, not-false, not-true}
 use Rattle.rules.proofs.Scan.{open-next, regions-next}
 use Rattle.rows.specs.First.{firstKind}
-use Rattle.walk.specs.Standing.{hasLoop, Inside}
-use Rattle.walk.specs.Walked.{noRegion, isFull, TurnedAway, thenOf}
+use Rattle.walk.specs.Standing.{hasLoop, Linked, Inside}
+use Rattle.walk.specs.Walked.{TurnedAway, thenOf}
 use Rattle.walk.proofs.Linking.{settlesNone, stays-linked, if-linked, end-linked, else-linked}
 use Rattle.rows.proofs.Rows.{isKnown, Reads, reads, reads-wrong, cut-length, cut-end, cut-within, cut-on}
 use Rattle.walk.proofs.Verdicts.{left-open, wrong-refused, row-good, misplaced-refused, parts-refused}
@@ -34,18 +35,26 @@ pub same-functions : (bs : List ℕ) (i : ℕ) {k : Kind} → kindAt (tableOf bs
 unfolding functions
 same-functions bs i q n = rw (ap isFunction q ∙ n)
 
--- 6, "a 17th open if or loop, or a 65th region", by the numbers that a walk has
-full-is : (h : Open) (hs : List Open) (g d o : ℕ) → length hs ≡ d → g ≡ bodyRegion (h ∷ hs) + o → allConstructs (h ∷ hs) || allRegions g (h ∷ hs) ≡ isFull d o
-full-is h hs g d o p q =
-    let x : constructsIn (h ∷ hs) ≡ d = omega arith in
-    let y : g - bodyRegion (h ∷ hs) ≡ o = omega arith in
-    ap₂ (λ a b. leb maxConstructs a || leb maxRegions b) x y
+-- 6, "a 17th open if or loop, or a 65th region"
+pub few-parts : (h : Open) (hs : List Open) (g d o : ℕ) → length hs ≡ d → g ≡ bodyRegion (h ∷ hs) + o → d < maxConstructs → o < maxRegions
+    → allConstructs (h ∷ hs) || allRegions g (h ∷ hs) ≡ false
+few-parts h hs g d o p q a b = rw (lt-leb maxConstructs (constructsIn (h ∷ hs)) (omega arith), lt-leb maxRegions (g - bodyRegion (h ∷ hs)) (omega arith))
 
-no-region-is : (h : Open) (hs : List Open) (g o : ℕ) → g ≡ bodyRegion (h ∷ hs) + o → allRegions g (h ∷ hs) ≡ noRegion o
-no-region-is h hs g o q = ap (leb maxRegions) (let z : g - bodyRegion (h ∷ hs) ≡ o = omega arith in z)
+pub few-regions : (h : Open) (hs : List Open) (g o : ℕ) → g ≡ bodyRegion (h ∷ hs) + o → o < maxRegions → allRegions g (h ∷ hs) ≡ false
+few-regions h hs g o q b = lt-leb maxRegions (g - bodyRegion (h ∷ hs)) (omega arith)
+
+pub many-regions : (h : Open) (hs : List Open) (g o : ℕ) → g ≡ bodyRegion (h ∷ hs) + o → maxRegions ≤ o → allRegions g (h ∷ hs) ≡ true
+many-regions h hs g o q b = le-leb maxRegions (g - bodyRegion (h ∷ hs)) (omega arith)
+
+pub many-constructs : (h : Open) (hs : List Open) (d : ℕ) → length hs ≡ d → maxConstructs ≤ d → allConstructs (h ∷ hs) ≡ true
+many-constructs h hs d p a = le-leb maxConstructs (constructsIn (h ∷ hs)) (omega arith)
 
 pub and-none : {a : Bool} (c : Bool) → a ≡ false → a && c ≡ false
 and-none c e = rw e
+
+pub or-true : (a : Bool) → a || true ≡ true
+or-true true = refl
+or-true false = refl
 
 module _ {bs xs : List ℕ} {i : ℕ} {h : Open} {hs : List Open} {d o : ℕ} {b : Bool} {n : ℕ} {e l : List ℕ}
     (w : Inside bs xs i h hs d o b n e l) where
@@ -127,16 +136,16 @@ module _ {bs xs : List ℕ} {i : ℕ} {h : Open} {hs : List Open} {d o : ℕ} {b
     inside-function q = inside-misplaced q refl refl
 
     -- an if and a loop open a part
-    pub inside-if : firstKind xs ≡ If → isFull d o ≡ false
+    pub inside-if : firstKind xs ≡ If → d < maxConstructs → o < maxRegions
         → Inside bs (drop rowWidth xs) (suc i) (thenOf i (regions (tableOf bs) i)) (h ∷ hs) (suc d) (suc o) b n e (set l i 0)
     unfolding misplacedIn oneTooMany
-    inside-if q a =
+    inside-if q a c =
         let r = read q refl in
         record {
           cut = cut-next;
           within = within-next;
           few = w .few;
-          good = row-good (tableOf bs) i (w .good) (r .kind-is) (w .parts) (r .fits) refl refl (full-is h hs (regions (tableOf bs) i) d o (w .depth) (w .opened) ∙ a);
+          good = row-good (tableOf bs) i (w .good) (r .kind-is) (w .parts) (r .fits) refl refl (few-parts h hs _ d o (w .depth) (w .opened) a c);
           parts = open-next (tableOf bs) i (r .kind-is) (w .parts);
           depth = ap suc (w .depth);
           loops = w .loops;
@@ -145,16 +154,16 @@ module _ {bs xs : List ℕ} {i : ℕ} {h : Open} {hs : List Open} {d o : ℕ} {b
           links = if-linked (tableOf bs) i (w .links) (r .kind-is) below;
         }
 
-    pub inside-loop : firstKind xs ≡ Loop → isFull d o ≡ false
+    pub inside-loop : firstKind xs ≡ Loop → d < maxConstructs → o < maxRegions
         → Inside bs (drop rowWidth xs) (suc i) (loopOf i (regions (tableOf bs) i)) (h ∷ hs) (suc d) (suc o) true n e l
     unfolding misplacedIn oneTooMany
-    inside-loop q a =
+    inside-loop q a c =
         let r = read q refl in
         record {
           cut = cut-next;
           within = within-next;
           few = w .few;
-          good = row-good (tableOf bs) i (w .good) (r .kind-is) (w .parts) (r .fits) refl refl (full-is h hs (regions (tableOf bs) i) d o (w .depth) (w .opened) ∙ a);
+          good = row-good (tableOf bs) i (w .good) (r .kind-is) (w .parts) (r .fits) refl refl (few-parts h hs _ d o (w .depth) (w .opened) a c);
           parts = open-next (tableOf bs) i (r .kind-is) (w .parts);
           depth = ap suc (w .depth);
           loops = refl;
@@ -163,24 +172,34 @@ module _ {bs xs : List ℕ} {i : ℕ} {h : Open} {hs : List Open} {d o : ℕ} {b
           links = stays-linked (tableOf bs) i (w .links) (r .kind-is) refl;
         }
 
-    pub if-full : firstKind xs ≡ If → isFull d o ≡ true → TurnedAway bs TooManyParts
+    pub if-deep : firstKind xs ≡ If → maxConstructs ≤ d → TurnedAway bs TooManyParts
     unfolding misplacedIn oneTooMany
-    if-full q a =
+    if-deep q a =
         let r = read q refl in
-        parts-refused (tableOf bs) i (w .good) (r .kind-is) (w .parts) (r .fits) (r .inside) refl refl
-        (full-is h hs (regions (tableOf bs) i) d o (w .depth) (w .opened) ∙ a)
+        parts-refused (tableOf bs) i (w .good) (r .kind-is) (w .parts) (r .fits) (r .inside) refl refl (rw (many-constructs h hs d (w .depth) a))
 
-    pub loop-full : firstKind xs ≡ Loop → isFull d o ≡ true → TurnedAway bs TooManyParts
+    pub if-many : firstKind xs ≡ If → maxRegions ≤ o → TurnedAway bs TooManyParts
     unfolding misplacedIn oneTooMany
-    loop-full q a =
+    if-many q a =
         let r = read q refl in
-        parts-refused (tableOf bs) i (w .good) (r .kind-is) (w .parts) (r .fits) (r .inside) refl refl
-        (full-is h hs (regions (tableOf bs) i) d o (w .depth) (w .opened) ∙ a)
+        parts-refused (tableOf bs) i (w .good) (r .kind-is) (w .parts) (r .fits) (r .inside) refl refl (rw (many-regions h hs _ o (w .opened) a) (or-true (allConstructs (h ∷ hs))))
+
+    pub loop-deep : firstKind xs ≡ Loop → maxConstructs ≤ d → TurnedAway bs TooManyParts
+    unfolding misplacedIn oneTooMany
+    loop-deep q a =
+        let r = read q refl in
+        parts-refused (tableOf bs) i (w .good) (r .kind-is) (w .parts) (r .fits) (r .inside) refl refl (rw (many-constructs h hs d (w .depth) a))
+
+    pub loop-many : firstKind xs ≡ Loop → maxRegions ≤ o → TurnedAway bs TooManyParts
+    unfolding misplacedIn oneTooMany
+    loop-many q a =
+        let r = read q refl in
+        parts-refused (tableOf bs) i (w .good) (r .kind-is) (w .parts) (r .fits) (r .inside) refl refl (rw (many-regions h hs _ o (w .opened) a) (or-true (allConstructs (h ∷ hs))))
 
 -- an else where the innermost part is a then part
 module _ {bs xs : List ℕ} {i p g : ℕ} {h : Open} {hs : List Open} {d o : ℕ} {b : Bool} {n : ℕ} {e l : List ℕ}
     (w : Inside bs xs i (thenOf p g) (h ∷ hs) d o b n e l) (long : 5 < length xs) (q : firstKind xs ≡ Else) where
-  pub inside-else : noRegion o ≡ false → Inside bs (drop rowWidth xs) (suc i) (elseOf p (regions (tableOf bs) i)) (h ∷ hs) d (suc o) b n e (set l p i)
+  pub inside-else : o < maxRegions → Inside bs (drop rowWidth xs) (suc i) (elseOf p (regions (tableOf bs) i)) (h ∷ hs) d (suc o) b n e (set l p i)
   unfolding misplacedIn oneTooMany
   inside-else c =
       let r = read w long q refl in
@@ -188,7 +207,7 @@ module _ {bs xs : List ℕ} {i p g : ℕ} {h : Open} {hs : List Open} {d o : ℕ
         cut = cut-next w long;
         within = within-next w long;
         few = w .few;
-        good = row-good (tableOf bs) i (w .good) (r .kind-is) (w .parts) (r .fits) refl refl (no-region-is (thenOf p g) (h ∷ hs) (regions (tableOf bs) i) o (w .opened) ∙ c);
+        good = row-good (tableOf bs) i (w .good) (r .kind-is) (w .parts) (r .fits) refl refl (few-regions (thenOf p g) (h ∷ hs) _ o (w .opened) c);
         parts = open-next (tableOf bs) i (r .kind-is) (w .parts);
         depth = w .depth;
         loops = w .loops;
@@ -197,11 +216,11 @@ module _ {bs xs : List ℕ} {i p g : ℕ} {h : Open} {hs : List Open} {d o : ℕ
         links = else-linked (tableOf bs) i (w .links) (thenOf p g) (h ∷ hs) (r .kind-is) (w .parts) refl (below w long);
       }
 
-  pub else-full : noRegion o ≡ true → TurnedAway bs TooManyParts
+  pub else-many : maxRegions ≤ o → TurnedAway bs TooManyParts
   unfolding misplacedIn oneTooMany
-  else-full a =
+  else-many a =
       let r = read w long q refl in
-      parts-refused (tableOf bs) i (w .good) (r .kind-is) (w .parts) (r .fits) (r .inside) refl refl (no-region-is (thenOf p g) (h ∷ hs) (regions (tableOf bs) i) o (w .opened) ∙ a)
+      parts-refused (tableOf bs) i (w .good) (r .kind-is) (w .parts) (r .fits) (r .inside) refl refl (many-regions (thenOf p g) (h ∷ hs) _ o (w .opened) a)
 
 -- and where it is none
 module _ {bs xs : List ℕ} {i : ℕ} {f : Open} {hs : List Open} {d o : ℕ} {b : Bool} {n : ℕ} {e l : List ℕ}

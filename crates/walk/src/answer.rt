@@ -20,6 +20,12 @@ pub enum Step {
     ElseHere,
 }
 
+// The rest of an if from its else row on: refused, or so many rows long with so many regions opened.
+pub enum Rest {
+    Torn(Refusal),
+    Rows(usize, usize),
+}
+
 // The answer to a row: `step` where its fields fit.
 pub fn fitting(fits: bool, step: Step) -> Step
     ensures { λ r. ⌜ r ≡ cond fits step (Step.Faulty Refusal.WrongField) ⌝ }

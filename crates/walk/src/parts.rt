@@ -1,11 +1,9 @@
 // The walkers: a sequence of constructs, and the constructs that open a part.
+use crate::answer::Rest;
 use crate::answer::Seq;
 use crate::answer::Step;
 use crate::answer::fitting;
 use crate::answer::jump;
-use crate::limit::full;
-use crate::limit::no_region;
-use crate::link::close;
 use crate::link::link;
 use rows::LAST;
 use rows::WIDTH;
@@ -13,15 +11,16 @@ use rows::dos::dos;
 use rows::first::fits;
 use rows::first::kind;
 use rules::kind::Kind;
+use rules::limits::CONSTRUCTS;
+use rules::limits::REGIONS;
 use rules::refusal::Refusal;
 ghost use mathlib.Core.Path.{_≡_};
-ghost use mathlib.Core.Bool.{Bool};
 ghost use Prim.Native.Nat.{_+_, _*_, _≤_, _<_};
 ghost use lib.ListN.{length};
-ghost use Rattle.rules.specs.Limits.{maxRows, maxConstructs, maxRegions};
+ghost use Rattle.rules.specs.Limits.{maxRows, maxConstructs};
 ghost use Rattle.rules.specs.Row.{rowWidth};
 ghost use Rattle.rows.specs.First.{firstKind};
-ghost use Rattle.walk.specs.Walked.{SeqOk, StepOk, RestOk, LastOk};
+ghost use Rattle.walk.specs.Walked.{SeqOk, StepOk, RestOk};
 
 // The rows from row `base` on, up to the end or else row of the part that they stand in.
 pub fn sequence(
@@ -94,7 +93,7 @@ fn construct(
         Kind::Else => fitting(fits(Kind::Else, rows), Step::ElseHere),
         Kind::Loop => {
             if fits(Kind::Loop, rows) {
-                return loop_part(rows, base, depth, opened, ends, elses);
+                return loop_part(rows, base, depth, opened, in_loop, ends, elses);
             }
             Step::Faulty(Refusal::WrongField)
         }
@@ -121,7 +120,10 @@ fn if_part(
     requires { ⌜ (5 < length (now rows)) × (firstKind (now rows) ≡ Kind.If) ⌝ }
     ensures { λ r. ⌜ StepOk (now (rows .entry)) base depth opened «in_loop» (now (ends .entry)) (now (elses .entry)) (now (ends .exit)) (now (elses .exit)) r ⌝ }
 {
-    if full(depth, opened) {
+    if depth >= CONSTRUCTS {
+        return Step::Faulty(Refusal::TooManyParts);
+    }
+    if opened >= REGIONS {
         return Step::Faulty(Refusal::TooManyParts);
     }
     link(elses, base, 0);
@@ -135,10 +137,13 @@ fn if_part(
         elses,
     ) {
         Seq::Broken(r) => Step::Faulty(r),
-        Seq::AtEnd(n, o) => close(ends, base, base + 1 + n, o),
+        Seq::AtEnd(n, o) => {
+            link(ends, base, base + 1 + n);
+            Step::Past(n + 2, o)
+        }
         Seq::AtElse(n, o) => {
             let from = WIDTH * (n + 1);
-            else_part(
+            match else_part(
                 &rows[from..],
                 base + 1 + n,
                 base,
@@ -147,7 +152,10 @@ fn if_part(
                 in_loop,
                 ends,
                 elses,
-            )
+            ) {
+                Rest::Torn(r) => Step::Faulty(r),
+                Rest::Rows(k, p) => Step::Past(n + 1 + k, p),
+            }
         }
     }
 }
@@ -162,55 +170,16 @@ fn else_part(
     in_loop: bool,
     ends: &mut [u16],
     elses: &mut [u16],
-) -> Step
-    requires { ⌜ (rowWidth * row + length (now rows) ≤ rowWidth * maxRows) × (base ≤ row) ⌝ }
+) -> Rest
+    requires { ⌜ (rowWidth * row + length (now rows) ≤ rowWidth * maxRows) × (base < row) ⌝ }
     requires { ⌜ (length (now ends) ≡ maxRows) × (length (now elses) ≡ maxRows) × (depth < maxConstructs) ⌝ }
     requires { ⌜ 5 < length (now rows) ⌝ }
     ensures { λ r. ⌜ RestOk (now (rows .entry)) row base depth opened «in_loop» (now (ends .entry)) (now (elses .entry)) (now (ends .exit)) (now (elses .exit)) r ⌝ }
 {
-    if no_region(opened) {
-        return Step::Faulty(Refusal::TooManyParts);
+    if opened >= REGIONS {
+        return Rest::Torn(Refusal::TooManyParts);
     }
     link(elses, base, row);
-    last_part(rows, row, base, depth, opened, in_loop, ends, elses)
-}
-
-// The loop in row `base`.
-fn loop_part(
-    rows: &[u8],
-    base: usize,
-    depth: usize,
-    opened: usize,
-    ends: &mut [u16],
-    elses: &mut [u16],
-) -> Step
-    requires { ⌜ rowWidth * base + length (now rows) ≤ rowWidth * maxRows ⌝ }
-    requires { ⌜ (length (now ends) ≡ maxRows) × (length (now elses) ≡ maxRows) ⌝ }
-    requires { ⌜ (5 < length (now rows)) × (firstKind (now rows) ≡ Kind.Loop) ⌝ }
-    ensures { λ r. ⌜ ((b : Bool) → StepOk (now (rows .entry)) base depth opened b (now (ends .entry)) (now (elses .entry)) (now (ends .exit)) (now (elses .exit)) r) ⌝ }
-{
-    if full(depth, opened) {
-        return Step::Faulty(Refusal::TooManyParts);
-    }
-    last_part(rows, base, base, depth, opened, true, ends, elses)
-}
-
-// The last part of the if or loop in row `base`, which row `row` opens: an else part or a loop's body.
-fn last_part(
-    rows: &[u8],
-    row: usize,
-    base: usize,
-    depth: usize,
-    opened: usize,
-    in_loop: bool,
-    ends: &mut [u16],
-    elses: &mut [u16],
-) -> Step
-    requires { ⌜ (rowWidth * row + length (now rows) ≤ rowWidth * maxRows) × (base ≤ row) × (5 < length (now rows)) ⌝ }
-    requires { ⌜ (length (now ends) ≡ maxRows) × (length (now elses) ≡ maxRows) ⌝ }
-    requires { ⌜ (depth < maxConstructs) × (opened < maxRegions) ⌝ }
-    ensures { λ r. ⌜ LastOk (now (rows .entry)) row base depth opened «in_loop» (now (ends .entry)) (now (elses .entry)) (now (ends .exit)) (now (elses .exit)) r ⌝ }
-{
     match sequence(
         &rows[WIDTH..],
         row + 1,
@@ -220,8 +189,50 @@ fn last_part(
         ends,
         elses,
     ) {
+        Seq::Broken(r) => Rest::Torn(r),
+        Seq::AtElse(_, _) => Rest::Torn(Refusal::Misplaced),
+        Seq::AtEnd(n, o) => {
+            link(ends, base, row + 1 + n);
+            Rest::Rows(n + 2, o)
+        }
+    }
+}
+
+// The loop in row `base`.
+fn loop_part(
+    rows: &[u8],
+    base: usize,
+    depth: usize,
+    opened: usize,
+    in_loop: bool,
+    ends: &mut [u16],
+    elses: &mut [u16],
+) -> Step
+    requires { ⌜ rowWidth * base + length (now rows) ≤ rowWidth * maxRows ⌝ }
+    requires { ⌜ (length (now ends) ≡ maxRows) × (length (now elses) ≡ maxRows) ⌝ }
+    requires { ⌜ (5 < length (now rows)) × (firstKind (now rows) ≡ Kind.Loop) ⌝ }
+    ensures { λ r. ⌜ StepOk (now (rows .entry)) base depth opened «in_loop» (now (ends .entry)) (now (elses .entry)) (now (ends .exit)) (now (elses .exit)) r ⌝ }
+{
+    if depth >= CONSTRUCTS {
+        return Step::Faulty(Refusal::TooManyParts);
+    }
+    if opened >= REGIONS {
+        return Step::Faulty(Refusal::TooManyParts);
+    }
+    match sequence(
+        &rows[WIDTH..],
+        base + 1,
+        depth + 1,
+        opened + 1,
+        true,
+        ends,
+        elses,
+    ) {
         Seq::Broken(r) => Step::Faulty(r),
         Seq::AtElse(_, _) => Step::Faulty(Refusal::Misplaced),
-        Seq::AtEnd(n, o) => close(ends, base, row + 1 + n, o),
+        Seq::AtEnd(n, o) => {
+            link(ends, base, base + 1 + n);
+            Step::Past(n + 2, o)
+        }
     }
 }
