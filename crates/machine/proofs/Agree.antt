@@ -1,6 +1,6 @@
 -- What it means that a step of the code and a step of the hardened machine agree, and what every kind of line needs for it.
 use mathlib.Core.Path.{_≡_, refl, sym, ap, _∙_, subst}
-use mathlib.Core.Bool.{Bool, true, false, cond}
+use mathlib.Core.Bool.{Bool, true, false, cond, _&&_}
 use mathlib.Core.List.{List, [], _∷_}
 use Prim.Native.Nat.{ℕ, zero, suc, _+_, _*_, _≤_, _<_}
 use native.Mathlib.Omega.{arith}
@@ -68,6 +68,11 @@ waiting-saved ls ps fs ws i k f (suc d) (g ∷ gs) h w = (
   },
   waiting-saved ls ps fs ws i k f d gs (omega arith) (w .1),
 )
+
+-- two tests in one check
+pub must-and : (a b : Bool) (s : Hardened) (t : Turn Counters) → must (a && b) s t ≡ must a s (must b s t)
+must-and true b s t = refl
+must-and false b s t = refl
 
 module _ (ls : List Line) (held : List ℕ) (p : Parts) (s : Hardened) (st : Stands ls held p s) where
   -- ---- the run ends, with any counters

@@ -111,7 +111,7 @@ module _ (bs : List ℕ) (m : Map) (rd : Ready bs m) (held : List ℕ) (p : Part
         (sym (here-is n)) (line-agrees (lineKindAt bs (p .registers .at)) (structAt bs (p .registers .at)) (here-fits n))
 
     pub step-agrees : Agrees ls held (p .registers .traced) (stepOf bs m p) (hardenedStep ls s)
-    unfolding stepOf hardenedStep
+    unfolding stepOf Rattle.rules.specs.Form.stepOf
     step-agrees =
         subst (λ k. Agrees ls held (p .registers .traced) (cond (eqb (p .registers .at) (lastLine m (p .registers))) (returnedOf m p) (lineOf m (lineKindAt bs (p .registers .at)) (structAt bs (p .registers .at)) p))
         (cond (eqb k (finishOf ls f)) (leaves ls s (s .callers)) (lineStep ls k (lineAt ls k) s)))

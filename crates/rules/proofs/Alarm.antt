@@ -1,5 +1,5 @@
--- The step that a wide jump strikes: the alarm comes at once before a guard and at place m with one function open, and one step
--- later before a do and at place m with more open. Assumes that the table is accepted.
+-- The step that a wide jump strikes, in every form whose guards pass only at their own place: the alarm comes at once before a guard and
+-- at place m with one function open, and one step later before a do and at place m with more open. Assumes that the table is accepted.
 use mathlib.Core.Logic.{_⊎_, inl, inr}
 use mathlib.Core.Path.{_≡_, refl, sym, ap, _∙_, subst}
 use mathlib.Core.Bool.{Bool, true, false}
@@ -10,155 +10,167 @@ use native.Mathlib.Omega.{arith}
 use lib.ListN.{length}
 use lib.Dec.{eqb}
 use borrow.Author.Tests.{eq-eqb, ne-eqb}
-use Rattle.rules.specs.declared.kind.Kind.the-variants.{Do}
+use Rattle.rules.specs.declared.kind.Kind.the-variants.{Do, Call}
 use Rattle.rules.specs.declared.step.Step.the-variants.{Finished, Alarm}
 use Rattle.rules.specs.Row.{Table, kindAt, operandsAt}
-use Rattle.rules.specs.Scan.{Open, bodyRegion}
-use Rattle.rules.specs.Value.{value}
+use Rattle.rules.specs.Scan.{Open}
 use Rattle.rules.specs.Line.{Line, doLine, tickLine, backLine, lineAt, isGuard}
-use Rattle.rules.specs.Harden.{lineCount, lineOf, ownRegion, backOf, rowLines, harden}
-use Rattle.rules.specs.Function.{startOf, finishOf, lastPlace, retValue}
+use Rattle.rules.specs.Harden.{lineCount, lineOf, backOf, rowLines, harden}
+use Rattle.rules.specs.Function.{startOf, finishOf, lastPlace}
 use Rattle.rules.specs.Variables.{doneOn}
-use Rattle.rules.specs.State.{Frame, goTo}
+use Rattle.rules.specs.State.{Frame, State}
 use Rattle.rules.specs.Run.{on, ends}
 use Rattle.rules.specs.Source.{Source}
-use Rattle.rules.specs.Hardened.{Counters, Hardened, must, leaves, lineStep, hardenedStep, placeLine}
+use Rattle.rules.specs.Form.{Form, must, leavesOf, lineStepOf, stepOf, placeLine}
 use Rattle.rules.specs.Match.{guardBetween}
 use Rattle.rules.specs.Demands.{alarmStep, doneBy, doneAt}
 use Rattle.rules.proofs.Logic.{clash}
 use Rattle.rules.proofs.Accepted.{Proper}
 use Rattle.rules.proofs.Harden.{line-at}
 use Rattle.rules.proofs.Function.{InFunction, formed-here}
-use Rattle.rules.proofs.Place.{start-finish, ret-value, before-finish, line-of}
-use Rattle.rules.proofs.Counters.{counters}
-use Rattle.rules.proofs.Relation.{Back, waiting, lineBacks, hard, Linked, Related, line-step}
-use Rattle.rules.proofs.Guard.{check-fails, Guards, Sort, a-do, a-guard, sort, tick-guards}
-use Rattle.rules.proofs.Wide.{Between, between, Stands, stands, own-guard, own-tick, refused, not-ended}
+use Rattle.rules.proofs.Place.{start-finish, before-finish, line-of}
+use Rattle.rules.proofs.Settled.{Settles}
+use Rattle.rules.proofs.Relation.{Back, waiting, lineBacks, hard, Linked, Related, step-at}
+use Rattle.rules.proofs.Guard.{Sort, a-do, a-guard, sort}
+use Rattle.rules.proofs.Struck.{landedAt, CaughtOf, at-once, one-later}
+use Rattle.rules.proofs.Where.{Between, up, down, between, Stands, stands}
 
--- the run at the place that it is struck to
-abbrev pub landed : Table → (p : ℕ) → Hardened → Hardened
-landed t p s = goTo (placeLine (harden t) p s) (s .running .own) s
+-- ---- what a form owes: where the run stands, no guard across another passes, and no function has ended
+pub record Strict {H : Type 0} {t : Table} {F : Form H} (S : Settles t F) : Type 0 where
+  pub refuses : (n k w : ℕ) (f : Open) (fs : List Open) → Stands t n k w f fs → (k′ : ℕ) → startOf (harden t) n ≤ k′ → k′ < finishOf (harden t) n → isGuard (lineAt (harden t) k′) ≡ true
+      → Between (harden t) k k′ → (z : H) → F .guard k′ (lineAt (harden t) k′) .passes (S .at k (f ∷ fs) w) z ≡ false
+  pub not-back : (n k w : ℕ) (f : Open) (fs : List Open) → Stands t n k w f fs → {m i : ℕ} {g : Open} {gs : List Open} → InFunction t m i g gs → kindAt t i ≡ Call → operandsAt t i .n ≡ n
+      → (x : H) → F .guard (suc (lineOf t i)) (backOf t i (g ∷ gs) n) .passes x (S .at k (f ∷ fs) w) ≡ false
+  pub not-host : (k w : ℕ) (f : Open) (fs : List Open) → Stands t 0 k w f fs → F .ended (S .at k (f ∷ fs) w) ≡ false
 
--- variables and trace are those of another state
-pub record Keeps (h s : Hardened) : Type 0 where
-  pub vars-are : h .vars ≡ s .vars
-  pub trace-is : h .trace ≡ s .trace
-
-pub data Caught (t : Table) (p : ℕ) (s : Hardened) : Type 0 where
-  at-once : ((k : ℕ) → alarmStep (harden t) p k s ≡ k) → (h : Hardened) → hardenedStep (harden t) (landed t p s) ≡ ends Alarm h → Keeps h (doneAt (harden t) p s) → Caught t p s
-  one-later : ((k : ℕ) → alarmStep (harden t) p k s ≡ suc k) → (h g : Hardened) → hardenedStep (harden t) (landed t p s) ≡ on h → hardenedStep (harden t) h ≡ ends Alarm g
-      → Keeps h (doneAt (harden t) p s) → Keeps g (doneAt (harden t) p s) → Caught t p s
+-- ---- a guard whose check fails
+check-fails : {H : Type 0} (F : Form H) (ls : List Line) (ℓ : Line) (n k : ℕ) (c : H) (rest : List (Frame H)) (l : H) (vs tr : List ℕ) → isGuard ℓ ≡ true
+    → F .guard k ℓ .passes c l ≡ false → lineStepOf F ls k ℓ (hard n k c rest l vs tr) ≡ ends Alarm (hard n k c rest l vs tr)
+unfolding lineStepOf
+check-fails F ls (doLine o e) n k c rest l vs tr g h = clash g refl
+check-fails F ls (tickLine r e a) n k c rest l vs tr g h = rw h
+check-fails F ls (Line.testLine o r s t e a b d go) n k c rest l vs tr g h = rw h
+check-fails F ls (Line.leaveLine r s e a b go) n k c rest l vs tr g h = rw h
+check-fails F ls (Line.outLine r s t e a go) n k c rest l vs tr g h = rw h
+check-fails F ls (Line.callLine r e a b go) n k c rest l vs tr g h = rw h
+check-fails F ls (backLine r e a b) n k c rest l vs tr g h = rw h
+check-fails F ls (Line.retLine e a) n k c rest l vs tr g h = rw h
 
 -- ---- place m
-step-finish : (t : Table) (n k : ℕ) (c : Counters) (rest : List (Frame Counters)) (l : Counters) (vs tr : List ℕ) → k ≡ finishOf (harden t) n
-    → hardenedStep (harden t) (hard n k c rest l vs tr) ≡ leaves (harden t) (hard n k c rest l vs tr) rest
-unfolding hardenedStep
-step-finish t n k c rest l vs tr e = rw (eq-eqb k (finishOf (harden t) n) e)
+step-finish : {H : Type 0} (F : Form H) (t : Table) (n k : ℕ) (c : H) (rest : List (Frame H)) (l : H) (vs tr : List ℕ) → k ≡ finishOf (harden t) n
+    → stepOf F (harden t) (hard n k c rest l vs tr) ≡ leavesOf F (hard n k c rest l vs tr) rest
+unfolding stepOf
+step-finish F t n k c rest l vs tr e = rw (eq-eqb k (finishOf (harden t) n) e)
 
-back-fails : (ls : List Line) (n k : ℕ) (c : Counters) (rest : List (Frame Counters)) (l : Counters) (vs tr : List ℕ) (r e a b : ℕ) → eqb (l 0) b ≡ false
-    → lineStep ls k (backLine r e a b) (hard n k c rest l vs tr) ≡ ends Alarm (hard n k c rest l vs tr)
-unfolding lineStep
-back-fails ls n k c rest l vs tr r e a b h = rw h (by (eqb (c r) e))
+guard-keeps : {H : Type 0} (ℓ : Line) → isGuard ℓ ≡ true → (s : State H) → doneBy ℓ s ≡ s
+guard-keeps (doLine o e) g s = clash g refl
+guard-keeps (tickLine r e a) g s = refl
+guard-keeps (Line.testLine o r s′ u e a b c go) g s = refl
+guard-keeps (Line.leaveLine r s′ e a b go) g s = refl
+guard-keeps (Line.outLine r s′ u e a go) g s = refl
+guard-keeps (Line.callLine r e a b go) g s = refl
+guard-keeps (backLine r e a b) g s = refl
+guard-keeps (Line.retLine e a) g s = refl
+
+-- a guard across which line k lies is across the line after a do too
+past-do : (ls : List Line) (k k′ : ℕ) → isGuard (lineAt ls k′) ≡ false → Between ls k k′ → Between ls k (suc k′)
+past-do ls k k′ d (up x a b g) = up x a (omega arith) g
+past-do ls k k′ d (down x a b g) = by (eq-or-lt-of-le a)
   where
-    by : (x : Bool) → must x (hard n k c rest l vs tr) (ends Alarm (hard n k c rest l vs tr)) ≡ ends Alarm (hard n k c rest l vs tr)
-    by true = refl
-    by false = refl
+    by : (k′ ≡ x) ⊎ (k′ < x) → Between ls k (suc k′)
+    by (inl e) = clash g (ap (λ y. isGuard (lineAt ls y)) (sym e) ∙ d)
+    by (inr l) = down x l b g
 
-module _ (t : Table) (ok : Proper t) (n i : ℕ) (f : Open) (fs : List Open) (m : InFunction t n i f fs) (k w : ℕ) (st : Stands t i k w (value t (f .region) i) f) (l : Counters) (vs tr : List ℕ) (p : ℕ) where
-  abbrev cn : Counters
-  cn = counters t (bodyRegion (f ∷ fs)) (f ∷ fs) w
+module _ (t : Table) (ok : Proper t) {H : Type 0} {F : Form H} (S : Settles t F) (R : Strict S) (n k w : ℕ) (f : Open) (fs : List Open) (st : Stands t n k w f fs) (l : H) (vs tr : List ℕ) (p : ℕ) where
+  abbrev cn : H
+  cn = S .at k (f ∷ fs) w
 
-  abbrev from : List (Frame Counters) → Hardened
+  abbrev from : List (Frame H) → State H
   from rest = hard n k cn rest l vs tr
 
-  done-last : (rest : List (Frame Counters)) → p ≡ lastPlace (harden t) n → doneAt (harden t) p (from rest) ≡ from rest
+  done-last : (rest : List (Frame H)) → p ≡ lastPlace (harden t) n → doneAt (harden t) p (from rest) ≡ from rest
   unfolding doneAt
   done-last rest e = rw (eq-eqb p (lastPlace (harden t) n) e)
 
-  caught-last : p ≡ lastPlace (harden t) n → (bs : List Back) → Linked t n bs → Caught t p (from (lineBacks t bs))
+  abbrev at : ℕ
+  at = startOf (harden t) n + p
+
+  caught-last : p ≡ lastPlace (harden t) n → (bs : List Back) → Linked t n bs → CaughtOf F (harden t) p (from (lineBacks S bs))
   unfolding alarmStep rowLines
-  caught-last e [] lk = at-once (λ k. rw (eq-eqb p (lastPlace (harden t) n) e)) (landed t p (from []))
-      (step-finish t n (startOf (harden t) n + p) cn [] l vs tr (omega (arith, start-finish t ok n (m .known)))
-      ∙ ap (λ x. must x (landed t p (from [])) (ends Finished (landed t p (from []))))
-      (subst (λ y. eqb (cn 0) (retValue (harden t) y) ≡ false) lk (rw (ret-value t ok n (m .known)) (not-ended t ok n i f fs m k w st))))
+  caught-last e [] lk = at-once (λ k. rw (eq-eqb p (lastPlace (harden t) n) e)) (landedAt (harden t) p (from []))
+      (step-finish F t n at cn [] l vs tr (omega (arith, start-finish t ok n (st .in-function .known)))
+      ∙ ap (λ x. must x (landedAt (harden t) p (from [])) (ends Finished (landedAt (harden t) p (from []))))
+      (R .not-host k w f fs (subst (λ x. Stands t x k w f fs) lk st)))
       (rw (done-last [] e) (record { vars-are = refl; trace-is = refl }))
   caught-last e (b ∷ bs) lk =
       let cl = lk .0 in
-      let s = from (lineBacks t (b ∷ bs)) in
-      let h = hard (b .function) (suc (lineOf t (b .row))) (waiting t (b .row)) (lineBacks t bs) cn vs tr in
-      one-later (λ k. rw (eq-eqb p (lastPlace (harden t) n) e, ne-eqb (suc (suc (length (lineBacks t bs)))) 1 (λ x. bad x))) h h
-      (step-finish t n (startOf (harden t) n + p) cn (lineBacks t (b ∷ bs)) l vs tr (omega (arith, start-finish t ok n (m .known))))
-      (line-step t ok (cl .in-function) (suc (lineOf t (b .row))) 1 (backOf t (b .row) (cl .top ∷ cl .others) n) (omega arith) (rw (cl .calls) (omega arith)) (rw (cl .calls, cl .callee)) _ _ cn vs tr
-      ∙ back-fails (harden t) (b .function) (suc (lineOf t (b .row))) (waiting t (b .row)) (lineBacks t bs) cn vs tr _ _ _ _ (not-ended t ok n i f fs m k w st))
-      (rw (done-last (lineBacks t (b ∷ bs)) e) (record { vars-are = refl; trace-is = refl })) (rw (done-last (lineBacks t (b ∷ bs)) e) (record { vars-are = refl; trace-is = refl }))
+      let h = hard (b .function) (suc (lineOf t (b .row))) (waiting S (b .row)) (lineBacks S bs) cn vs tr in
+      let ct : lineCount (kindAt t (b .row)) ≡ 2 = ap lineCount (cl .calls) in
+      let back-is : lineAt (harden t) (suc (lineOf t (b .row))) ≡ backOf t (b .row) (cl .top ∷ cl .others) n
+      = ap (lineAt (harden t)) (let z : suc (lineOf t (b .row)) ≡ lineOf t (b .row) + 1 = omega arith in z) ∙ line-at t (b .row) 1 (cl .in-function .within) (omega (arith, ct))
+      ∙ ap (λ s. lineAt (rowLines t (b .row) s (kindAt t (b .row))) 1) (cl .in-function .open-is) ∙ ap (λ x. lineAt (rowLines t (b .row) (cl .top ∷ cl .others) x) 1) (cl .calls) ∙ ap (backOf t (b .row) (cl .top ∷ cl .others)) (cl .callee) in
+      one-later (λ k. rw (eq-eqb p (lastPlace (harden t) n) e, ne-eqb (suc (suc (length (lineBacks S bs)))) 1 (λ x. bad x))) h h
+      (step-finish F t n at cn (lineBacks S (b ∷ bs)) l vs tr (omega (arith, start-finish t ok n (st .in-function .known))))
+      (omega (arith, before-finish t ok (cl .in-function), ct))
+      (step-at S (b .function) (suc (lineOf t (b .row))) _ (omega (arith, before-finish t ok (cl .in-function), ct)) back-is _ _ cn vs tr
+      ∙ check-fails F (harden t) _ (b .function) (suc (lineOf t (b .row))) (waiting S (b .row)) (lineBacks S bs) cn vs tr refl (R .not-back n k w f fs st (cl .in-function) (cl .calls) (cl .callee) _))
+      (rw (done-last (lineBacks S (b ∷ bs)) e) (record { vars-are = refl; trace-is = refl })) (rw (done-last (lineBacks S (b ∷ bs)) e) (record { vars-are = refl; trace-is = refl }))
     where
-      bad : suc (suc (length (lineBacks t bs))) ≡ 1 → ⊥
+      bad : suc (suc (length (lineBacks S bs))) ≡ 1 → ⊥
       bad x = omega arith
 
-  -- ---- a place before line ph of row j
-  module _ (rest : List (Frame Counters)) (k′ : ℕ) (k′-is : k′ ≡ startOf (harden t) n + p) (wide : Between (harden t) k k′) (j ph : ℕ) (h : Open) (hs : List Open) (mj : InFunction t n j h hs) (phl : ph < lineCount (kindAt t j)) (is : k′ ≡ lineOf t j + ph) where
+  -- ---- a place before a line
+  module _ (rest : List (Frame H)) (low : p < lastPlace (harden t) n) (wide : Between (harden t) k at) where
     not-last : eqb p (lastPlace (harden t) n) ≡ false
-    not-last = ne-eqb p (lastPlace (harden t) n) (λ x. bad x)
-      where
-        bad : p ≡ lastPlace (harden t) n → ⊥
-        bad x = omega (arith, before-finish t ok mj, start-finish t ok n (m .known))
+    not-last = ne-eqb p (lastPlace (harden t) n) (omega arith)
 
-    line-there : lineAt (harden t) (startOf (harden t) n + p) ≡ lineAt (rowLines t j (h ∷ hs) (kindAt t j)) ph
-    line-there = ap (lineAt (harden t)) (sym k′-is ∙ is) ∙ line-at t j ph (mj .within) phl ∙ ap (λ s. lineAt (rowLines t j s (kindAt t j)) ph) (mj .open-is)
-
-    guard-keeps : (ℓ : Line) → isGuard ℓ ≡ true → (s : Hardened) → doneBy ℓ s ≡ s
-    guard-keeps (doLine o e) g s = clash g refl
-    guard-keeps (tickLine r e a) g s = refl
-    guard-keeps (Line.testLine o r s′ u e a b c go) g s = refl
-    guard-keeps (Line.leaveLine r s′ e a b go) g s = refl
-    guard-keeps (Line.outLine r s′ u e a go) g s = refl
-    guard-keeps (Line.callLine r e a b go) g s = refl
-    guard-keeps (backLine r e a b) g s = refl
-    guard-keeps (Line.retLine e a) g s = refl
-
-    caught-guard : (d : ℕ) (ℓ : Line) → lineAt (rowLines t j (h ∷ hs) (kindAt t j)) ph ≡ ℓ → Guards t j h hs ph d ℓ → Caught t p (from rest)
+    caught-guard : (ℓ : Line) → lineAt (harden t) at ≡ ℓ → isGuard ℓ ≡ true → CaughtOf F (harden t) p (from rest)
     unfolding alarmStep doneAt
-    caught-guard d ℓ q g = at-once (λ k. rw (not-last, line-there, q, g .guards)) (landed t p (from rest))
-        (line-step t ok mj (startOf (harden t) n + p) ph ℓ (sym k′-is ∙ is) phl q cn rest l vs tr
-        ∙ check-fails (harden t) ℓ n (startOf (harden t) n + p) cn rest l vs tr (g .guards) (refused t ok n i f fs m k w st j ph d h hs ℓ mj g
-        (λ x. own-guard t i j k k′ (st .ph) (st .e) ph d (mj .within) (x .0) (x .1) (st .line-is) is (st .from) (g .phase) wide)))
-        (rw (not-last, line-there, q, guard-keeps ℓ (g .guards) (from rest)) (record { vars-are = refl; trace-is = refl }))
+    caught-guard ℓ q g = at-once (λ k. rw (not-last, q, g)) (landedAt (harden t) p (from rest))
+        (step-at S n at ℓ (omega arith) q cn rest l vs tr
+        ∙ check-fails F (harden t) ℓ n at cn rest l vs tr g (subst (λ x. F .guard at x .passes cn l ≡ false) q (R .refuses n k w f fs st at (omega arith) (omega arith) (ap isGuard q ∙ g) wide l)))
+        (rw (not-last, q, guard-keeps ℓ g (from rest)) (record { vars-are = refl; trace-is = refl }))
 
-    caught-do : kindAt t j ≡ Do → ph ≡ 0 → lineAt (rowLines t j (h ∷ hs) (kindAt t j)) ph ≡ doLine (operandsAt t j) j → Caught t p (from rest)
-    unfolding alarmStep doneAt rowLines lineStep
-    caught-do r z q =
-        let at = startOf (harden t) n + p in
+    caught-do : (j : ℕ) (h : Open) (hs : List Open) → InFunction t n j h hs → at ≡ lineOf t j → kindAt t j ≡ Do → lineAt (harden t) at ≡ doLine (operandsAt t j) j → CaughtOf F (harden t) p (from rest)
+    unfolding alarmStep doneAt rowLines lineStepOf
+    caught-do j h hs mj is r q =
         let done = hard n (suc at) cn rest l (doneOn (operandsAt t j) vs) (tr ++ (j ∷ [])) in
-        let tick = tickLine (ownRegion (h ∷ hs)) (value t (h .region) j) (value t (h .region) j + 1) in
-        one-later (λ k. rw (not-last, line-there, q)) done done
-        (line-step t ok mj at ph (doLine (operandsAt t j) j) (sym k′-is ∙ is) phl q cn rest l vs tr)
-        (line-step t ok mj (suc at) 1 tick (omega arith) (rw r (omega arith)) (rw r) cn rest l _ _
-        ∙ check-fails (harden t) tick n (suc at) cn rest l _ _ refl
-        (refused t ok n i f fs m k w st j 1 0 h hs tick mj (tick-guards t j h hs r)
-        (λ y. own-tick t i j k k′ (st .ph) (st .e) (mj .within) (y .0) (y .1) (st .line-is) (omega arith) r (st .from) wide)))
-        (rw (not-last, line-there, q) (record { vars-are = refl; trace-is = refl })) (rw (not-last, line-there, q) (record { vars-are = refl; trace-is = refl }))
+        let ct : lineCount (kindAt t j) ≡ 2 = ap lineCount r in
+        let tick-is : lineAt (harden t) (suc at) ≡ tickLine _ _ _
+        = ap (lineAt (harden t)) (let z : suc at ≡ lineOf t j + 1 = omega arith in z) ∙ line-at t j 1 (mj .within) (omega (arith, ct)) ∙ ap (λ s. lineAt (rowLines t j s (kindAt t j)) 1) (mj .open-is)
+        ∙ ap (λ x. lineAt (rowLines t j (h ∷ hs) x) 1) r in
+        let late : suc at < finishOf (harden t) n = omega (arith, before-finish t ok mj, ct) in
+        one-later (λ k. rw (not-last, q)) done done
+        (step-at S n at _ (omega arith) q cn rest l vs tr)
+        late
+        (step-at S n (suc at) _ late tick-is cn rest l _ _
+        ∙ check-fails F (harden t) _ n (suc at) cn rest l _ _ refl
+        (subst (λ x. F .guard (suc at) x .passes cn l ≡ false) tick-is (R .refuses n k w f fs st (suc at) (omega arith) late (ap isGuard tick-is) (past-do (harden t) k at (ap isGuard q) wide) l)))
+        (rw (not-last, q) (record { vars-are = refl; trace-is = refl })) (rw (not-last, q) (record { vars-are = refl; trace-is = refl }))
 
-    caught-line : Sort t j h hs ph (lineAt (rowLines t j (h ∷ hs) (kindAt t j)) ph) → Caught t p (from rest)
-    caught-line (a-guard d g) = caught-guard d (lineAt (rowLines t j (h ∷ hs) (kindAt t j)) ph) refl g
-    caught-line (a-do r z x) = caught-do r z x
+    caught-line : (j ph : ℕ) (h : Open) (hs : List Open) → InFunction t n j h hs → at ≡ lineOf t j + ph → lineAt (harden t) at ≡ lineAt (rowLines t j (h ∷ hs) (kindAt t j)) ph
+        → Sort t j h hs ph (lineAt (rowLines t j (h ∷ hs) (kindAt t j)) ph) → CaughtOf F (harden t) p (from rest)
+    caught-line j ph h hs mj is q (a-guard d g) = caught-guard _ q (g .guards)
+    caught-line j ph h hs mj is q (a-do r z x) = caught-do j h hs mj (omega arith) r (q ∙ x)
 
   -- ---- any place across a guard
-  caught : (bs : List Back) → Linked t n bs → p ≤ lastPlace (harden t) n → Between (harden t) k (startOf (harden t) n + p) → Caught t p (from (lineBacks t bs))
+  caught : (bs : List Back) → Linked t n bs → p ≤ lastPlace (harden t) n → Between (harden t) k at → CaughtOf F (harden t) p (from (lineBacks S bs))
   caught bs lk b wide = by (eq-or-lt-of-le b)
     where
-      by : (p ≡ lastPlace (harden t) n) ⊎ (p < lastPlace (harden t) n) → Caught t p (from (lineBacks t bs))
+      by : (p ≡ lastPlace (harden t) n) ⊎ (p < lastPlace (harden t) n) → CaughtOf F (harden t) p (from (lineBacks S bs))
       by (inl e) = caught-last e bs lk
       by (inr x) =
-          let pl = line-of t ok n (startOf (harden t) n + p) (m .known) (omega arith) (omega arith) in
-          caught-line (lineBacks t bs) (startOf (harden t) n + p) refl wide (pl .row) (pl .ph) (pl .top) (pl .others) (pl .in-function) (pl .ph-lt) (pl .is)
+          let pl = line-of t ok n at (st .in-function .known) (omega arith) (omega arith) in
+          caught-line (lineBacks S bs) x wide (pl .row) (pl .ph) (pl .top) (pl .others) (pl .in-function) (pl .is)
+          (ap (lineAt (harden t)) (pl .is) ∙ line-at t (pl .row) (pl .ph) (pl .in-function .within) (pl .ph-lt) ∙ ap (λ s. lineAt (rowLines t (pl .row) s (kindAt t (pl .row))) (pl .ph)) (pl .in-function .open-is))
           (sort t (pl .row) (pl .top) (pl .others) (formed-here t ok (pl .in-function)) (kindAt t (pl .row)) refl (pl .ph) (pl .ph-lt))
 
 -- ---- from a state that is related to a source state
-abbrev pub Catches : Table → ℕ → Hardened → Type 0
-Catches t p h =
-    p ≤ lastPlace (harden t) (h .running .function) → guardBetween (harden t) (h .running .at) (placeLine (harden t) p h) ≡ true → Caught t p h
+abbrev pub Catches : {H : Type 0} → Table → Form H → ℕ → State H → Type 0
+Catches t F p h =
+    p ≤ lastPlace (harden t) (h .running .function) → guardBetween (harden t) (h .running .at) (placeLine (harden t) p h) ≡ true → CaughtOf F (harden t) p h
 
-pub catches : (t : Table) → Proper t → (d : ℕ) (s : Source) (h : Hardened) → Related t d s h → (p : ℕ) → Catches t p h
-catches t ok d s h r p = subst (Catches t p) (sym (r .h-is))
-    (λ b w. caught t ok (r .n) (r .i) (r .f) (r .fs) (r .in-function) (r .k) (r .w) (stands t (r .i) (r .j) (r .k) (r .w) (r .l 0) (value t (r .f .region) (r .i)) (r .f) (r .mode)) (r .l) (r .vs) (r .tr) p
+pub catches : (t : Table) → Proper t → {H : Type 0} {F : Form H} (S : Settles t F) → Strict S → (d : ℕ) (s : Source) (h : State H) → Related S d s h → (p : ℕ) → Catches t F p h
+catches t ok {F = F} S R d s h r p = subst (Catches t F p) (sym (r .h-is))
+    (λ b w. caught t ok S R (r .n) (r .k) (r .w) (r .f) (r .fs) (stands t ok S (r .n) (r .i) (r .j) (r .k) (r .w) _ (r .f) (r .fs) (r .in-function) (r .mode)) (r .l) (r .vs) (r .tr) p
     (r .rest) (r .linked) b (between (harden t) (r .k) (startOf (harden t) (r .n) + p) w))

@@ -14,10 +14,7 @@ use Rattle.rules.specs.Value.{inside, valueIn}
 use Rattle.rules.specs.Hardened.{Counters, clear, put, clearFrom}
 use Rattle.rules.proofs.Logic.{clash}
 use Rattle.rules.proofs.Scan.{Chain, NotIn, chain-not-in}
-
--- what the region around the part f holds while f is open
-abbrev pub holding : Table → Open → List Open → ℕ
-holding t f fs = valueIn t (f .opener) fs + inside
+pub use Rattle.rules.proofs.Parts.{holding, LoopIn, loop-in}
 
 -- The counter of region x, where the innermost of the parts fs holds v: each part around holds what its inner part's row left,
 -- and every other region 0.
@@ -85,21 +82,6 @@ put-leave t z f h hs v a l k = fun-ext (λ x. rw (shift z (h .region) x l, shift
     (leave-at t f h hs v a (z + x) k (eqb (z + x) (h .region)) (eqb (z + x) (f .region)) refl refl))
 
 -- ---- break and continue: the parts up to the innermost loop body close
-pub record LoopIn (b : ℕ) (l : Open) (hs : List Open) : Type 0 where
-  pub low : l .region < b
-  pub rest : Chain (l .region) hs
-
-pub loop-in : (fs : List Open) (b : ℕ) (l : Open) (hs : List Open) → fromLoop fs ≡ l ∷ hs → Chain b fs → LoopIn b l hs
-loop-in [] b l hs e k = clash {b = true} refl cc
-loop-in (f ∷ fs) b l hs e k = by (isLoopBody (f .part)) e (λ q. loop-in fs (f .region) l hs q (k .1))
-  where
-    same : f ∷ fs ≡ l ∷ hs → LoopIn b l hs
-    same q = let c : Chain b (l ∷ hs) = subst (Chain b) q k in record { low = c .0; rest = c .1 }
-
-    by : (d : Bool) → cond d (f ∷ fs) (fromLoop fs) ≡ l ∷ hs → (fromLoop fs ≡ l ∷ hs → LoopIn (f .region) l hs) → LoopIn b l hs
-    by true q ih = same q
-    by false q ih = let r = ih q in record { low = omega (arith, r .low); rest = r .rest }
-
 counter-skip : (t : Table) (fs : List Open) (b : ℕ) (l : Open) (hs : List Open) (v y : ℕ) → fromLoop fs ≡ l ∷ hs → Chain b fs → y < l .region
     → counterOf t fs v y ≡ counterOf t hs (holding t l hs) y
 counter-skip t [] b l hs v y e k h = clash {b = true} refl cc

@@ -7,12 +7,13 @@ use Rattle.rules.specs.Row.{tableOf}
 use Rattle.rules.specs.Line.{linesIn}
 use Rattle.rules.specs.Harden.{harden}
 use Rattle.rules.specs.ReadBack.{sourceBytes, isHardened}
-use Rattle.rules.specs.Demands.{Unstruck, Finishing, Jumped, Theorem}
+use Rattle.rules.specs.Hardened.{counterForm}
+use Rattle.rules.specs.Demands.{DemandOf, Theorem}
 use Rattle.rules.proofs.Accepted.{Proper, proper}
 use Rattle.rules.proofs.Reading.{lines-of, hardened-source}
-use Rattle.rules.proofs.Unstruck.{unstruck}
-use Rattle.rules.proofs.Finish.{finishing}
-use Rattle.rules.proofs.Jump.{jumped}
+use Rattle.rules.proofs.Forms.{demand-of}
+use Rattle.rules.proofs.CounterForm.{counterSettles}
+use Rattle.rules.proofs.CounterStrict.{counterStrict}
 
 -- the lines of a hardened table are those of the table that it is read back to
 pub hardened-lines : (lines : List ℕ) → isHardened lines ≡ true → harden (tableOf (sourceBytes lines)) ≡ linesIn lines
@@ -24,10 +25,6 @@ source-proper lines e = proper (sourceBytes lines) ((hardened-source lines e) .0
 pub demand-3 : Theorem
 demand-3 lines vars budget k place e =
     let ok = source-proper lines e in
-    let q = hardened-lines lines e in
     let t = tableOf (sourceBytes lines) in
-    record {
-      unstruck = subst (λ ls. Unstruck ls t vars budget) q (unstruck t ok vars budget);
-      finishing = λ c. subst (λ ls. Finishing ls t vars budget c) q (finishing t ok vars budget c);
-      jumped = subst (λ ls. Jumped ls vars budget k place) q (jumped t ok vars budget k place);
-    }
+    subst (λ ls. DemandOf (counterForm ls) ls t vars budget k place) (hardened-lines lines e)
+    (demand-of t ok (counterSettles t ok) (counterStrict t ok) vars budget k place)

@@ -15,12 +15,14 @@ use Rattle.rules.specs.Limits.{maxOpen}
 use Rattle.rules.specs.Row.{Table, kindAt}
 use Rattle.rules.specs.Check.{isCall}
 use Rattle.rules.specs.Harden.{harden}
+use Rattle.rules.specs.State.{State}
 use Rattle.rules.specs.Run.{run, tally, outcomeOf}
 use Rattle.rules.specs.Source.{Source, sourceStep, sourceStart, sourceRun}
-use Rattle.rules.specs.Hardened.{Hardened, hardenedStep, hardenedStart, hardenedRun}
+use Rattle.rules.specs.Form.{Form, stepOf, startBy, runOf}
 use Rattle.rules.specs.Match.{isDo, dosIn, callsIn}
-use Rattle.rules.specs.Demands.{Finishing}
+use Rattle.rules.specs.Demands.{FinishingOf}
 use Rattle.rules.proofs.Accepted.{Proper}
+use Rattle.rules.proofs.Settled.{Settles}
 use Rattle.rules.proofs.Relation.{Related, Both, both-on, both-end, extra}
 use Rattle.rules.proofs.Simulate.{extraAt, Next, moves, waits, next, start}
 use Rattle.rules.proofs.Unstruck.{sourceMachine, lineMachine}
@@ -47,23 +49,23 @@ extra-is Unknown = refl
 
 -- From related states with d ticks and backs owed, k and j steps taken: the source finishes after n more, the hardened run after
 -- n, its dos, its calls and what is owed, whatever budget x is left over.
-record Finishes (t : Table) (b k d j x : ℕ) (s : Source) (h : Hardened) : Type 0 where
+record Finishes {H : Type 0} {t : Table} {F : Form H} (S : Settles t F) (b k d j x : ℕ) (s : Source) (h : State H) : Type 0 where
   n : ℕ
   takes-n : (run (sourceMachine t) b k s) .steps ≡ k + n
-  finishes : outcomeOf ((run (lineMachine t) (n + dos t b k s + calls t b k s + d + x) j h) .step) ≡ 1
-  in-steps : (run (lineMachine t) (n + dos t b k s + calls t b k s + d + x) j h) .steps ≡ j + (n + dos t b k s + calls t b k s + d)
+  finishes : outcomeOf ((run (lineMachine S) (n + dos t b k s + calls t b k s + d + x) j h) .step) ≡ 1
+  in-steps : (run (lineMachine S) (n + dos t b k s + calls t b k s + d + x) j h) .steps ≡ j + (n + dos t b k s + calls t b k s + d)
 
-abbrev Goal : Table → ℕ → Type 0
-Goal t b = (s : Source) (d k j x : ℕ) (h : Hardened) → Related t d s h → outcomeOf ((run (sourceMachine t) b k s) .step) ≡ 1 → Finishes t b k d j x s h
+abbrev Goal : {H : Type 0} {t : Table} {F : Form H} → Settles t F → ℕ → Type 0
+Goal {H} {t} S b = (s : Source) (d k j x : ℕ) (h : State H) → Related S d s h → outcomeOf ((run (sourceMachine t) b k s) .step) ≡ 1 → Finishes S b k d j x s h
 
 not-one : (o : Step) → o ≡ TooManyOpen maxOpen → outcomeOf o ≡ 1 → ⊥
 unfolding outcomeOf
 not-one o e q = omega (arith, ap outcomeOf e)
 
-both-step : (t : Table) (b d k j x : ℕ) (s : Source) (h : Hardened) → Goal t b → Both t (d + extraAt t s) (sourceStep t s) (hardenedStep (harden t) h)
-    → outcomeOf ((run (sourceMachine t) (suc b) k s) .step) ≡ 1 → Finishes t (suc b) k d j x s h
+both-step : {H : Type 0} {t : Table} {F : Form H} (S : Settles t F) (b d k j x : ℕ) (s : Source) (h : State H) → Goal S b → Both S (d + extraAt t s) (sourceStep t s) (stepOf F (harden t) h)
+    → outcomeOf ((run (sourceMachine t) (suc b) k s) .step) ≡ 1 → Finishes S (suc b) k d j x s h
 unfolding run tally outcomeOf
-both-step t b d k j x s h ih (both-on s′ h′ es eh r) o =
+both-step {H} {t} {F} S b d k j x s h ih (both-on s′ h′ es eh r) o =
     let f = ih s′ (d + extraAt t s) (suc k) (suc j) x h′ r (rw es at o) in
     let kd = kindAt t (s .running .at) in
     let e : suc (f .n) + (cond (isDo kd) 1 0 + dos t b (suc k) s′) + (cond (isCall kd) 1 0 + calls t b (suc k) s′) + d + x
@@ -74,7 +76,7 @@ both-step t b d k j x s h ih (both-on s′ h′ es eh r) o =
       finishes = rw (es, e, eh) (f .finishes);
       in-steps = rw (es, e, eh) (omega (arith, f .in-steps, extra-is kd));
     }
-both-step t b d k j x s h ih (both-end o′ s′ h′ es eh sm (inl q) fin) o =
+both-step {H} {t} {F} S b d k j x s h ih (both-end o′ s′ h′ es eh sm (inl q) fin) o =
     let z = fin q in
     let e : 1 + 0 + 0 + d + x ≡ suc x = omega arith in
     record {
@@ -83,24 +85,24 @@ both-step t b d k j x s h ih (both-end o′ s′ h′ es eh sm (inl q) fin) o =
       finishes = rw (es, e, eh) (ap outcomeOf q);
       in-steps = rw (es, e, eh) (omega arith);
     }
-both-step t b d k j x s h ih (both-end o′ s′ h′ es eh sm (inr q) fin) o = absurd (not-one o′ q (rw es at o))
+both-step {H} {t} {F} S b d k j x s h ih (both-end o′ s′ h′ es eh sm (inr q) fin) o = absurd (not-one o′ q (rw es at o))
 
 -- first the ticks and backs that are due, then a step of both
-step-by : (t : Table) → Proper t → (b : ℕ) → Goal t b → (d : ℕ) (s : Source) (k j x : ℕ) (h : Hardened) → Related t d s h → outcomeOf ((run (sourceMachine t) (suc b) k s) .step) ≡ 1
-    → Finishes t (suc b) k d j x s h
+step-by : (t : Table) → Proper t → {H : Type 0} {F : Form H} (S : Settles t F) → (b : ℕ) → Goal S b → (d : ℕ) (s : Source) (k j x : ℕ) (h : State H) → Related S d s h → outcomeOf ((run (sourceMachine t) (suc b) k s) .step) ≡ 1
+    → Finishes S (suc b) k d j x s h
 unfolding run
-step-by t ok b ih zero s k j x h r o = by (next t ok zero s h r)
+step-by t ok {H = H} S b ih zero s k j x h r o = by (next t ok S zero s h r)
   where
-    by : Next t zero s h → Finishes t (suc b) k zero j x s h
-    by (moves q z) = both-step t b zero k j x s h ih z o
+    by : Next S zero s h → Finishes S (suc b) k zero j x s h
+    by (moves q z) = both-step S b zero k j x s h ih z o
     by (waits q h′ d′ eh r′ de) = absurd (let z : ⊥ = omega arith in z)
-step-by t ok b ih (suc d) s k j x h r o = by (next t ok (suc d) s h r) (λ h′ r′. step-by t ok b ih d s k (suc j) x h′ r′ o)
+step-by t ok {H = H} S b ih (suc d) s k j x h r o = by (next t ok S (suc d) s h r) (λ h′ r′. step-by t ok S b ih d s k (suc j) x h′ r′ o)
   where
-    by : Next t (suc d) s h → ((h′ : Hardened) → Related t d s h′ → Finishes t (suc b) k d (suc j) x s h′) → Finishes t (suc b) k (suc d) j x s h
-    by (moves q z) rec = both-step t b (suc d) k j x s h ih z o
+    by : Next S (suc d) s h → ((h′ : State H) → Related S d s h′ → Finishes S (suc b) k d (suc j) x s h′) → Finishes S (suc b) k (suc d) j x s h
+    by (moves q z) rec = both-step S b (suc d) k j x s h ih z o
     by (waits q h′ d′ eh r′ de) rec =
         let dd : d′ ≡ d = omega arith in
-        let f = rec h′ (subst (λ y. Related t y s h′) dd r′) in
+        let f = rec h′ (subst (λ y. Related S y s h′) dd r′) in
         let e : f .n + dos t (suc b) k s + calls t (suc b) k s + suc d + x ≡ suc (f .n + dos t (suc b) k s + calls t (suc b) k s + d + x) = omega arith in
         record {
           n = f .n;
@@ -109,26 +111,26 @@ step-by t ok b ih (suc d) s k j x h r o = by (next t ok (suc d) s h r) (λ h′ 
           in-steps = rw (e, eh) (omega (arith, f .in-steps));
         }
 
-finish : (t : Table) → Proper t → (b : ℕ) → Goal t b
+finish : (t : Table) → Proper t → {H : Type 0} {F : Form H} (S : Settles t F) → (b : ℕ) → Goal S b
 unfolding run outcomeOf
-finish t ok zero s d k j x h r o = absurd (bad o)
+finish t ok S zero s d k j x h r o = absurd (bad o)
   where
     bad : _≡_ {A = ℕ} 0 1 → ⊥
     bad y = omega arith
-finish t ok (suc b) s d k j x h r o = step-by t ok b (finish t ok b) d s k j x h r o
+finish t ok S (suc b) s d k j x h r o = step-by t ok S b (finish t ok S b) d s k j x h r o
 
 -- ---- from the start
-pub finishing : (t : Table) → Proper t → (vs : List ℕ) (b c : ℕ) → Finishing (harden t) t vs b c
+pub finishing : (t : Table) → Proper t → {H : Type 0} {F : Form H} (S : Settles t F) → (vs : List ℕ) (b c : ℕ) → FinishingOf F (harden t) t vs b c
 unfolding dosIn callsIn
-finishing t ok vs b c = record { finishes = λ o l. (by o l) .0; in-steps = λ o l. (by o l) .1 }
+finishing t ok {H = H} {F = F} S vs b c = record { finishes = λ o l. (by o l) .0; in-steps = λ o l. (by o l) .1 }
   where
     by : outcomeOf ((sourceRun t b vs) .step) ≡ 1 → (sourceRun t b vs) .steps + dosIn t b vs + callsIn t b vs ≤ c
-        → (outcomeOf ((hardenedRun (harden t) None c vs) .step) ≡ 1)
-        × ((hardenedRun (harden t) None c vs) .steps ≡ (sourceRun t b vs) .steps + dosIn t b vs + callsIn t b vs)
+        → (outcomeOf ((runOf F (harden t) None c vs) .step) ≡ 1)
+        × ((runOf F (harden t) None c vs) .steps ≡ (sourceRun t b vs) .steps + dosIn t b vs + callsIn t b vs)
     by o l =
         let x = c - ((sourceRun t b vs) .steps + dosIn t b vs + callsIn t b vs) in
-        let f = finish t ok b (sourceStart vs) 0 0 0 x (hardenedStart vs) (start t ok vs) o in
+        let f = finish t ok S b (sourceStart vs) 0 0 0 x (startBy F vs) (start t ok S vs) o in
         let e : c ≡ f .n + dosIn t b vs + callsIn t b vs + 0 + x = omega (arith, f .takes-n) in (
-          ap (λ y. outcomeOf ((hardenedRun (harden t) None y vs) .step)) e ∙ f .finishes,
-          ap (λ y. (hardenedRun (harden t) None y vs) .steps) e ∙ f .in-steps ∙ omega (arith, f .takes-n),
+          ap (λ y. outcomeOf ((runOf F (harden t) None y vs) .step)) e ∙ f .finishes,
+          ap (λ y. (runOf F (harden t) None y vs) .steps) e ∙ f .in-steps ∙ omega (arith, f .takes-n),
         )

@@ -1,27 +1,20 @@
--- The lines of a row are its do and its guards. Which counter each guard checks, and for which value; and that a guard whose check
--- fails raises the alarm. Assumes that the table is accepted, where it says so.
+-- The lines of a row are its do and its guards: which counter of the counter form each guard checks, and for which value. Assumes that the table is accepted, where it says so.
 use mathlib.Core.Path.{_≡_, refl, sym, ap, _∙_}
 use mathlib.Core.Bool.{Bool, true, false, cond}
 use mathlib.Core.List.{List, [], _∷_}
 use Prim.Native.Nat.{ℕ, zero, suc, _+_, _-_, _≤_, _<_}
 use native.Mathlib.Nat.{not-suc-le-zero}
 use native.Mathlib.Omega.{arith}
-use lib.Dec.{eqb}
 use Rattle.rules.specs.declared.kind.Kind.{Kind}
 use Rattle.rules.specs.declared.kind.Kind.the-variants.{Function, Do, If, Else, Loop, End, Break, Continue, Call, Unknown}
-use Rattle.rules.specs.declared.step.Step.the-variants.{Alarm}
 use Rattle.rules.specs.Row.{Table, kindAt, operandsAt}
 use Rattle.rules.specs.Scan.{Part, body, thenPart, elsePart, loopBody, Open, pushes, shapeOf, bodyRegion, hasElse}
 use Rattle.rules.specs.Value.{inside, takes, value}
 use Rattle.rules.specs.Line.{Line, doLine, tickLine, testLine, leaveLine, outLine, callLine, backLine, retLine, lineAt, isGuard}
 use Rattle.rules.specs.Harden.{lineCount, testOf, endLine, ownRegion, rowLines}
-use Rattle.rules.specs.State.{Frame}
-use Rattle.rules.specs.Run.{ends}
-use Rattle.rules.specs.Hardened.{Counters, lineStep}
 use Rattle.rules.specs.Match.{isDo}
 use Rattle.rules.proofs.Logic.{clash}
 use Rattle.rules.proofs.Function.{isBody, Formed}
-use Rattle.rules.proofs.Relation.{hard}
 
 -- the counter that a guard checks, and for which value
 abbrev pub checksAt : Line → ℕ
@@ -43,18 +36,6 @@ checksFor (outLine r s t e a go) = e
 checksFor (callLine r e a b go) = e
 checksFor (backLine r e a b) = e
 checksFor (retLine e a) = e
-
-pub check-fails : (ls : List Line) (ℓ : Line) (n k : ℕ) (c : Counters) (rest : List (Frame Counters)) (l : Counters) (vs tr : List ℕ) → isGuard ℓ ≡ true
-    → eqb (c (checksAt ℓ)) (checksFor ℓ) ≡ false → lineStep ls k ℓ (hard n k c rest l vs tr) ≡ ends Alarm (hard n k c rest l vs tr)
-unfolding lineStep
-check-fails ls (doLine o e) n k c rest l vs tr g h = clash g refl
-check-fails ls (tickLine r e a) n k c rest l vs tr g h = rw h
-check-fails ls (testLine o r s t e a b d go) n k c rest l vs tr g h = rw h
-check-fails ls (leaveLine r s e a b go) n k c rest l vs tr g h = rw h
-check-fails ls (outLine r s t e a go) n k c rest l vs tr g h = rw h
-check-fails ls (callLine r e a b go) n k c rest l vs tr g h = rw h
-check-fails ls (backLine r e a b) n k c rest l vs tr g h = rw h
-check-fails ls (retLine e a) n k c rest l vs tr g h = rw h
 
 -- ---- the guard of a row that wants d past the row's value: which of the row's lines it is
 abbrev pub phaseOf : Kind → (d : ℕ) → ℕ

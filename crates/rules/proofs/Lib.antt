@@ -7,6 +7,8 @@ pub mod Close
 pub mod Harden
 pub mod Function
 pub mod Place
+pub mod Parts
+pub mod Settled
 pub mod Counters
 pub mod Unique
 pub mod Relation
@@ -18,9 +20,14 @@ pub mod Simulate
 pub mod Unstruck
 pub mod Finish
 pub mod Guard
-pub mod Wide
+pub mod Where
+pub mod Struck
 pub mod Alarm
 pub mod Jump
+pub mod Forms
+pub mod Wide
+pub mod CounterForm
+pub mod CounterStrict
 pub mod ValueBound
 pub mod RegionBound
 pub mod FunctionLine
@@ -34,6 +41,7 @@ pub mod Reading
 pub mod Calls
 pub mod TablePromise
 pub mod Demand3
+pub mod RunPromise
 pub mod Promise
 pub mod Instance
 pub mod Compute

@@ -23,6 +23,10 @@ and-right false b e = clash e refl
 pub and-both : {a b : Bool} → a ≡ true → b ≡ true → a && b ≡ true
 and-both {a} {b} p q = rw p q
 
+pub and-false : (a : Bool) {b : Bool} → b ≡ false → a && b ≡ false
+and-false true e = e
+and-false false e = refl
+
 pub or-left : (a b : Bool) → a || b ≡ false → a ≡ false
 or-left true b e = e
 or-left false b e = refl

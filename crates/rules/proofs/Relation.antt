@@ -18,18 +18,18 @@ use Rattle.rules.specs.Row.{Table, kindAt, operandsAt}
 use Rattle.rules.specs.Scan.{Open, regions, openAt, bodyRegion}
 use Rattle.rules.specs.Value.{value, valueIn}
 use Rattle.rules.specs.Line.{Line, lineAt}
-use Rattle.rules.specs.Harden.{lineCount, lineOf, rowLines, endValue, harden}
+use Rattle.rules.specs.Harden.{lineCount, lineOf, rowLines, harden}
 use Rattle.rules.specs.Function.{finishOf}
-use Rattle.rules.specs.State.{Frame, frame}
+use Rattle.rules.specs.State.{Frame, State, frame}
 use Rattle.rules.specs.Run.{Turn, on, ends}
 use Rattle.rules.specs.Source.{Source, rowStep, sourceStep}
-use Rattle.rules.specs.Hardened.{Counters, Hardened, lineStep, hardenedStep}
+use Rattle.rules.specs.Form.{Form, lineStepOf, stepOf}
 use Rattle.rules.proofs.Accepted.{Proper}
 use Rattle.rules.proofs.Scan.{Chain, chain, body-least}
 use Rattle.rules.proofs.Harden.{line-at}
 use Rattle.rules.proofs.Function.{InFunction}
 use Rattle.rules.proofs.Place.{before-finish}
-use Rattle.rules.proofs.Counters.{counters, at-region, counter-top}
+use Rattle.rules.proofs.Settled.{Settles}
 
 -- ---- a caller that waits: its function and the row of its call
 pub record Back : Type 0 where
@@ -37,20 +37,20 @@ pub record Back : Type 0 where
   pub row : ℕ
 
 -- its counters: the call has moved its region on by 1
-abbrev pub waiting : Table → ℕ → Counters
-waiting t i = counters t (bodyRegion (openAt t i)) (openAt t i) (valueIn t i (openAt t i) + 1)
+abbrev pub waiting : {H : Type 0} {t : Table} {F : Form H} → Settles t F → ℕ → H
+waiting {H} {t} S i = S .at (suc (lineOf t i)) (openAt t i) (valueIn t i (openAt t i) + 1)
 
 abbrev pub sourceBacks : List Back → List (Frame (Unit {0}))
 sourceBacks [] = []
 sourceBacks (b ∷ bs) = frame (b .function) (suc (b .row)) tt ∷ sourceBacks bs
 
-abbrev pub lineBacks : Table → List Back → List (Frame Counters)
-lineBacks t [] = []
-lineBacks t (b ∷ bs) = frame (b .function) (suc (lineOf t (b .row))) (waiting t (b .row)) ∷ lineBacks t bs
+abbrev pub lineBacks : {H : Type 0} {t : Table} {F : Form H} → Settles t F → List Back → List (Frame H)
+lineBacks S [] = []
+lineBacks {H} {t} S (b ∷ bs) = frame (b .function) (suc (lineOf t (b .row))) (waiting S (b .row)) ∷ lineBacks S bs
 
-pub backs-length : (t : Table) (bs : List Back) → length (lineBacks t bs) ≡ length (sourceBacks bs)
-backs-length t [] = refl
-backs-length t (b ∷ bs) = ap suc (backs-length t bs)
+pub backs-length : {H : Type 0} {t : Table} {F : Form H} (S : Settles t F) (bs : List Back) → length (lineBacks S bs) ≡ length (sourceBacks bs)
+backs-length S [] = refl
+backs-length S (b ∷ bs) = ap suc (backs-length S bs)
 
 pub source-length : (bs : List Back) → length (sourceBacks bs) ≡ length bs
 source-length [] = refl
@@ -60,12 +60,12 @@ source-length (b ∷ bs) = ap suc (source-length bs)
 abbrev pub src : (n i : ℕ) → List Back → (vs tr : List ℕ) → Source
 src n i rest vs tr = record { running = frame n i tt; callers = sourceBacks rest; last = tt; vars = vs; trace = tr }
 
-abbrev pub hard : (n k : ℕ) → Counters → List (Frame Counters) → (last : Counters) → (vs tr : List ℕ) → Hardened
+abbrev pub hard : {H : Type 0} → (n k : ℕ) → H → List (Frame H) → (last : H) → (vs tr : List ℕ) → State H
 hard n k c fs l vs tr = record { running = frame n k c; callers = fs; last = l; vars = vs; trace = tr }
 
 -- the hardened run before the first line of row i
-abbrev pub here : Table → (n i : ℕ) (f : Open) (fs : List Open) (rest : List Back) (l : Counters) (vs tr : List ℕ) → Hardened
-here t n i f fs rest l vs tr = hard n (lineOf t i) (counters t (bodyRegion (f ∷ fs)) (f ∷ fs) (value t (f .region) i)) (lineBacks t rest) l vs tr
+abbrev pub here : {H : Type 0} {t : Table} {F : Form H} → Settles t F → (n i : ℕ) (f : Open) (fs : List Open) (rest : List Back) (l : H) (vs tr : List ℕ) → (State H)
+here {H} {t} S n i f fs rest l vs tr = hard n (lineOf t i) (S .at (lineOf t i) (f ∷ fs) (value t (f .region) i)) (lineBacks S rest) l vs tr
 
 -- every caller waits at a call of the function above it, and the oldest is function 0
 pub record Caller (t : Table) (n : ℕ) (b : Back) : Type 0 where
@@ -80,56 +80,56 @@ Linked t n [] = n ≡ 0
 Linked t n (b ∷ bs) = Caller t n b × Linked t (b .function) bs
 
 -- Row i, the source's row j, the line k; the innermost counter w, where row i's value is u; what returned last ended at.
-pub data Mode (t : Table) (i j k w last u : ℕ) : Type 0 where
-  ready : j ≡ i → k ≡ lineOf t i → w ≡ u → Mode t i j k w last u
-  ticking : kindAt t i ≡ Do → j ≡ suc i → k ≡ suc (lineOf t i) → w ≡ u → Mode t i j k w last u
-  backing : kindAt t i ≡ Call → j ≡ suc i → k ≡ suc (lineOf t i) → w ≡ u + 1 → last ≡ endValue t (operandsAt t i .n) → Mode t i j k w last u
+pub data Mode {H : Type 0} {t : Table} {F : Form H} (S : Settles t F) (i j k w last u : ℕ) : Type 0 where
+  ready : j ≡ i → k ≡ lineOf t i → w ≡ u → Mode S i j k w last u
+  ticking : kindAt t i ≡ Do → j ≡ suc i → k ≡ suc (lineOf t i) → w ≡ u → Mode S i j k w last u
+  backing : kindAt t i ≡ Call → j ≡ suc i → k ≡ suc (lineOf t i) → w ≡ u + 1 → last ≡ S .end (operandsAt t i .n) → Mode S i j k w last u
 
 -- ticks and backs that are due at once
-abbrev pub due : {t : Table} {i j k w last u : ℕ} → Mode t i j k w last u → ℕ
+abbrev pub due : {H : Type 0} {t : Table} {F : Form H} {S : Settles t F} {i j k w last u : ℕ} → Mode S i j k w last u → ℕ
 due (ready a b c) = 0
 due (ticking e a b c) = 1
 due (backing e a b c l) = 1
 
 -- d more ticks and backs are owed: the one that is due, and a back for each caller that waits
-pub record Related (t : Table) (d : ℕ) (s : Source) (h : Hardened) : Type 0 where
+pub record Related {H : Type 0} {t : Table} {F : Form H} (S : Settles t F) (d : ℕ) (s : Source) (h : State H) : Type 0 where
   pub n : ℕ
   pub i : ℕ
   pub j : ℕ
   pub k : ℕ
   pub w : ℕ
-  pub l : Counters
+  pub l : H
   pub rest : List Back
   pub vs : List ℕ
   pub tr : List ℕ
   pub f : Open
   pub fs : List Open
   pub s-is : s ≡ src n j rest vs tr
-  pub h-is : h ≡ hard n k (counters t (bodyRegion (f ∷ fs)) (f ∷ fs) w) (lineBacks t rest) l vs tr
+  pub h-is : h ≡ hard n k (S .at k (f ∷ fs) w) (lineBacks S rest) l vs tr
   pub in-function : InFunction t n i f fs
   pub linked : Linked t n rest
-  pub mode : Mode t i j k w (l 0) (value t (f .region) i)
+  pub mode : Mode S i j k w (S .seen l) (value t (f .region) i)
   pub owes : d ≡ length rest + due mode
 
 -- an end leaves the same variables, the same trace and the same open functions
-pub record Same (t : Table) (s : Source) (h : Hardened) : Type 0 where
+pub record Same {H : Type 0} {t : Table} {F : Form H} (S : Settles t F) (s : Source) (h : State H) : Type 0 where
   pub n : ℕ
   pub i : ℕ
   pub k : ℕ
-  pub l : Counters
+  pub l : H
   pub rest : List Back
-  pub c : Counters
+  pub c : H
   pub vs : List ℕ
   pub tr : List ℕ
   pub s-is : s ≡ src n i rest vs tr
-  pub h-is : h ≡ hard n k c (lineBacks t rest) l vs tr
+  pub h-is : h ≡ hard n k c (lineBacks S rest) l vs tr
 
-pub data Both (t : Table) (d : ℕ) (a : Turn (Unit {0})) (b : Turn Counters) : Type 0 where
-  both-on : (s : Source) (h : Hardened) → a ≡ on s → b ≡ on h → Related t d s h → Both t d a b
-  both-end : (o : Step) (s : Source) (h : Hardened) → a ≡ ends o s → b ≡ ends o h → Same t s h → (o ≡ Finished) ⊎ (o ≡ TooManyOpen maxOpen) → (o ≡ Finished → d ≡ 0) → Both t d a b
+pub data Both {H : Type 0} {t : Table} {F : Form H} (S : Settles t F) (d : ℕ) (a : Turn (Unit {0})) (b : Turn H) : Type 0 where
+  both-on : (s : Source) (h : State H) → a ≡ on s → b ≡ on h → Related S d s h → Both S d a b
+  both-end : (o : Step) (s : Source) (h : State H) → a ≡ ends o s → b ≡ ends o h → Same S s h → (o ≡ Finished) ⊎ (o ≡ TooManyOpen maxOpen) → (o ≡ Finished → d ≡ 0) → Both S d a b
 
-pub owing : {t : Table} {d e : ℕ} {a : Turn (Unit {0})} {b : Turn Counters} → d ≡ e → Both t d a b → Both t e a b
-owing {t} {d} {e} {a} {b} q x = subst (λ y. Both t y a b) q x
+pub owing : {H : Type 0} {t : Table} {F : Form H} {S : Settles t F} {d e : ℕ} {a : Turn (Unit {0})} {b : Turn H} → d ≡ e → Both S d a b → Both S e a b
+owing {H} {t} {F} {S} {d} {e} {a} {b} q x = subst (λ y. Both S y a b) q x
 
 -- a do is followed by a tick, a call by a back
 abbrev pub extra : Kind → ℕ
@@ -150,11 +150,11 @@ pub source-step : (t : Table) (n i : ℕ) (rest : List Back) (vs tr : List ℕ) 
 unfolding sourceStep
 source-step t n i rest vs tr {k} {fs} e q = ap (λ x. rowStep t i (openAt t i) x (src n i rest vs tr)) e ∙ ap (λ x. rowStep t i x k (src n i rest vs tr)) q
 
-pub line-step : (t : Table) → Proper t → {n i : ℕ} {f : Open} {fs : List Open} → InFunction t n i f fs → (k ph : ℕ) (ℓ : Line) → k ≡ lineOf t i + ph → ph < lineCount (kindAt t i)
-    → lineAt (rowLines t i (f ∷ fs) (kindAt t i)) ph ≡ ℓ → (c : Counters) (rest : List (Frame Counters)) (l : Counters) (vs tr : List ℕ)
-    → hardenedStep (harden t) (hard n k c rest l vs tr) ≡ lineStep (harden t) k ℓ (hard n k c rest l vs tr)
-unfolding hardenedStep
-line-step t ok {n} {i} {f} {fs} m k ph ℓ e h q c rest l vs tr =
+pub line-step : (t : Table) → Proper t → {H : Type 0} {F : Form H} (S : Settles t F) → {n i : ℕ} {f : Open} {fs : List Open} → InFunction t n i f fs → (k ph : ℕ) (ℓ : Line) → k ≡ lineOf t i + ph → ph < lineCount (kindAt t i)
+    → lineAt (rowLines t i (f ∷ fs) (kindAt t i)) ph ≡ ℓ → (c : H) (rest : List (Frame H)) (l : H) (vs tr : List ℕ)
+    → stepOf F (harden t) (hard n k c rest l vs tr) ≡ lineStepOf F (harden t) k ℓ (hard n k c rest l vs tr)
+unfolding stepOf
+line-step t ok S {n} {i} {f} {fs} m k ph ℓ e h q c rest l vs tr =
     rw (ne-eqb k (finishOf (harden t) n) (λ x. bad x), ap (lineAt (harden t)) e ∙ line-at t i ph (m .within) h ∙ ap (λ s. lineAt (rowLines t i s (kindAt t i)) ph) (m .open-is) ∙ q)
   where
     bad : k ≡ finishOf (harden t) n → ⊥
@@ -164,15 +164,11 @@ line-step t ok {n} {i} {f} {fs} m k ph ℓ e h q c rest l vs tr =
 pub body-below : (t : Table) {n i : ℕ} {f : Open} {fs : List Open} → InFunction t n i f fs → bodyRegion (f ∷ fs) ≤ f .region
 body-below t {n} {i} {f} {fs} m = body-least (regions t i) f fs (subst (Chain (regions t i)) (m .open-is) (chain t i))
 
--- the innermost counter holds what is checked
-pub checked : (t : Table) (z : ℕ) (f : Open) (fs : List Open) (v : ℕ) → z ≤ f .region → eqb (counters t z (f ∷ fs) v (f .region - z)) v ≡ true
-checked t z f fs v h = eq-eqb _ _ (at-region t z (f ∷ fs) v (f .region) h ∙ counter-top t f fs v)
-
 -- both runs before row j
-pub ready-at : (t : Table) {n j k w : ℕ} {g : Open} {gs : List Open} → InFunction t n j g gs → (rest : List Back) → Linked t n rest → k ≡ lineOf t j → w ≡ value t (g .region) j
-    → (l : Counters) (vs tr : List ℕ) → (c : Counters) → c ≡ counters t (bodyRegion (g ∷ gs)) (g ∷ gs) w
-    → Related t (length rest) (src n j rest vs tr) (hard n k c (lineBacks t rest) l vs tr)
-ready-at t {n} {j} {k} {w} {g} {gs} m rest lk a e l vs tr c p =
+pub ready-at : {H : Type 0} {t : Table} {F : Form H} (S : Settles t F) {n j k w : ℕ} {g : Open} {gs : List Open} → InFunction t n j g gs → (rest : List Back) → Linked t n rest → k ≡ lineOf t j → w ≡ value t (g .region) j
+    → (l : H) (vs tr : List ℕ) → (c : H) → c ≡ S .at k (g ∷ gs) w
+    → Related S (length rest) (src n j rest vs tr) (hard n k c (lineBacks S rest) l vs tr)
+ready-at S {n} {j} {k} {w} {g} {gs} m rest lk a e l vs tr c p =
     record {
       n = n;
       i = j;
@@ -186,9 +182,15 @@ ready-at t {n} {j} {k} {w} {g} {gs} m rest lk a e l vs tr c p =
       f = g;
       fs = gs;
       s-is = refl;
-      h-is = ap (λ x. hard n k x (lineBacks t rest) l vs tr) p;
+      h-is = ap (λ x. hard n k x (lineBacks S rest) l vs tr) p;
       in-function = m;
       linked = lk;
       mode = ready refl a e;
       owes = omega arith;
     }
+
+-- a line of the function that is known
+pub step-at : {H : Type 0} {t : Table} {F : Form H} (S : Settles t F) (n k : ℕ) (ℓ : Line) → k < finishOf (harden t) n → lineAt (harden t) k ≡ ℓ → (c : H) (rest : List (Frame H)) (l : H) (vs tr : List ℕ)
+    → stepOf F (harden t) (hard n k c rest l vs tr) ≡ lineStepOf F (harden t) k ℓ (hard n k c rest l vs tr)
+unfolding stepOf
+step-at {H} {t} S n k ℓ h q c rest l vs tr = rw (ne-eqb k (finishOf (harden t) n) (omega arith), q)

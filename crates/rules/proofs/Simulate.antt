@@ -17,10 +17,10 @@ use Rattle.rules.specs.Value.{base, value}
 use Rattle.rules.specs.Line.{lineAt}
 use Rattle.rules.specs.Harden.{lineCount, lineOf, testOf, endLine, rowLines, harden}
 use Rattle.rules.specs.Function.{finishOf}
-use Rattle.rules.specs.State.{Frame}
+use Rattle.rules.specs.State.{Frame, State}
 use Rattle.rules.specs.Run.{on}
 use Rattle.rules.specs.Source.{Source, sourceStep, sourceStart}
-use Rattle.rules.specs.Hardened.{Counters, Hardened, clear, hardenedStep, hardenedStart}
+use Rattle.rules.specs.Form.{Form, stepOf, startBy}
 use Rattle.rules.specs.Match.{isQuiet, quietAt}
 use Rattle.rules.proofs.Logic.{clash}
 use Rattle.rules.proofs.Accepted.{Proper}
@@ -28,7 +28,7 @@ use Rattle.rules.proofs.Value.{Silent, a-function, fresh-value}
 use Rattle.rules.proofs.Harden.{line-at}
 use Rattle.rules.proofs.Function.{InFunction, entry, formed-here, placed-in, not-silent, not-unknown, function-zero, row-zero, some-function}
 use Rattle.rules.proofs.Place.{before-finish}
-use Rattle.rules.proofs.Counters.{counters, put-body}
+use Rattle.rules.proofs.Settled.{Settles, bodyPart}
 use Rattle.rules.proofs.Relation.{Back, lineBacks, src, hard, here, Linked, Mode, ready, ticking, backing, due, Related, Both, owing, extra}
 use Rattle.rules.proofs.StepTest.{step-do, step-if, step-loop}
 use Rattle.rules.proofs.StepLeave.{step-else, step-end}
@@ -36,23 +36,23 @@ use Rattle.rules.proofs.StepOut.{step-break, step-continue}
 use Rattle.rules.proofs.StepCall.{step-call, step-return, step-tick, step-back}
 
 -- ---- every row
-step-ready : (t : Table) (ok : Proper t) (n i : ℕ) (f : Open) (fs : List Open) → InFunction t n i f fs → (rest : List Back) → Linked t n rest → (l : Counters) (vs tr : List ℕ)
-    → (k : Kind) → kindAt t i ≡ k → Both t (length rest + extra k) (sourceStep t (src n i rest vs tr)) (hardenedStep (harden t) (here t n i f fs rest l vs tr))
+step-ready : (t : Table) (ok : Proper t) {H : Type 0} {F : Form H} (S : Settles t F) (n i : ℕ) (f : Open) (fs : List Open) → InFunction t n i f fs → (rest : List Back) → Linked t n rest → (l : H) (vs tr : List ℕ)
+    → (k : Kind) → kindAt t i ≡ k → Both S (length rest + extra k) (sourceStep t (src n i rest vs tr)) (stepOf F (harden t) (here S n i f fs rest l vs tr))
 unfolding misplacedIn
-step-ready t ok n i f fs m rest lk l vs tr Function e = absurd (not-silent t ok i (m .within) (m .open-is) (subst Silent (sym e) a-function))
-step-ready t ok n i f fs m rest lk l vs tr Do e = step-do t ok n i f fs m rest lk l vs tr e
-step-ready t ok n i f fs m rest lk l vs tr If e = owing (omega arith) (step-if t ok n i f fs m rest lk l vs tr e)
-step-ready t ok n i f [] m rest lk l vs tr Else e =
+step-ready t ok S n i f fs m rest lk l vs tr Function e = absurd (not-silent t ok i (m .within) (m .open-is) (subst Silent (sym e) a-function))
+step-ready t ok S n i f fs m rest lk l vs tr Do e = step-do t ok S n i f fs m rest lk l vs tr e
+step-ready t ok S n i f fs m rest lk l vs tr If e = owing (omega arith) (step-if t ok S n i f fs m rest lk l vs tr e)
+step-ready t ok S n i f [] m rest lk l vs tr Else e =
     clash (ap (λ p. not (isThen p)) ((formed-here t ok m) .0)) (placed-in t ok i (m .within) e (m .open-is))
-step-ready t ok n i f (h ∷ hs) m rest lk l vs tr Else e = owing (omega arith) (step-else t ok n i f h hs m rest lk l vs tr e)
-step-ready t ok n i f fs m rest lk l vs tr Loop e = owing (omega arith) (step-loop t ok n i f fs m rest lk l vs tr e)
-step-ready t ok n i f [] m rest lk l vs tr End e = owing (omega arith) (step-return t ok n i f m l vs tr e ((formed-here t ok m) .0) rest lk)
-step-ready t ok n i f (h ∷ hs) m rest lk l vs tr End e =
-    owing (omega arith) (step-end t ok n i f h hs m rest lk l vs tr (f .part) refl ((formed-here t ok m) .0) e)
-step-ready t ok n i f fs m rest lk l vs tr Break e = owing (omega arith) (step-break t ok n i f fs m rest lk l vs tr e)
-step-ready t ok n i f fs m rest lk l vs tr Continue e = owing (omega arith) (step-continue t ok n i f fs m rest lk l vs tr e)
-step-ready t ok n i f fs m rest lk l vs tr Call e = step-call t ok n i f fs m rest lk l vs tr e
-step-ready t ok n i f fs m rest lk l vs tr Unknown e = absurd (not-unknown t ok i (m .within) e)
+step-ready t ok S n i f (h ∷ hs) m rest lk l vs tr Else e = owing (omega arith) (step-else t ok S n i f h hs m rest lk l vs tr e)
+step-ready t ok S n i f fs m rest lk l vs tr Loop e = owing (omega arith) (step-loop t ok S n i f fs m rest lk l vs tr e)
+step-ready t ok S n i f [] m rest lk l vs tr End e = owing (omega arith) (step-return t ok S n i f m l vs tr e ((formed-here t ok m) .0) rest lk)
+step-ready t ok S n i f (h ∷ hs) m rest lk l vs tr End e =
+    owing (omega arith) (step-end t ok S n i f h hs m rest lk l vs tr (f .part) refl ((formed-here t ok m) .0) e)
+step-ready t ok S n i f fs m rest lk l vs tr Break e = owing (omega arith) (step-break t ok S n i f fs m rest lk l vs tr e)
+step-ready t ok S n i f fs m rest lk l vs tr Continue e = owing (omega arith) (step-continue t ok S n i f fs m rest lk l vs tr e)
+step-ready t ok S n i f fs m rest lk l vs tr Call e = step-call t ok S n i f fs m rest lk l vs tr e
+step-ready t ok S n i f fs m rest lk l vs tr Unknown e = absurd (not-unknown t ok i (m .within) e)
 
 -- ---- which steps are ticks and backs
 test-loud : (t : Table) (i : ℕ) (fs : List Open) (b : Bool) → isQuiet (testOf t i fs b) ≡ false
@@ -91,10 +91,10 @@ some-line Continue s = omega arith
 some-line Call s = omega arith
 some-line Unknown s = absurd (s Rattle.rules.proofs.Value.no-kind)
 
-quiet-at : (t : Table) → Proper t → {n i : ℕ} {f : Open} {fs : List Open} → InFunction t n i f fs → (k ph : ℕ) → k ≡ lineOf t i + ph → ph < lineCount (kindAt t i)
-    → (c : Counters) (rest : List (Frame Counters)) (l : Counters) (vs tr : List ℕ) → quietAt (harden t) (hard n k c rest l vs tr) ≡ isQuiet (lineAt (rowLines t i (f ∷ fs) (kindAt t i)) ph)
+quiet-at : (t : Table) → Proper t → {H : Type 0} {F : Form H} (S : Settles t F) → {n i : ℕ} {f : Open} {fs : List Open} → InFunction t n i f fs → (k ph : ℕ) → k ≡ lineOf t i + ph → ph < lineCount (kindAt t i)
+    → (c : H) (rest : List (Frame H)) (l : H) (vs tr : List ℕ) → quietAt (harden t) (hard n k c rest l vs tr) ≡ isQuiet (lineAt (rowLines t i (f ∷ fs) (kindAt t i)) ph)
 unfolding quietAt
-quiet-at t ok {n} {i} {f} {fs} m k ph e h c rest l vs tr =
+quiet-at t ok S {n} {i} {f} {fs} m k ph e h c rest l vs tr =
     rw (ne-eqb k (finishOf (harden t) n) (λ x. bad x))
     (ap (λ x. isQuiet (lineAt (harden t) x)) e ∙ ap isQuiet (line-at t i ph (m .within) h ∙ ap (λ s. lineAt (rowLines t i s (kindAt t i)) ph) (m .open-is)))
   where
@@ -105,33 +105,33 @@ quiet-at t ok {n} {i} {f} {fs} m k ph e h c rest l vs tr =
 abbrev pub extraAt : Table → Source → ℕ
 extraAt t s = extra (kindAt t (s .running .at))
 
-pub data Next (t : Table) (d : ℕ) (s : Source) (h : Hardened) : Type 0 where
-  moves : quietAt (harden t) h ≡ false → Both t (d + extraAt t s) (sourceStep t s) (hardenedStep (harden t) h) → Next t d s h
-  waits : quietAt (harden t) h ≡ true → (h′ : Hardened) (d′ : ℕ) → hardenedStep (harden t) h ≡ on h′ → Related t d′ s h′ → d ≡ suc d′ → Next t d s h
+pub data Next {H : Type 0} {t : Table} {F : Form H} (S : Settles t F) (d : ℕ) (s : Source) (h : State H) : Type 0 where
+  moves : quietAt (harden t) h ≡ false → Both S (d + extraAt t s) (sourceStep t s) (stepOf F (harden t) h) → Next S d s h
+  waits : quietAt (harden t) h ≡ true → (h′ : State H) (d′ : ℕ) → stepOf F (harden t) h ≡ on h′ → Related S d′ s h′ → d ≡ suc d′ → Next S d s h
 
-next-by : (t : Table) → Proper t → (n i j k w : ℕ) (l : Counters) (rest : List Back) (vs tr : List ℕ) (f : Open) (fs : List Open) → InFunction t n i f fs → Linked t n rest
-    → (x : Mode t i j k w (l 0) (value t (f .region) i))
-    → Next t (length rest + due x) (src n j rest vs tr) (hard n k (counters t (bodyRegion (f ∷ fs)) (f ∷ fs) w) (lineBacks t rest) l vs tr)
+next-by : (t : Table) → Proper t → {H : Type 0} {F : Form H} (S : Settles t F) → (n i j k w : ℕ) (l : H) (rest : List Back) (vs tr : List ℕ) (f : Open) (fs : List Open) → InFunction t n i f fs → Linked t n rest
+    → (x : Mode S i j k w (S .seen l) (value t (f .region) i))
+    → Next S (length rest + due x) (src n j rest vs tr) (hard n k (S .at k (f ∷ fs) w) (lineBacks S rest) l vs tr)
 unfolding rowLines
-next-by t ok n i j k w l rest vs tr f fs m lk (ready ej ea ew) =
+next-by t ok S n i j k w l rest vs tr f fs m lk (ready ej ea ew) =
     rw (ej, ea, ew, add-zero (length rest))
-    (moves (quiet-at t ok m (lineOf t i) 0 (omega arith) (some-line (kindAt t i) (not-silent t ok i (m .within) (m .open-is))) _ _ l vs tr ∙ first-loud t i f fs (kindAt t i))
-    (step-ready t ok n i f fs m rest lk l vs tr (kindAt t i) refl))
-next-by t ok n i j k w l rest vs tr f fs m lk (ticking e ej ea ew) =
-    let x = step-tick t ok n i f fs m rest lk l vs tr e in
-    rw (ej, ea, ew) (waits (quiet-at t ok m (suc (lineOf t i)) 1 (omega arith) (rw e (omega arith)) _ _ l vs tr ∙ rw e) (x .0) (length rest) (x .1) (x .2) (omega arith))
-next-by t ok n i j k w l rest vs tr f fs m lk (backing e ej ea ew el) =
-    let x = step-back t ok n i f fs m rest lk l vs tr e el in
-    rw (ej, ea, ew) (waits (quiet-at t ok m (suc (lineOf t i)) 1 (omega arith) (rw e (omega arith)) _ _ l vs tr ∙ rw e) (x .0) (length rest) (x .1) (x .2) (omega arith))
+    (moves (quiet-at t ok S m (lineOf t i) 0 (omega arith) (some-line (kindAt t i) (not-silent t ok i (m .within) (m .open-is))) _ _ l vs tr ∙ first-loud t i f fs (kindAt t i))
+    (step-ready t ok S n i f fs m rest lk l vs tr (kindAt t i) refl))
+next-by t ok S n i j k w l rest vs tr f fs m lk (ticking e ej ea ew) =
+    let x = step-tick t ok S n i f fs m rest lk l vs tr e in
+    rw (ej, ea, ew) (waits (quiet-at t ok S m (suc (lineOf t i)) 1 (omega arith) (rw e (omega arith)) _ _ l vs tr ∙ rw e) (x .0) (length rest) (x .1) (x .2) (omega arith))
+next-by t ok S n i j k w l rest vs tr f fs m lk (backing e ej ea ew el) =
+    let x = step-back t ok S n i f fs m rest lk l vs tr e el in
+    rw (ej, ea, ew) (waits (quiet-at t ok S m (suc (lineOf t i)) 1 (omega arith) (rw e (omega arith)) _ _ l vs tr ∙ rw e) (x .0) (length rest) (x .1) (x .2) (omega arith))
 
-pub next : (t : Table) → Proper t → (d : ℕ) (s : Source) (h : Hardened) → Related t d s h → Next t d s h
-next t ok d s h r = rw (r .owes, r .s-is, r .h-is)
-    (next-by t ok (r .n) (r .i) (r .j) (r .k) (r .w) (r .l) (r .rest) (r .vs) (r .tr) (r .f) (r .fs) (r .in-function) (r .linked) (r .mode))
+pub next : (t : Table) → Proper t → {H : Type 0} {F : Form H} (S : Settles t F) → (d : ℕ) (s : Source) (h : State H) → Related S d s h → Next S d s h
+next t ok S d s h r = rw (r .owes, r .s-is, r .h-is)
+    (next-by t ok S (r .n) (r .i) (r .j) (r .k) (r .w) (r .l) (r .rest) (r .vs) (r .tr) (r .f) (r .fs) (r .in-function) (r .linked) (r .mode))
 
 -- ---- the start
-pub start : (t : Table) → Proper t → (vs : List ℕ) → Related t 0 (sourceStart vs) (hardenedStart vs)
+pub start : (t : Table) → Proper t → {H : Type 0} {F : Form H} (S : Settles t F) → (vs : List ℕ) → Related S 0 (sourceStart vs) (startBy F vs)
 unfolding regions lineOf base
-start t ok vs =
+start t ok {F = F} S vs =
     let o = function-zero t ok in
     record {
       n = 0;
@@ -139,14 +139,14 @@ start t ok vs =
       j = 1;
       k = 0;
       w = 1;
-      l = clear;
+      l = F .nothing;
       rest = [];
       vs = vs;
       tr = [];
-      f = record { part = body; opener = functionRow t 0; region = regions t (functionRow t 0) };
+      f = bodyPart t 0;
       fs = [];
       s-is = refl;
-      h-is = ap (λ x. hard 0 0 x [] clear vs []) (put-body t (record { part = body; opener = functionRow t 0; region = regions t (functionRow t 0) }) 1);
+      h-is = ap (λ x. hard 0 0 x [] (F .nothing) vs []) (S .first-is);
       in-function = entry t ok 0 (some-function t ok);
       linked = refl;
       mode = ready (ap suc (sym o)) (sym (ap (λ x. lineOf t (suc x)) o ∙ ap (λ k. 0 + lineCount k) (row-zero t ok))) (sym (fresh-value t (functionRow t 0) ∙ ap (λ x. base t (regions t x)) o));

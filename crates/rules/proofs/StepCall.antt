@@ -20,25 +20,25 @@ use Rattle.rules.specs.Value.{base, value, valueIn}
 use Rattle.rules.specs.Line.{Line, tickLine, callLine, backLine, retLine}
 use Rattle.rules.specs.Harden.{lineOf, ownRegion, endLine, callOf, backOf, endValue, rowLines, harden}
 use Rattle.rules.specs.Function.{functionAt, retValue}
-use Rattle.rules.specs.State.{Frame, frame}
+use Rattle.rules.specs.State.{Frame, State, frame}
 use Rattle.rules.specs.Run.{on, ends}
 use Rattle.rules.specs.Source.{returnRow, endRow, rowStep, sourceStep}
-use Rattle.rules.specs.Hardened.{Counters, Hardened, clear, put, must, leaves, lineStep, hardenedStep}
+use Rattle.rules.specs.Form.{Form, must, leavesOf, lineStepOf, stepOf}
 use Rattle.rules.proofs.Accepted.{Proper}
 use Rattle.rules.proofs.Scan.{open-next}
 use Rattle.rules.proofs.Value.{value-next, fresh-value}
 use Rattle.rules.proofs.Harden.{line-suc}
 use Rattle.rules.proofs.Function.{InFunction, move-to, entry, body-is, end-same, callee-known}
 use Rattle.rules.proofs.Place.{callee, ret-value}
-use Rattle.rules.proofs.Counters.{counters, counterOf, counter-top, put-top, put-body}
-use Rattle.rules.proofs.Relation.{Back, waiting, sourceBacks, lineBacks, backs-length, src, hard, here, Linked, ready, backing, Related, Both, both-on, both-end, owing, source-step, line-step, body-below, checked, ready-at}
+use Rattle.rules.proofs.Settled.{Settles, bodyPart}
+use Rattle.rules.proofs.Relation.{Back, waiting, sourceBacks, lineBacks, backs-length, src, hard, here, Linked, ready, backing, Related, Both, both-on, both-end, owing, source-step, line-step, body-below, ready-at}
 
 -- ---- call
-call-line : (ls : List Line) (n k : ℕ) (c : Counters) (rest : List (Frame Counters)) (l : Counters) (vs tr : List ℕ) (r e a b go : ℕ) → eqb (c r) e ≡ true
-    → (y : Bool) → ltb (suc (length rest)) maxOpen ≡ y → lineStep ls k (callLine r e a b go) (hard n k c rest l vs tr)
-    ≡ cond y (on (hard (functionAt ls go) go (put 0 b clear) (frame n (suc k) (put r a c) ∷ rest) l vs tr)) (ends (TooManyOpen maxOpen) (hard n k c rest l vs tr))
-unfolding lineStep
-call-line ls n k c rest l vs tr r e a b go h y z = rw (h, z)
+call-line : {H : Type 0} (F : Form H) (ls : List Line) (n k : ℕ) (c : H) (rest : List (Frame H)) (l : H) (vs tr : List ℕ) (r e a b go : ℕ) → F .guard k (callLine r e a b go) .passes c l ≡ true
+    → (y : Bool) → ltb (suc (length rest)) maxOpen ≡ y → lineStepOf F ls k (callLine r e a b go) (hard n k c rest l vs tr)
+    ≡ cond y (on (hard (functionAt ls go) go (F .guard k (callLine r e a b go) .opens) (frame n (suc k) (F .guard k (callLine r e a b go) .moves true c) ∷ rest) l vs tr)) (ends (TooManyOpen maxOpen) (hard n k c rest l vs tr))
+unfolding lineStepOf
+call-line F ls n k c rest l vs tr r e a b go h y z = rw (h, z)
 
 not-finished : TooManyOpen maxOpen ≡ Finished → {d : ℕ} → d ≡ 0
 not-finished e {d} = absurd (let z : _≡_ {A = ℕ} 0 1 = ap number e in omega arith)
@@ -50,26 +50,29 @@ not-finished e {d} = absurd (let z : _≡_ {A = ℕ} 0 1 = ap number e in omega 
     number (TooManyOpen k) = 0
     number (Beyond k) = 0
 
-module _ (t : Table) (ok : Proper t) (n i : ℕ) (f : Open) (fs : List Open) (m : InFunction t n i f fs) (rest : List Back) (lk : Linked t n rest) (l : Counters) (vs tr : List ℕ) (e : kindAt t i ≡ Call) where
+module _ (t : Table) (ok : Proper t) {H : Type 0} {F : Form H} (S : Settles t F) (n i : ℕ) (f : Open) (fs : List Open) (m : InFunction t n i f fs) (rest : List Back) (lk : Linked t n rest) (l : H) (vs tr : List ℕ) (e : kindAt t i ≡ Call) where
   abbrev called : ℕ
   called = operandsAt t i .n
-
-  abbrev entryPart : Open
-  entryPart = record { part = body; opener = functionRow t called; region = regions t (functionRow t called) }
 
   known : called < functionCount t
   known = callee-known t ok i (m .within) e
 
+  abbrev calling : Line
+  calling = callOf t i (f ∷ fs) called
+
   -- the caller waits
-  abbrev left : Counters
-  left = put (f .region - bodyRegion (f ∷ fs)) (value t (f .region) i + 1) (counters t (bodyRegion (f ∷ fs)) (f ∷ fs) (value t (f .region) i))
+  abbrev left : H
+  left = F .guard (lineOf t i) calling .moves true (S .at (lineOf t i) (f ∷ fs) (value t (f .region) i))
 
-  waits : left ≡ waiting t i
-  waits = put-top t _ f fs _ _ (body-below t m) ∙ ap (λ s. counters t (bodyRegion s) s (valueIn t i s + 1)) (sym (m .open-is))
+  abbrev entered : H
+  entered = F .guard (lineOf t i) calling .opens
 
-  opened : Related t (suc (length rest)) (src called (suc (functionRow t called)) (record { function = n; row = i } ∷ rest) vs tr)
-      (hard (functionAt (harden t) (lineOf t (suc (functionRow t called)))) (lineOf t (suc (functionRow t called))) (put 0 (base t (regions t (functionRow t called))) clear)
-      (frame n (suc (lineOf t i)) left ∷ lineBacks t rest) l vs tr)
+  waits : left ≡ waiting S i
+  waits = S .call-moves _ f fs _ _ _ _ (body-below t m) ∙ ap (λ s. S .at (suc (lineOf t i)) s (valueIn t i s + 1)) (sym (m .open-is))
+
+  opened : Related S (suc (length rest)) (src called (suc (functionRow t called)) (record { function = n; row = i } ∷ rest) vs tr)
+      (hard (functionAt (harden t) (lineOf t (suc (functionRow t called)))) (lineOf t (suc (functionRow t called))) entered
+      (frame n (suc (lineOf t i)) left ∷ lineBacks S rest) l vs tr)
   unfolding known
   opened =
       record {
@@ -82,19 +85,19 @@ module _ (t : Table) (ok : Proper t) (n i : ℕ) (f : Open) (fs : List Open) (m 
         rest = record { function = n; row = i } ∷ rest;
         vs = vs;
         tr = tr;
-        f = entryPart;
+        f = bodyPart t called;
         fs = [];
         s-is = refl;
-        h-is = ap (λ x. hard x (lineOf t (suc (functionRow t called))) (put 0 (base t (regions t (functionRow t called))) clear) (frame n (suc (lineOf t i)) left ∷ lineBacks t rest) l vs tr) (callee t ok called known)
-            ∙ ap (λ x. hard called (lineOf t (suc (functionRow t called))) (put 0 (base t (regions t (functionRow t called))) clear) (frame n (suc (lineOf t i)) x ∷ lineBacks t rest) l vs tr) waits
-            ∙ ap (λ x. hard called (lineOf t (suc (functionRow t called))) x (lineBacks t (record { function = n; row = i } ∷ rest)) l vs tr) (put-body t entryPart (base t (regions t (functionRow t called))));
+        h-is = ap (λ x. hard x (lineOf t (suc (functionRow t called))) entered (frame n (suc (lineOf t i)) left ∷ lineBacks S rest) l vs tr) (callee t ok called known)
+            ∙ ap (λ x. hard called (lineOf t (suc (functionRow t called))) entered (frame n (suc (lineOf t i)) x ∷ lineBacks S rest) l vs tr) waits
+            ∙ ap (λ x. hard called (lineOf t (suc (functionRow t called))) x (lineBacks S (record { function = n; row = i } ∷ rest)) l vs tr) (S .call-opens _ called _ _ _);
         in-function = entry t ok called known;
         linked = (record { calls = e; callee = refl; top = f; others = fs; in-function = m }, lk);
         mode = ready refl refl (sym (fresh-value t (functionRow t called)));
         owes = omega arith;
       }
 
-  pub step-call : Both t (length rest + 1) (sourceStep t (src n i rest vs tr)) (hardenedStep (harden t) (here t n i f fs rest l vs tr))
+  pub step-call : Both S (length rest + 1) (sourceStep t (src n i rest vs tr)) (stepOf F (harden t) (here S n i f fs rest l vs tr))
   unfolding rowStep rowLines
   step-call = by (ltb (suc (length (sourceBacks rest))) maxOpen) refl
     where
@@ -103,56 +106,43 @@ module _ (t : Table) (ok : Proper t) (n i : ℕ) (f : Open) (fs : List Open) (m 
       row-is y ey = source-step t n i rest vs tr e (m .open-is)
           ∙ ap (λ y. cond y (on (src called (suc (functionRow t called)) (record { function = n; row = i } ∷ rest) vs tr)) (ends (TooManyOpen maxOpen) (src n i rest vs tr))) ey
 
-      line-is : hardenedStep (harden t) (here t n i f fs rest l vs tr) ≡ lineStep (harden t) (lineOf t i) (callOf t i (f ∷ fs) called) (here t n i f fs rest l vs tr)
-      line-is = line-step t ok m (lineOf t i) 0 _ (omega arith) (rw e (omega arith)) (rw e) _ _ l vs tr
+      line-is : stepOf F (harden t) (here S n i f fs rest l vs tr) ≡ lineStepOf F (harden t) (lineOf t i) (callOf t i (f ∷ fs) called) (here S n i f fs rest l vs tr)
+      line-is = line-step t ok S m (lineOf t i) 0 _ (omega arith) (rw e (omega arith)) (rw e) _ _ l vs tr
 
-      room : (y : Bool) → ltb (suc (length (sourceBacks rest))) maxOpen ≡ y → ltb (suc (length (lineBacks t rest))) maxOpen ≡ y
-      room y ey = ap (λ x. ltb (suc x) maxOpen) (backs-length t rest) ∙ ey
+      room : (y : Bool) → ltb (suc (length (sourceBacks rest))) maxOpen ≡ y → ltb (suc (length (lineBacks S rest))) maxOpen ≡ y
+      room y ey = ap (λ x. ltb (suc x) maxOpen) (backs-length S rest) ∙ ey
 
-      by : (y : Bool) → ltb (suc (length (sourceBacks rest))) maxOpen ≡ y → Both t (length rest + 1) (sourceStep t (src n i rest vs tr)) (hardenedStep (harden t) (here t n i f fs rest l vs tr))
+      by : (y : Bool) → ltb (suc (length (sourceBacks rest))) maxOpen ≡ y → Both S (length rest + 1) (sourceStep t (src n i rest vs tr)) (stepOf F (harden t) (here S n i f fs rest l vs tr))
       by true ey = owing (omega arith) (both-on _ _ (row-is true ey)
-          (line-is ∙ call-line (harden t) n _ _ (lineBacks t rest) l vs tr _ _ _ _ _ (checked t _ f fs _ (body-below t m)) true (room true ey)) opened)
+          (line-is ∙ call-line F (harden t) n _ _ (lineBacks S rest) l vs tr _ _ _ _ _ (S .call-passes _ f fs _ _ _ _ _ (body-below t m)) true (room true ey)) opened)
       by false ey = both-end (TooManyOpen maxOpen) _ _ (row-is false ey)
-          (line-is ∙ call-line (harden t) n _ _ (lineBacks t rest) l vs tr _ _ _ _ _ (checked t _ f fs _ (body-below t m)) false (room false ey))
-          (record { n = n; i = i; k = lineOf t i; l = l; rest = rest; c = counters t (bodyRegion (f ∷ fs)) (f ∷ fs) (value t (f .region) i); vs = vs; tr = tr; s-is = refl; h-is = refl })
+          (line-is ∙ call-line F (harden t) n _ _ (lineBacks S rest) l vs tr _ _ _ _ _ (S .call-passes _ f fs _ _ _ _ _ (body-below t m)) false (room false ey))
+          (record { n = n; i = i; k = lineOf t i; l = l; rest = rest; c = S .at (lineOf t i) (f ∷ fs) (value t (f .region) i); vs = vs; tr = tr; s-is = refl; h-is = refl })
           (inr refl) (λ x. not-finished x)
 
 -- ---- a function's end
-ret-line : (ls : List Line) (n k : ℕ) (c : Counters) (rest : List (Frame Counters)) (l : Counters) (vs tr : List ℕ) (e a : ℕ) → eqb (c 0) e ≡ true
-    → lineStep ls k (retLine e a) (hard n k c rest l vs tr) ≡ leaves ls (hard n k (put 0 a c) rest l vs tr) rest
-unfolding lineStep
-ret-line ls n k c rest l vs tr e a h = rw h
+ret-line : {H : Type 0} (F : Form H) (ls : List Line) (n k : ℕ) (c : H) (rest : List (Frame H)) (l : H) (vs tr : List ℕ) (e a : ℕ) → F .guard k (retLine e a) .passes c l ≡ true
+    → lineStepOf F ls k (retLine e a) (hard n k c rest l vs tr) ≡ leavesOf F (hard n k (F .guard k (retLine e a) .moves true c) rest l vs tr) rest
+unfolding lineStepOf
+ret-line F ls n k c rest l vs tr e a h = rw h
 
-pub end-value : (t : Table) → Proper t → {n i : ℕ} {f : Open} → InFunction t n i f [] → kindAt t i ≡ End → value t (f .region) i + 1 ≡ endValue t n
-unfolding endValue
-end-value t ok {n} {i} {f} m e = ap (λ x. value t x i + 1) (body-is t ok m) ∙ ap (λ x. value t (regions t (functionRow t n)) x + 1) (end-same t ok m e)
+module _ (t : Table) (ok : Proper t) {H : Type 0} {F : Form H} (S : Settles t F) (n i : ℕ) (f : Open) (m : InFunction t n i f []) (l : H) (vs tr : List ℕ) (e : kindAt t i ≡ End) (w : f .part ≡ body) where
+  abbrev ended : H
+  ended = F .guard (lineOf t i) (retLine (value t (f .region) i) (value t (f .region) i + 1)) .moves true (S .at (lineOf t i) (f ∷ []) (value t (f .region) i))
 
-module _ (t : Table) (ok : Proper t) (n i : ℕ) (f : Open) (m : InFunction t n i f []) (l : Counters) (vs tr : List ℕ) (e : kindAt t i ≡ End) (w : f .part ≡ body) where
-  abbrev atEnd : Counters
-  atEnd = counters t (f .region) (f ∷ []) (value t (f .region) i)
-
-  abbrev ended : Counters
-  ended = put 0 (value t (f .region) i + 1) atEnd
-
-  holds-zero : eqb (atEnd 0) (value t (f .region) i) ≡ true
-  holds-zero = eq-eqb _ _ (ap (counterOf t (f ∷ []) (value t (f .region) i)) (add-zero (f .region)) ∙ counter-top t f [] _)
-
-  ends-at : ended 0 ≡ endValue t n
-  ends-at = end-value t ok m e
-
-  line-is : (rest : List Back) → hardenedStep (harden t) (here t n i f [] rest l vs tr) ≡ leaves (harden t) (hard n (lineOf t i) ended (lineBacks t rest) l vs tr) (lineBacks t rest)
+  line-is : (rest : List Back) → stepOf F (harden t) (here S n i f [] rest l vs tr) ≡ leavesOf F (hard n (lineOf t i) ended (lineBacks S rest) l vs tr) (lineBacks S rest)
   unfolding rowLines
-  line-is rest = line-step t ok m (lineOf t i) 0 (endLine t i (f ∷ []) body) (omega arith) (rw e (omega arith)) (rw (e, w)) _ _ l vs tr
-      ∙ ret-line (harden t) n _ _ (lineBacks t rest) l vs tr _ _ holds-zero
+  line-is rest = line-step t ok S m (lineOf t i) 0 (endLine t i (f ∷ []) body) (omega arith) (rw e (omega arith)) (rw (e, w)) _ _ l vs tr
+      ∙ ret-line F (harden t) n _ _ (lineBacks S rest) l vs tr _ _ (S .ret-passes _ f _ _ _)
 
   row-is : (rest : List Back) → sourceStep t (src n i rest vs tr) ≡ returnRow (src n i rest vs tr) (sourceBacks rest)
   unfolding rowStep
   row-is rest = source-step t n i rest vs tr e (m .open-is) ∙ ap (λ y. endRow i (f ∷ []) y (src n i rest vs tr)) w
 
-  pub step-return : (rest : List Back) → Linked t n rest → Both t (length rest) (sourceStep t (src n i rest vs tr)) (hardenedStep (harden t) (here t n i f [] rest l vs tr))
+  pub step-return : (rest : List Back) → Linked t n rest → Both S (length rest) (sourceStep t (src n i rest vs tr)) (stepOf F (harden t) (here S n i f [] rest l vs tr))
   step-return [] lk = both-end Finished _ _ (row-is [])
       (line-is [] ∙ ap (λ y. must y (hard n (lineOf t i) ended [] l vs tr) (ends Finished (hard n (lineOf t i) ended [] l vs tr)))
-      (eq-eqb (ended 0) (retValue (harden t) 0) (ends-at ∙ ap (endValue t) lk ∙ sym (ret-value t ok 0 (zero-known lk)))))
+      (S .host-agrees (zero-known lk) ended (S .ret-ends m e ∙ ap (S .end) lk)))
       (record { n = n; i = i; k = lineOf t i; l = l; rest = []; c = ended; vs = vs; tr = tr; s-is = refl; h-is = refl }) (inl refl) (λ x. refl)
     where
       zero-known : n ≡ 0 → 0 < functionCount t
@@ -171,45 +161,45 @@ module _ (t : Table) (ok : Proper t) (n i : ℕ) (f : Open) (m : InFunction t n 
         f = lk .0 .top;
         fs = lk .0 .others;
         s-is = refl;
-        h-is = ap (λ s. hard (b .function) (suc (lineOf t (b .row))) (counters t (bodyRegion s) s (valueIn t (b .row) s + 1)) (lineBacks t bs) ended vs tr) (lk .0 .in-function .open-is);
+        h-is = ap (λ s. hard (b .function) (suc (lineOf t (b .row))) (S .at (suc (lineOf t (b .row))) s (valueIn t (b .row) s + 1)) (lineBacks S bs) ended vs tr) (lk .0 .in-function .open-is);
         in-function = lk .0 .in-function;
         linked = lk .1;
-        mode = backing (lk .0 .calls) refl refl refl (ends-at ∙ ap (endValue t) (sym (lk .0 .callee)));
+        mode = backing (lk .0 .calls) refl refl refl (S .ret-ends m e ∙ ap (S .end) (sym (lk .0 .callee)));
         owes = omega arith;
       })
 
 -- ---- ticks and backs
-tick-line : (ls : List Line) (n k : ℕ) (c : Counters) (rest : List (Frame Counters)) (l : Counters) (vs tr : List ℕ) (r e a : ℕ) → eqb (c r) e ≡ true
-    → lineStep ls k (tickLine r e a) (hard n k c rest l vs tr) ≡ on (hard n (suc k) (put r a c) rest l vs tr)
-unfolding lineStep
-tick-line ls n k c rest l vs tr r e a h = rw h
+tick-line : {H : Type 0} (F : Form H) (ls : List Line) (n k : ℕ) (c : H) (rest : List (Frame H)) (l : H) (vs tr : List ℕ) (r e a : ℕ) → F .guard k (tickLine r e a) .passes c l ≡ true
+    → lineStepOf F ls k (tickLine r e a) (hard n k c rest l vs tr) ≡ on (hard n (suc k) (F .guard k (tickLine r e a) .moves true c) rest l vs tr)
+unfolding lineStepOf
+tick-line F ls n k c rest l vs tr r e a h = rw h
 
-back-line : (ls : List Line) (n k : ℕ) (c : Counters) (rest : List (Frame Counters)) (l : Counters) (vs tr : List ℕ) (r e a b : ℕ) → eqb (c r) e ≡ true → eqb (l 0) b ≡ true
-    → lineStep ls k (backLine r e a b) (hard n k c rest l vs tr) ≡ on (hard n (suc k) (put r a c) rest l vs tr)
-unfolding lineStep
-back-line ls n k c rest l vs tr r e a b h q = rw (h, q)
+back-line : {H : Type 0} (F : Form H) (ls : List Line) (n k : ℕ) (c : H) (rest : List (Frame H)) (l : H) (vs tr : List ℕ) (r e a b : ℕ) → F .guard k (backLine r e a b) .passes c l ≡ true
+    → lineStepOf F ls k (backLine r e a b) (hard n k c rest l vs tr) ≡ on (hard n (suc k) (F .guard k (backLine r e a b) .moves true c) rest l vs tr)
+unfolding lineStepOf
+back-line F ls n k c rest l vs tr r e a b h = rw h
 
-module _ (t : Table) (ok : Proper t) (n i : ℕ) (f : Open) (fs : List Open) (m : InFunction t n i f fs) (rest : List Back) (lk : Linked t n rest) (l : Counters) (vs tr : List ℕ) where
+module _ (t : Table) (ok : Proper t) {H : Type 0} {F : Form H} (S : Settles t F) (n i : ℕ) (f : Open) (fs : List Open) (m : InFunction t n i f fs) (rest : List Back) (lk : Linked t n rest) (l : H) (vs tr : List ℕ) where
   pub step-tick : kindAt t i ≡ Do
-      → (h : Hardened) × (hardenedStep (harden t) (hard n (suc (lineOf t i)) (counters t (bodyRegion (f ∷ fs)) (f ∷ fs) (value t (f .region) i)) (lineBacks t rest) l vs tr) ≡ on h)
-      × Related t (length rest) (src n (suc i) rest vs tr) h
+      → (h : State H) × (stepOf F (harden t) (hard n (suc (lineOf t i)) (S .at (suc (lineOf t i)) (f ∷ fs) (value t (f .region) i)) (lineBacks S rest) l vs tr) ≡ on h)
+      × Related S (length rest) (src n (suc i) rest vs tr) h
   unfolding rowLines
   step-tick e = (
     _,
-    line-step t ok m (suc (lineOf t i)) 1 (tickLine (ownRegion (f ∷ fs)) (value t (f .region) i) (value t (f .region) i + 1)) (omega arith) (rw e (omega arith)) (rw e) _ _ l vs tr
-        ∙ tick-line (harden t) n _ _ _ l vs tr _ _ _ (checked t _ f fs _ (body-below t m)),
-    ready-at t (move-to t ok m (suc i) (m .within) (open-next t i e (m .open-is)) refl) rest lk (omega (arith, line-suc t i e)) (sym (value-next t i e (m .open-is))) l vs tr _
-        (put-top t _ f fs _ _ (body-below t m)),
+    line-step t ok S m (suc (lineOf t i)) 1 (tickLine (ownRegion (f ∷ fs)) (value t (f .region) i) (value t (f .region) i + 1)) (omega arith) (rw e (omega arith)) (rw e) _ _ l vs tr
+        ∙ tick-line F (harden t) n _ _ _ l vs tr _ _ _ (S .tick-passes _ f fs _ _ _ (body-below t m)),
+    ready-at S (move-to t ok m (suc i) (m .within) (open-next t i e (m .open-is)) refl) rest lk (omega (arith, line-suc t i e)) (sym (value-next t i e (m .open-is))) l vs tr _
+        (S .tick-moves _ f fs _ _ (body-below t m)),
   )
 
-  pub step-back : kindAt t i ≡ Call → l 0 ≡ endValue t (operandsAt t i .n)
-      → (h : Hardened) × (hardenedStep (harden t) (hard n (suc (lineOf t i)) (counters t (bodyRegion (f ∷ fs)) (f ∷ fs) (value t (f .region) i + 1)) (lineBacks t rest) l vs tr) ≡ on h)
-      × Related t (length rest) (src n (suc i) rest vs tr) h
+  pub step-back : kindAt t i ≡ Call → S .seen l ≡ S .end (operandsAt t i .n)
+      → (h : State H) × (stepOf F (harden t) (hard n (suc (lineOf t i)) (S .at (suc (lineOf t i)) (f ∷ fs) (value t (f .region) i + 1)) (lineBacks S rest) l vs tr) ≡ on h)
+      × Related S (length rest) (src n (suc i) rest vs tr) h
   unfolding rowLines
   step-back e q = (
     _,
-    line-step t ok m (suc (lineOf t i)) 1 (backOf t i (f ∷ fs) (operandsAt t i .n)) (omega arith) (rw e (omega arith)) (rw e) _ _ l vs tr
-        ∙ back-line (harden t) n _ _ _ l vs tr _ _ _ _ (checked t _ f fs _ (body-below t m)) (eq-eqb (l 0) (endValue t (operandsAt t i .n)) q),
-    ready-at t (move-to t ok m (suc i) (m .within) (open-next t i e (m .open-is)) refl) rest lk (omega (arith, line-suc t i e)) (sym (value-next t i e (m .open-is))) l vs tr _
-        (put-top t _ f fs _ _ (body-below t m)),
+    line-step t ok S m (suc (lineOf t i)) 1 (backOf t i (f ∷ fs) (operandsAt t i .n)) (omega arith) (rw e (omega arith)) (rw e) _ _ l vs tr
+        ∙ back-line F (harden t) n _ _ _ l vs tr _ _ _ _ (S .back-passes m e _ _ l (body-below t m) q),
+    ready-at S (move-to t ok m (suc i) (m .within) (open-next t i e (m .open-is)) refl) rest lk (omega (arith, line-suc t i e)) (sym (value-next t i e (m .open-is))) l vs tr _
+        (S .back-moves _ f fs _ _ _ (body-below t m)),
   )

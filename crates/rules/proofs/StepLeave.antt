@@ -17,32 +17,26 @@ use Rattle.rules.specs.Harden.{lineCount, lineOf, endLine, rowLines, har
 use Rattle.rules.specs.State.{Frame}
 use Rattle.rules.specs.Run.{on}
 use Rattle.rules.specs.Source.{endRow, rowStep, sourceStep}
-use Rattle.rules.specs.Hardened.{Counters, put, lineStep, hardenedStep}
+use Rattle.rules.specs.Form.{Form, lineStepOf, stepOf}
 use Rattle.rules.proofs.Logic.{clash}
 use Rattle.rules.proofs.Accepted.{Proper}
 use Rattle.rules.proofs.Scan.{Chain, chain, body-least, origin, open-next}
 use Rattle.rules.proofs.Value.{AllHeld, held, Held, moved-after, moved-value}
 use Rattle.rules.proofs.Close.{end-is, closed-is}
 use Rattle.rules.proofs.Function.{isBody, InFunction, move-to}
-use Rattle.rules.proofs.Counters.{counters, holding, at-region, counter-top, counter-under, put-leave}
+use Rattle.rules.proofs.Settled.{Settles}
+use Rattle.rules.proofs.Parts.{holding}
 use Rattle.rules.proofs.Unique.{part-takes}
-use Rattle.rules.proofs.Relation.{Back, src, hard, here, Linked, Both, both-on, source-step, line-step, body-below, checked, ready-at}
+use Rattle.rules.proofs.Relation.{Back, src, hard, here, Linked, Both, both-on, source-step, line-step, body-below, ready-at}
 
-leave-line : (ls : List Line) (n k : ℕ) (c : Counters) (rest : List (Frame Counters)) (l : Counters) (vs tr : List ℕ) (r s e a b go : ℕ) → eqb (c r) e ≡ true → eqb (put r 0 c s) b ≡ true
-    → lineStep ls k (leaveLine r s e a b go) (hard n k c rest l vs tr) ≡ on (hard n go (put s a (put r 0 c)) rest l vs tr)
-unfolding lineStep
-leave-line ls n k c rest l vs tr r s e a b go h q = rw (h, q)
+leave-line : {H : Type 0} (F : Form H) (ls : List Line) (n k : ℕ) (c : H) (rest : List (Frame H)) (l : H) (vs tr : List ℕ) (r s e a b go : ℕ) → F .guard k (leaveLine r s e a b go) .passes c l ≡ true
+    → lineStepOf F ls k (leaveLine r s e a b go) (hard n k c rest l vs tr) ≡ on (hard n go (F .guard k (leaveLine r s e a b go) .moves true c) rest l vs tr)
+unfolding lineStepOf
+leave-line F ls n k c rest l vs tr r s e a b go h = rw h
 
--- the region around holds what its part's row left
-around-holds : (t : Table) (z : ℕ) (f h : Open) (hs : List Open) (v : ℕ) → z ≤ h .region → h .region < f .region
-    → eqb (put (f .region - z) 0 (counters t z (f ∷ h ∷ hs) v) (h .region - z)) (holding t f (h ∷ hs)) ≡ true
-around-holds t z f h hs v k lt = eq-eqb _ _
-    (ap (λ x. cond x 0 (counters t z (f ∷ h ∷ hs) v (h .region - z))) (ne-eqb (h .region - z) (f .region - z) (omega arith))
-    ∙ at-region t z (f ∷ h ∷ hs) v (h .region) k ∙ counter-under t f (h ∷ hs) v (h .region) (omega arith) ∙ counter-top t h hs _)
-
-module _ (t : Table) (ok : Proper t) (n i : ℕ) (f h : Open) (hs : List Open) (m : InFunction t n i f (h ∷ hs)) (rest : List Back) (lk : Linked t n rest) (l : Counters) (vs tr : List ℕ) where
+module _ (t : Table) (ok : Proper t) {H : Type 0} {F : Form H} (S : Settles t F) (n i : ℕ) (f h : Open) (hs : List Open) (m : InFunction t n i f (h ∷ hs)) (rest : List Back) (lk : Linked t n rest) (l : H) (vs tr : List ℕ) where
   abbrev Step : Type 0
-  Step = Both t (length rest) (sourceStep t (src n i rest vs tr)) (hardenedStep (harden t) (here t n i f (h ∷ hs) rest l vs tr))
+  Step = Both S (length rest) (sourceStep t (src n i rest vs tr)) (stepOf F (harden t) (here S n i f (h ∷ hs) rest l vs tr))
 
   part : Held t i f (h ∷ hs)
   part = (subst (AllHeld t i) (m .open-is) (held t i)) .0
@@ -62,9 +56,9 @@ module _ (t : Table) (ok : Proper t) (n i : ℕ) (f h : Open) (hs : List Open) (
   leave-to k j a e jl q av one ln sr =
       let zh : bodyRegion (h ∷ hs) ≤ h .region = body-least (f .region) h hs lower in
       both-on _ _ (source-step t n i rest vs tr e (m .open-is) ∙ sr)
-      (line-step t ok m (lineOf t i) 0 _ (omega arith) (rw e (omega arith)) (ap (λ x. lineAt (rowLines t i (f ∷ h ∷ hs) x) 0) e ∙ ln) _ _ l vs tr
-      ∙ leave-line (harden t) n _ _ _ l vs tr _ _ _ _ _ _ (checked t _ f (h ∷ hs) _ (body-below t m)) (around-holds t _ f h hs _ zh (lower .0)))
-      (ready-at t (move-to t ok m j jl q refl) rest lk refl av l vs tr _ (put-leave t _ f h hs _ a zh lower))
+      (line-step t ok S m (lineOf t i) 0 _ (omega arith) (rw e (omega arith)) (ap (λ x. lineAt (rowLines t i (f ∷ h ∷ hs) x) 0) e ∙ ln) _ _ l vs tr
+      ∙ leave-line F (harden t) n _ _ _ l vs tr _ _ _ _ _ _ (S .leave-passes _ f h hs _ _ _ _ zh lower))
+      (ready-at S (move-to t ok m j jl q refl) rest lk refl av l vs tr _ (S .leave-moves _ f h hs _ a _ zh lower))
 
   pub step-else : kindAt t i ≡ Else → Step
   unfolding rowStep rowLines part

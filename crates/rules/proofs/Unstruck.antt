@@ -14,10 +14,11 @@ use Rattle.rules.specs.Harden.{harden}
 use Rattle.rules.specs.State.{State, numbersOf, openFunctions}
 use Rattle.rules.specs.Run.{Turn, run, tally, outcomeOf}
 use Rattle.rules.specs.Source.{Source, sourceStep, sourceStart, sourceRun}
-use Rattle.rules.specs.Hardened.{Counters, Hardened, strikingStep, hardenedStart}
-use Rattle.rules.specs.Match.{Shown, shown, quietAt, matching}
-use Rattle.rules.specs.Demands.{Unstruck}
+use Rattle.rules.specs.Form.{Form, strikingStepOf, startBy}
+use Rattle.rules.specs.Match.{Shown, shown, quietAt, matchingOf}
+use Rattle.rules.specs.Demands.{UnstruckOf}
 use Rattle.rules.proofs.Accepted.{Proper}
+use Rattle.rules.proofs.Settled.{Settles}
 use Rattle.rules.proofs.Relation.{Back, sourceBacks, lineBacks, Related, Same, both-on, both-end}
 use Rattle.rules.proofs.Simulate.{Next, moves, waits, next, start}
 
@@ -25,47 +26,47 @@ use Rattle.rules.proofs.Simulate.{Next, moves, waits, next, start}
 abbrev pub sourceMachine : Table → ℕ → Source → Turn (Unit {0})
 sourceMachine t k s = sourceStep t s
 
-abbrev pub lineMachine : Table → ℕ → Hardened → Turn Counters
-lineMachine t = strikingStep (harden t) None
+abbrev pub lineMachine : {H : Type 0} {t : Table} {F : Form H} → Settles t F → ℕ → State H → Turn H
+lineMachine {H} {t} {F} S = strikingStepOf F (harden t) None
 
 -- ---- what an end and a spent budget show
-backs-numbers : (t : Table) (bs : List Back) → numbersOf (lineBacks t bs) ≡ numbersOf (sourceBacks bs)
-backs-numbers t [] = refl
-backs-numbers t (b ∷ bs) = ap (λ x. x ++ (b .function ∷ [])) (backs-numbers t bs)
+backs-numbers : {H : Type 0} {t : Table} {F : Form H} (S : Settles t F) (bs : List Back) → numbersOf (lineBacks S bs) ≡ numbersOf (sourceBacks bs)
+backs-numbers S [] = refl
+backs-numbers S (b ∷ bs) = ap (λ x. x ++ (b .function ∷ [])) (backs-numbers S bs)
 
-pub related-same : (t : Table) (d : ℕ) (s : Source) (h : Hardened) → Related t d s h → Same t s h
-related-same t d s h r =
+pub related-same : {H : Type 0} {t : Table} {F : Form H} (S : Settles t F) (d : ℕ) (s : Source) (h : State H) → Related S d s h → Same S s h
+related-same S d s h r =
     record { n = r .n; i = r .j; k = r .k; l = r .l; rest = r .rest; c = _; vs = r .vs; tr = r .tr; s-is = r .s-is; h-is = r .h-is }
 
 abbrev showing : {C : Type 0} → ℕ → State C → Shown
 showing o s = record { outcome = o; trace = s .trace; variables = s .vars; functions = openFunctions s }
 
-same-shown : (t : Table) (o : ℕ) (s : Source) (h : Hardened) → Same t s h → showing o h ≡ showing o s
-same-shown t o s h m = rw (m .s-is, m .h-is)
-    (ap (λ x. record { outcome = o; trace = m .tr; variables = m .vs; functions = x ++ (m .n ∷ []) }) (backs-numbers t (m .rest)))
+same-shown : {H : Type 0} {t : Table} {F : Form H} (S : Settles t F) (o : ℕ) (s : Source) (h : State H) → Same S s h → showing o h ≡ showing o s
+same-shown S o s h m = rw (m .s-is, m .h-is)
+    (ap (λ x. record { outcome = o; trace = m .tr; variables = m .vs; functions = x ++ (m .n ∷ []) }) (backs-numbers S (m .rest)))
 
 -- ---- whole runs from related states: the hardened run of b steps is the source's of m
-pub record Simulates (t : Table) (b k j : ℕ) (s : Source) (h : Hardened) : Type 0 where
+pub record Simulates {H : Type 0} {t : Table} {F : Form H} (S : Settles t F) (b k j : ℕ) (s : Source) (h : State H) : Type 0 where
   pub m : ℕ
-  pub counted : (run (lineMachine t) b k h) .steps ≡ k + m + tally (quietAt (harden t)) (lineMachine t) b k h
+  pub counted : (run (lineMachine S) b k h) .steps ≡ k + m + tally (quietAt (harden t)) (lineMachine S) b k h
   pub took : (run (sourceMachine t) m j s) .steps ≡ j + m
-  pub alike : shown (run (lineMachine t) b k h) ≡ shown (run (sourceMachine t) m j s)
-  pub no-alarm : outcomeOf ((run (lineMachine t) b k h) .step) ≢ 2
+  pub alike : shown (run (lineMachine S) b k h) ≡ shown (run (sourceMachine t) m j s)
+  pub no-alarm : outcomeOf ((run (lineMachine S) b k h) .step) ≢ 2
 
 end-not-alarm : (o : Step) → (o ≡ Finished) ⊎ (o ≡ TooManyOpen maxOpen) → outcomeOf o ≢ 2
 unfolding outcomeOf
 end-not-alarm o (inl e) = omega (arith, ap outcomeOf e)
 end-not-alarm o (inr e) = omega (arith, ap outcomeOf e)
 
-pub simulates : (t : Table) → Proper t → (b k j d : ℕ) (s : Source) (h : Hardened) → Related t d s h → Simulates t b k j s h
+pub simulates : (t : Table) → Proper t → {H : Type 0} {F : Form H} (S : Settles t F) → (b k j d : ℕ) (s : Source) (h : State H) → Related S d s h → Simulates S b k j s h
 unfolding run tally outcomeOf
-simulates t ok zero k j d s h r =
-    record { m = 0; counted = omega arith; took = omega arith; alike = same-shown t 0 s h (related-same t d s h r); no-alarm = omega arith }
-simulates t ok (suc b) k j d s h r =
-    by (next t ok d s h r) (λ d′ s′ h′ r′. simulates t ok b (suc k) (suc j) d′ s′ h′ r′) (λ d′ h′ r′. simulates t ok b (suc k) j d′ s h′ r′)
+simulates t ok S zero k j d s h r =
+    record { m = 0; counted = omega arith; took = omega arith; alike = same-shown S 0 s h (related-same S d s h r); no-alarm = omega arith }
+simulates t ok {H = H} S (suc b) k j d s h r =
+    by (next t ok S d s h r) (λ d′ s′ h′ r′. simulates t ok S b (suc k) (suc j) d′ s′ h′ r′) (λ d′ h′ r′. simulates t ok S b (suc k) j d′ s h′ r′)
   where
-    by : Next t d s h → ((d′ : ℕ) (s′ : Source) (h′ : Hardened) → Related t d′ s′ h′ → Simulates t b (suc k) (suc j) s′ h′)
-        → ((d′ : ℕ) (h′ : Hardened) → Related t d′ s h′ → Simulates t b (suc k) j s h′) → Simulates t (suc b) k j s h
+    by : Next S d s h → ((d′ : ℕ) (s′ : Source) (h′ : State H) → Related S d′ s′ h′ → Simulates S b (suc k) (suc j) s′ h′)
+        → ((d′ : ℕ) (h′ : State H) → Related S d′ s h′ → Simulates S b (suc k) j s h′) → Simulates S (suc b) k j s h
     by (moves q (both-on s′ h′ es eh r′)) both-go line-goes =
         let x = both-go _ s′ h′ r′ in
         record {
@@ -80,7 +81,7 @@ simulates t ok (suc b) k j d s h r =
           m = 1;
           counted = rw eh (omega arith);
           took = rw es (omega arith);
-          alike = rw (eh, es) (same-shown t (outcomeOf o) s′ h′ same);
+          alike = rw (eh, es) (same-shown S (outcomeOf o) s′ h′ same);
           no-alarm = rw eh (end-not-alarm o which);
         }
     by (waits q h′ d′ eh r′ de) both-go line-goes =
@@ -94,11 +95,11 @@ simulates t ok (suc b) k j d s h r =
         }
 
 -- ---- from the start
-pub unstruck : (t : Table) → Proper t → (vs : List ℕ) (b : ℕ) → Unstruck (harden t) t vs b
-unfolding matching
-unstruck t ok vs b =
-    let x = simulates t ok b 0 0 0 (sourceStart vs) (hardenedStart vs) (start t ok vs) in
-    let m : matching (harden t) b vs ≡ x .m = omega (arith, x .counted) in
+pub unstruck : (t : Table) → Proper t → {H : Type 0} {F : Form H} (S : Settles t F) → (vs : List ℕ) (b : ℕ) → UnstruckOf F (harden t) t vs b
+unfolding matchingOf
+unstruck t ok {F = F} S vs b =
+    let x = simulates t ok S b 0 0 0 (sourceStart vs) (startBy F vs) (start t ok S vs) in
+    let m : matchingOf F (harden t) b vs ≡ x .m = omega (arith, x .counted) in
     record {
       as-source = x .alike ∙ ap (λ y. shown (sourceRun t y vs)) (sym m);
       at-matching = ap (λ y. (sourceRun t y vs) .steps) m ∙ x .took ∙ omega (arith, m);

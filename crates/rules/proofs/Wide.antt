@@ -1,5 +1,5 @@
--- After a wide jump no guard passes: a guard passes only at the run's own place, or at the tick of the do before or after it, and no
--- guard lies between those; and region 0 has not ended anywhere before the ret. Assumes that the table is accepted.
+-- No guard of the counter form that lies across another passes: a guard passes only at the run's own place, or at the tick of the do
+-- before or after it, and no guard lies between those; and region 0 has not ended anywhere before the ret. Assumes that the table is accepted.
 use mathlib.Core.Logic.{_⊎_, inl, inr}
 use mathlib.Core.Path.{_≡_, refl, sym, ap, _∙_, subst}
 use mathlib.Core.Bool.{Bool, true, false, cond, _||_}
@@ -25,90 +25,9 @@ use Rattle.rules.proofs.Harden.{line-at}
 use Rattle.rules.proofs.Function.{InFunction, function-end, body-is, not-past-end, not-silent}
 use Rattle.rules.proofs.Counters.{counterOf, counters, holding, at-region}
 use Rattle.rules.proofs.Unique.{part-takes, unique}
-use Rattle.rules.proofs.Relation.{Mode, ready, ticking, backing, body-below}
-use Rattle.rules.proofs.Guard.{checksAt, checksFor, phaseOf, at-phase, Guards}
-
--- ---- a guard between two lines
-pub data Between (ls : List Line) (a b : ℕ) : Type 0 where
-  up : (x : ℕ) → a ≤ x → x < b → isGuard (lineAt ls x) ≡ true → Between ls a b
-  down : (x : ℕ) → b ≤ x → x < a → isGuard (lineAt ls x) ≡ true → Between ls a b
-
-record GuardIn (ls : List Line) (k d : ℕ) : Type 0 where
-  x : ℕ
-  not-below : k ≤ x
-  not-above : x < k + d
-  guards : isGuard (lineAt ls x) ≡ true
-
-guard-in : (ls : List Line) (k d : ℕ) → guardFrom ls k d ≡ true → GuardIn ls k d
-unfolding guardFrom
-guard-in ls k zero e = clash {b = false} e refl
-guard-in ls k (suc d) e = by (isGuard (lineAt ls k)) refl e (λ q. guard-in ls (suc k) d q)
-  where
-    by : (b : Bool) → isGuard (lineAt ls k) ≡ b → b || guardFrom ls (suc k) d ≡ true → (guardFrom ls (suc k) d ≡ true → GuardIn ls (suc k) d) → GuardIn ls k (suc d)
-    by true g q ih = record { x = k; not-below = omega arith; not-above = omega arith; guards = g }
-    by false g q ih =
-        let r = ih q in
-        record { x = r .x; not-below = omega (arith, r .not-below); not-above = omega (arith, r .not-above); guards = r .guards }
-
-pub between : (ls : List Line) (a b : ℕ) → guardBetween ls a b ≡ true → Between ls a b
-between ls a b e = by (guardFrom ls a (b - a)) refl e
-  where
-    by : (x : Bool) → guardFrom ls a (b - a) ≡ x → x || guardFrom ls b (a - b) ≡ true → Between ls a b
-    by true g q =
-        let r = guard-in ls a (b - a) g in
-        up (r .x) (r .not-below) (omega (arith, r .not-below, r .not-above)) (r .guards)
-    by false g q =
-        let r = guard-in ls b (a - b) q in
-        down (r .x) (r .not-below) (omega (arith, r .not-below, r .not-above)) (r .guards)
-
-not-same : (ls : List Line) (a b : ℕ) → a ≡ b → Between ls a b → ⊥
-not-same ls a b e (up x p q g) = omega arith
-not-same ls a b e (down x p q g) = omega arith
-
-do-no-guard : (t : Table) (j : ℕ) → j < length t → kindAt t j ≡ Do → isGuard (lineAt (harden t) (lineOf t j)) ≡ false
-unfolding rowLines
-do-no-guard t j l e = ap (λ x. isGuard (lineAt (harden t) x)) (sym (add-zero (lineOf t j))) ∙ ap isGuard (line-at t j 0 l (rw e (omega arith))) ∙ rw e
-
--- from before a do to before its tick, or back
-not-over-do : (t : Table) (j a b : ℕ) → j < length t → kindAt t j ≡ Do → ((a ≡ lineOf t j) × (b ≡ lineOf t j + 1)) ⊎ ((a ≡ lineOf t j + 1) × (b ≡ lineOf t j)) → Between (harden t) a b → ⊥
-not-over-do t j a b l e (inl ab) (up x y z g) = clash g (ap (λ c. isGuard (lineAt (harden t) c)) (omega (arith, ab .0, ab .1)) ∙ do-no-guard t j l e)
-not-over-do t j a b l e (inl ab) (down x y z g) = omega (arith, ab .0, ab .1)
-not-over-do t j a b l e (inr ab) (up x y z g) = omega (arith, ab .0, ab .1)
-not-over-do t j a b l e (inr ab) (down x y z g) = clash g (ap (λ c. isGuard (lineAt (harden t) c)) (omega (arith, ab .0, ab .1)) ∙ do-no-guard t j l e)
-
--- ---- where the run stands: phase ph of row i, its region e past the row's value: before the guard that wants that, or the row's do
-pub data From (t : Table) (i ph e : ℕ) : Type 0 where
-  at-guard : ph ≡ phaseOf (kindAt t i) e → From t i ph e
-  before-do : kindAt t i ≡ Do → ph ≡ 0 → e ≡ 0 → From t i ph e
-
-pub record Stands (t : Table) (i k w u : ℕ) (f : Open) : Type 0 where
-  pub ph : ℕ
-  pub e : ℕ
-  pub from : From t i ph e
-  pub line-is : k ≡ lineOf t i + ph
-  pub holds : w ≡ u + e
-  pub within : e ≤ takes (kindAt t i) (f .part) - 1
-
-is-do : (k : Kind) → isDo k ≡ true → k ≡ Do
-is-do Function e = cc
-is-do Do e = refl
-is-do If e = cc
-is-do Else e = cc
-is-do Loop e = cc
-is-do End e = cc
-is-do Break e = cc
-is-do Continue e = cc
-is-do Call e = cc
-is-do Unknown e = cc
-
-first-from : (t : Table) (i : ℕ) (b : Bool) → isDo (kindAt t i) ≡ b → From t i 0 0
-first-from t i true e = before-do (is-do (kindAt t i) e) refl refl
-first-from t i false e = at-guard (at-phase t i 0 refl e)
-
-pub stands : (t : Table) (i j k w last u : ℕ) (f : Open) → Mode t i j k w last u → Stands t i k w u f
-stands t i j k w last u f (ready ej ea ew) = record { ph = 0; e = 0; from = first-from t i (isDo (kindAt t i)) refl; line-is = omega arith; holds = omega arith; within = omega arith }
-stands t i j k w last u f (ticking r ej ea ew) = record { ph = 1; e = 0; from = at-guard (sym (ap (λ x. cond {A = ℕ} (isDo x) 1 0) r)); line-is = omega arith; holds = omega arith; within = omega arith }
-stands t i j k w last u f (backing r ej ea ew el) = record { ph = 1; e = 1; from = at-guard (at-phase t i 1 r refl); line-is = omega arith; holds = omega arith; within = rw r (omega arith) }
+use Rattle.rules.proofs.Relation.{body-below}
+use Rattle.rules.proofs.Guard.{checksAt, checksFor, phaseOf, Guards}
+use Rattle.rules.proofs.Where.{Between, not-same, not-over-do, From, at-guard, before-do, Stands}
 
 -- the guard that the run stands before, or will after its do, is not across a guard
 pub own-guard : (t : Table) (i j k k′ ph e ph′ d : ℕ) → j < length t → i ≡ j → e ≡ d → k ≡ lineOf t i + ph → k′ ≡ lineOf t j + ph′ → From t i ph e → ph′ ≡ phaseOf (kindAt t j) d → Between (harden t) k k′ → ⊥
@@ -118,23 +37,18 @@ own-guard t i j k k′ ph e ph′ d l ij ed a b (before-do r p x) q w =
     let rj : kindAt t j ≡ Do = ap (kindAt t) (sym ij) ∙ r in
     not-over-do t j k k′ l rj (inl (omega (arith, ap (lineOf t) ij), omega (arith, ap (λ x. phaseOf x d) rj))) w
 
--- nor is the tick of the do that the jump goes to
-pub own-tick : (t : Table) (i j k k′ ph e : ℕ) → j < length t → i ≡ j → e ≡ 0 → k ≡ lineOf t i + ph → k′ ≡ lineOf t j + 0 → kindAt t j ≡ Do → From t i ph e → Between (harden t) k k′ → ⊥
-own-tick t i j k k′ ph e l ij ed a b r (at-guard p) w = not-over-do t j k k′ l r (inr (omega (arith, ap (lineOf t) ij, ap (λ x. phaseOf x e) (ap (kindAt t) ij ∙ r)), omega arith)) w
-own-tick t i j k k′ ph e l ij ed a b r (before-do q y x) w = not-same (harden t) k k′ (omega (arith, ap (lineOf t) ij)) w
-
 -- ---- a guard of row j passes at the counters of row i only where it is the run's own
-module _ (t : Table) (ok : Proper t) (n i : ℕ) (f : Open) (fs : List Open) (m : InFunction t n i f fs) (k w : ℕ) (st : Stands t i k w (value t (f .region) i) f) where
+module _ (t : Table) (ok : Proper t) (n k w : ℕ) (f : Open) (fs : List Open) (st : Stands t n k w f fs) where
   passes : (j ph d : ℕ) (h : Open) (hs : List Open) (ℓ : Line) → InFunction t n j h hs → Guards t j h hs ph d ℓ
-      → eqb (counters t (bodyRegion (f ∷ fs)) (f ∷ fs) w (checksAt ℓ)) (checksFor ℓ) ≡ true → (i ≡ j) × (st .e ≡ d)
+      → eqb (counters t (bodyRegion (f ∷ fs)) (f ∷ fs) w (checksAt ℓ)) (checksFor ℓ) ≡ true → (st .i ≡ j) × (st .e ≡ d)
   passes j ph d h hs ℓ mj g x =
-      let bb : bodyRegion (h ∷ hs) ≡ bodyRegion (f ∷ fs) = body-is t ok mj ∙ sym (body-is t ok m) in
+      let bb : bodyRegion (h ∷ hs) ≡ bodyRegion (f ∷ fs) = body-is t ok mj ∙ sym (body-is t ok (st .in-function)) in
       let zh : bodyRegion (f ∷ fs) ≤ h .region = omega (arith, body-below t mj) in
-      unique t ok j h hs d (mj .within) (mj .open-is) (g .within) (g .at-opener) fs f i (st .e) (m .within) (m .open-is) (st .within)
+      unique t ok j h hs d (mj .within) (mj .open-is) (g .within) (g .at-opener) fs f (st .i) (st .e) (st .in-function .within) (st .in-function .open-is) (st .within)
       (ap (λ y. counterOf t (f ∷ fs) y (h .region)) (sym (st .holds)) ∙ sym (at-region t (bodyRegion (f ∷ fs)) (f ∷ fs) w (h .region) zh)
       ∙ ap (counters t (bodyRegion (f ∷ fs)) (f ∷ fs) w) (sym (g .at-own ∙ ap (λ y. h .region - y) bb)) ∙ eqb-true _ _ x ∙ g .for-value)
 
-  pub refused : (j ph d : ℕ) (h : Open) (hs : List Open) (ℓ : Line) → InFunction t n j h hs → Guards t j h hs ph d ℓ → ((i ≡ j) × (st .e ≡ d) → ⊥)
+  pub refused : (j ph d : ℕ) (h : Open) (hs : List Open) (ℓ : Line) → InFunction t n j h hs → Guards t j h hs ph d ℓ → ((st .i ≡ j) × (st .e ≡ d) → ⊥)
       → eqb (counters t (bodyRegion (f ∷ fs)) (f ∷ fs) w (checksAt ℓ)) (checksFor ℓ) ≡ false
   refused j ph d h hs ℓ mj g nope = by (eqb (counters t (bodyRegion (f ∷ fs)) (f ∷ fs) w (checksAt ℓ)) (checksFor ℓ)) refl
     where
@@ -170,13 +84,14 @@ module _ (t : Table) (ok : Proper t) (j : ℕ) (h : Open) (ej : kindAt t j ≡ E
       cond-le f (g ∷ gs) i e k a l (not-past gs g (f .opener) inside (m .outer) (omega (arith, part-takes t ok i f g gs (g .part) (omega arith) k)) (omega (arith, m .before)))
       (eqb (h .region) (f .region)) refl
 
-pub not-ended : (t : Table) → Proper t → (n i : ℕ) (f : Open) (fs : List Open) → InFunction t n i f fs → (k w : ℕ) → Stands t i k w (value t (f .region) i) f
+pub not-ended : (t : Table) → Proper t → (n k w : ℕ) (f : Open) (fs : List Open) → Stands t n k w f fs
     → eqb (counters t (bodyRegion (f ∷ fs)) (f ∷ fs) w 0) (endValue t n) ≡ false
 unfolding endValue
-not-ended t ok n i f fs m k w st =
+not-ended t ok n k w f fs st =
+    let m = st .in-function in
     let fe = function-end t ok n (m .known) in
-    let np = not-past t ok (endOf t (functionRow t n)) (fe .0) (fe .1 .kind-is) (fe .1 .open-is) (fe .1 .within) fs f i (st .e) (m .open-is) (st .within) (not-past-end t ok m) in
-    let c0 : counters t (bodyRegion (f ∷ fs)) (f ∷ fs) w 0 ≡ counterOf t (f ∷ fs) (value t (f .region) i + st .e) (fe .0 .region)
+    let np = not-past t ok (endOf t (functionRow t n)) (fe .0) (fe .1 .kind-is) (fe .1 .open-is) (fe .1 .within) fs f (st .i) (st .e) (m .open-is) (st .within) (not-past-end t ok m) in
+    let c0 : counters t (bodyRegion (f ∷ fs)) (f ∷ fs) w 0 ≡ counterOf t (f ∷ fs) (value t (f .region) (st .i) + st .e) (fe .0 .region)
     = ap (counterOf t (f ∷ fs) w) (add-zero (bodyRegion (f ∷ fs)) ∙ body-is t ok m ∙ sym (fe .1 .region-is)) ∙ ap (λ y. counterOf t (f ∷ fs) y (fe .0 .region)) (st .holds) in
     ne-eqb _ _ (λ x. bad (counters t (bodyRegion (f ∷ fs)) (f ∷ fs) w 0) (value t (regions t (functionRow t n)) (endOf t (functionRow t n))) x (omega (arith, c0, np, ap (λ y. value t y (endOf t (functionRow t n))) (fe .1 .region-is))))
   where

@@ -31,43 +31,44 @@ use Rattle.rules.specs.Row.{Table, tableOf}
 use Rattle.rules.specs.Line.{Line, doLine, tickLine, testLine, leaveLine, outLine, callLine, backLine, retLine, lineAt, isGuard, linesIn}
 use Rattle.rules.specs.Function.{lastPlace}
 use Rattle.rules.specs.ReadBack.{sourceBytes, isHardened}
-use Rattle.rules.specs.State.{did, depth}
+use Rattle.rules.specs.State.{State, did, depth}
 use Rattle.rules.specs.Run.{Answer, outcomeOf}
 use Rattle.rules.specs.Source.{sourceRun}
-use Rattle.rules.specs.Hardened.{Counters, Hardened, strikeBy, placeLine, hardenedRun}
-use Rattle.rules.specs.Match.{shown, matching, dosIn, callsIn, guardBetween}
+use Rattle.rules.specs.Form.{Form, strikeBy, placeLine, runOf}
+use Rattle.rules.specs.Hardened.{Counters, counterForm}
+use Rattle.rules.specs.Match.{shown, matchingOf, dosIn, callsIn, guardBetween}
 
 -- ---- unstruck
-pub record Unstruck (ls : List Line) (t : Table) (vs : List ℕ) (b : ℕ) : Type 0 where
-  pub as-source : shown (hardenedRun ls None b vs) ≡ shown (sourceRun t (matching ls b vs) vs)
-  pub at-matching : (sourceRun t (matching ls b vs) vs) .steps ≡ matching ls b vs
-  pub no-alarm : outcomeOf ((hardenedRun ls None b vs) .step) ≢ 2
+pub record UnstruckOf {H : Type 0} (F : Form H) (ls : List Line) (t : Table) (vs : List ℕ) (b : ℕ) : Type 0 where
+  pub as-source : shown (runOf F ls None b vs) ≡ shown (sourceRun t (matchingOf F ls b vs) vs)
+  pub at-matching : (sourceRun t (matchingOf F ls b vs) vs) .steps ≡ matchingOf F ls b vs
+  pub no-alarm : outcomeOf ((runOf F ls None b vs) .step) ≢ 2
 
 -- the source's run of budget b finishes, and the hardened run has the budget c for it
-pub record Finishing (ls : List Line) (t : Table) (vs : List ℕ) (b c : ℕ) : Type 0 where
+pub record FinishingOf {H : Type 0} (F : Form H) (ls : List Line) (t : Table) (vs : List ℕ) (b c : ℕ) : Type 0 where
   pub finishes : outcomeOf ((sourceRun t b vs) .step) ≡ 1 → (sourceRun t b vs) .steps + dosIn t b vs + callsIn t b vs ≤ c
-      → outcomeOf ((hardenedRun ls None c vs) .step) ≡ 1
+      → outcomeOf ((runOf F ls None c vs) .step) ≡ 1
   pub in-steps : outcomeOf ((sourceRun t b vs) .step) ≡ 1 → (sourceRun t b vs) .steps + dosIn t b vs + callsIn t b vs ≤ c
-      → (hardenedRun ls None c vs) .steps ≡ (sourceRun t b vs) .steps + dosIn t b vs + callsIn t b vs
+      → (runOf F ls None c vs) .steps ≡ (sourceRun t b vs) .steps + dosIn t b vs + callsIn t b vs
 
 -- ---- a jump before step k
 -- what the first k steps of the unstruck run come to
-abbrev pub before : List Line → (vs : List ℕ) → (k : ℕ) → Answer Counters
-before ls vs k = hardenedRun ls None k vs
+abbrev pub beforeOf : {H : Type 0} → Form H → List Line → (vs : List ℕ) → (k : ℕ) → Answer H
+beforeOf F ls vs k = runOf F ls None k vs
 
 -- "a run that ends before k, or whose budget is k, is not struck"; "k = 65,535 is no jump"
-abbrev pub strikes : List Line → (vs : List ℕ) → (b k : ℕ) → Bool
-strikes ls vs b k = not (eqb k noStep) && ltb k b && eqb (outcomeOf ((before ls vs k) .step)) 0
+abbrev pub strikesOf : {H : Type 0} → Form H → List Line → (vs : List ℕ) → (b k : ℕ) → Bool
+strikesOf F ls vs b k = not (eqb k noStep) && ltb k b && eqb (outcomeOf ((beforeOf F ls vs k) .step)) 0
 
 -- "in step k if the place is before a guard, or is m with one function open; in step k + 1 if it is before a do .. or is m with
 -- more open"
-unfoldable pub alarmStep : List Line → (place k : ℕ) → Hardened → ℕ
+unfoldable pub alarmStep : {H : Type 0} → List Line → (place k : ℕ) → State H → ℕ
 alarmStep ls p k s =
     cond (eqb p (lastPlace ls (s .running .function))) (cond (eqb (depth s) 1) k (suc k))
     (cond (isGuard (lineAt ls (placeLine ls p s))) k (suc k))
 
 -- "with the do at that place, if one stands there, done on them once"
-abbrev pub doneBy : Line → Hardened → Hardened
+abbrev pub doneBy : {H : Type 0} → Line → State H → State H
 doneBy (doLine o e) s = did o e s
 doneBy (tickLine r e a) s = s
 doneBy (testLine o r s t e a b c go) now = now
@@ -77,7 +78,7 @@ doneBy (callLine r e a b go) s = s
 doneBy (backLine r e a b) s = s
 doneBy (retLine e a) s = s
 
-unfoldable pub doneAt : List Line → (place : ℕ) → Hardened → Hardened
+unfoldable pub doneAt : {H : Type 0} → List Line → (place : ℕ) → State H → State H
 doneAt ls p s =
     cond (eqb p (lastPlace ls (s .running .function))) s (doneBy (lineAt ls (placeLine ls p s)) s)
 
@@ -88,12 +89,12 @@ pub record Struck : Type 0 where
   pub trace : List ℕ
   pub variables : List ℕ
 
-abbrev pub struckShown : Answer Counters → Struck
+abbrev pub struckShown : {H : Type 0} → Answer H → Struck
 struckShown a =
     record { outcome = outcomeOf (a .step); steps = a .steps; trace = a .state .trace; variables = a .state .vars }
 
 -- the alarm in step x where the budget b holds that step, else the budget spent; s has what is left
-abbrev pub alarmIn : (x b : ℕ) → Hardened → Struck
+abbrev pub alarmIn : {H : Type 0} → (x b : ℕ) → State H → Struck
 alarmIn x b s =
     record {
       outcome = cond (ltb x b) 2 0;
@@ -103,27 +104,38 @@ alarmIn x b s =
     }
 
 -- "After a wide jump out of an unstruck run"
-unfoldable pub caughtFrom : List Line → (b k place : ℕ) → Hardened → Struck
+unfoldable pub caughtFrom : {H : Type 0} → List Line → (b k place : ℕ) → State H → Struck
 caughtFrom ls b k p s = alarmIn (alarmStep ls p k s) b (doneAt ls p s)
 
-pub record Jumped (ls : List Line) (vs : List ℕ) (b k p : ℕ) : Type 0 where
-  pub not-struck : strikes ls vs b k ≡ false → hardenedRun ls (strikeBy k p) b vs ≡ hardenedRun ls None b vs
-  pub beyond : strikes ls vs b k ≡ true → lastPlace ls ((before ls vs k) .state .running .function) < p
-      → hardenedRun ls (strikeBy k p) b vs
+pub record JumpedOf {H : Type 0} (F : Form H) (ls : List Line) (vs : List ℕ) (b k p : ℕ) : Type 0 where
+  pub not-struck : strikesOf F ls vs b k ≡ false → runOf F ls (strikeBy k p) b vs ≡ runOf F ls None b vs
+  pub beyond : strikesOf F ls vs b k ≡ true → lastPlace ls ((beforeOf F ls vs k) .state .running .function) < p
+      → runOf F ls (strikeBy k p) b vs
       ≡ record {
-        step = Beyond (lastPlace ls ((before ls vs k) .state .running .function));
+        step = Beyond (lastPlace ls ((beforeOf F ls vs k) .state .running .function));
         steps = k;
-        state = (before ls vs k) .state;
+        state = (beforeOf F ls vs k) .state;
       }
-  pub caught : strikes ls vs b k ≡ true → p ≤ lastPlace ls ((before ls vs k) .state .running .function)
-      → guardBetween ls ((before ls vs k) .state .running .at) (placeLine ls p ((before ls vs k) .state)) ≡ true
-      → struckShown (hardenedRun ls (strikeBy k p) b vs) ≡ caughtFrom ls b k p ((before ls vs k) .state)
+  pub caught : strikesOf F ls vs b k ≡ true → p ≤ lastPlace ls ((beforeOf F ls vs k) .state .running .function)
+      → guardBetween ls ((beforeOf F ls vs k) .state .running .at) (placeLine ls p ((beforeOf F ls vs k) .state)) ≡ true
+      → struckShown (runOf F ls (strikeBy k p) b vs) ≡ caughtFrom ls b k p ((beforeOf F ls vs k) .state)
 
--- ---- demand 3, of one hardened table, one set of first values, one budget and one jump
-pub record Demand3 (lines vars : List ℕ) (budget k place : ℕ) : Type 0 where
-  pub unstruck : Unstruck (linesIn lines) (tableOf (sourceBytes lines)) vars budget
-  pub finishing : (c : ℕ) → Finishing (linesIn lines) (tableOf (sourceBytes lines)) vars budget c
-  pub jumped : Jumped (linesIn lines) vars budget k place
+-- ---- demand 3, of a form's lines, the source table, one set of first values, one budget and one jump
+pub record DemandOf {H : Type 0} (F : Form H) (ls : List Line) (t : Table) (vars : List ℕ) (budget k place : ℕ) : Type 0 where
+  pub unstruck : UnstruckOf F ls t vars budget
+  pub finishing : (c : ℕ) → FinishingOf F ls t vars budget c
+  pub jumped : JumpedOf F ls vars budget k place
+
+-- ---- of the counter form
+abbrev pub before : List Line → (vs : List ℕ) → (k : ℕ) → Answer Counters
+before ls vs k = beforeOf (counterForm ls) ls vs k
+
+abbrev pub strikes : List Line → (vs : List ℕ) → (b k : ℕ) → Bool
+strikes ls vs b k = strikesOf (counterForm ls) ls vs b k
+
+abbrev pub Demand3 : (lines vars : List ℕ) (budget k place : ℕ) → Type 0
+Demand3 lines vars budget k place =
+    DemandOf (counterForm (linesIn lines)) (linesIn lines) (tableOf (sourceBytes lines)) vars budget k place
 
 -- of all of them
 abbrev pub Theorem : Type 0

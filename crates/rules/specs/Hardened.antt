@@ -1,17 +1,16 @@
--- The hardened machine: a run of a hardened table, line by line, over its lines alone (01, "The hardened lines" and "Running").
-use Prim.Native.Nat.{ℕ, suc, _+_}
+-- The counter form of hardened lines: what an open function keeps are the counters of its regions (01, "The hardened lines"). A run of
+-- it is a run of the machine of specs/Form.
+use Prim.Native.Nat.{ℕ}
 use mathlib.Core.Bool.{Bool, true, false, cond, _&&_}
-use mathlib.Core.List.{List, [], _∷_}
-use lib.Dec.{eqb, ltb, leb}
-use Rattle.rules.specs.declared.step.Step.the-variants.{Finished, Alarm, TooManyOpen, Beyond}
+use mathlib.Core.List.{List, []}
+use lib.Dec.{eqb, leb}
 use Rattle.rules.specs.declared.strike.Strike.{Strike}
-use Rattle.rules.specs.declared.strike.Strike.the-variants.{None, Jump}
-use Rattle.rules.specs.Limits.{maxOpen, noStep}
-use Rattle.rules.specs.Variables.{holdsOn}
-use Rattle.rules.specs.State.{Frame, State, begin, goTo, did, opening, returning, depth}
-use Rattle.rules.specs.Run.{Turn, on, ends, untaken, next, Answer, run}
-use Rattle.rules.specs.Line.{Line, doLine, tickLine, testLine, leaveLine, outLine, callLine, backLine, retLine, lineAt}
-use Rattle.rules.specs.Function.{functionAt, startOf, finishOf, lastPlace, retValue}
+use Rattle.rules.specs.State.{Frame, State}
+use Rattle.rules.specs.Run.{Turn, Answer}
+use Rattle.rules.specs.Line.{Line, doLine, tickLine, testLine, leaveLine, outLine, callLine, backLine, retLine}
+use Rattle.rules.specs.Function.{retValue}
+use Rattle.rules.specs.Form.{Guard, Form, leavesOf, lineStepOf, stepOf, strikingStepOf, startBy, runOf}
+pub use Rattle.rules.specs.Form.{moved, must, strikeBy, placeLine, land, struck}
 
 -- "Each has a 16-bit counter, one for each open call of the function": what the counter of each region holds
 abbrev pub Counters : Type 0
@@ -20,7 +19,7 @@ Counters = ℕ → ℕ
 abbrev pub Hardened : Type 0
 Hardened = State Counters
 
--- all counters 0; counter r gets v; counters low to high get 0
+-- all counters 0; counter r gets v; counters low to high get 0; counter r holds e
 abbrev pub clear : Counters
 clear r = 0
 
@@ -30,77 +29,61 @@ put r v c x = cond (eqb x r) v (c x)
 abbrev pub clearFrom : (low high : ℕ) → Counters → Counters
 clearFrom low high c x = cond (leb low x && leb x high) 0 (c x)
 
+abbrev pub holds : (r e : ℕ) → Counters → Bool
+holds r e x = eqb (x r) e
+
+-- a line that passes by the running function's counters alone, has one way, and opens nothing
+abbrev pub simply : (Counters → Bool) → (Counters → Counters) → Guard Counters
+simply check change = record { passes = λ x last. check x; moves = λ way x. change x; opens = clear }
+
+-- What the column "Step" says of the counters. `"Check" means: counter r holds e, else alarm.`
+-- leave: "check; r gets 0; s (region around) must hold b, else alarm; s gets a"
+-- call: "callee opens, counters 0, its region 0 gets its base b"
+-- back: "check; the region 0 counter of the function that returned last in the run .. must have ended at b, else alarm"
+abbrev pub counterGuard : (k : ℕ) → Line → Guard Counters
+counterGuard k (doLine o e) = simply (λ x. true) (λ x. x)
+counterGuard k (tickLine r e a) = simply (holds r e) (put r a)
+counterGuard k (testLine o r s t e a b c go) =
+    record {
+      passes = λ x last. holds r e x;
+      moves = λ way x. cond way (put s b (put r a x)) (put t c (put r a x));
+      opens = clear;
+    }
+counterGuard k (leaveLine r s e a b go) = simply (λ x. holds r e x && holds s b (put r 0 x)) (λ x. put s a (put r 0 x))
+counterGuard k (outLine r s t e a go) = simply (holds r e) (λ x. put s a (clearFrom t r x))
+counterGuard k (callLine r e a b go) =
+    record { passes = λ x last. holds r e x; moves = λ way x. put r a x; opens = put 0 b clear }
+counterGuard k (backLine r e a b) =
+    record { passes = λ x last. holds r e x && holds 0 b last; moves = λ way x. put r a x; opens = clear }
+counterGuard k (retLine e a) = simply (holds 0 e) (put 0 a)
+
+-- "the host compares its region 0 counter with the a of its ret: equal is finished"; "A hardened run opens function 0 at line 0,
+-- counters 0 but region 0's at its base", which is 1: no region opened before it
+abbrev pub counterForm : List Line → Form Counters
+counterForm ls =
+    record { guard = counterGuard; ended = holds 0 (retValue ls 0); first = put 0 1 clear; nothing = clear }
+
+-- ---- the machine, of this form
 abbrev pub counter : Hardened → (r : ℕ) → ℕ
 counter s r = s .running .own r
-
--- the same function goes on at line k, its counters changed
-abbrev pub moved : (k : ℕ) → (Counters → Counters) → Hardened → Turn Counters
-moved k change s = on (goTo k (change (s .running .own)) s)
-
--- `"Check" means: counter r holds e, else alarm.`
-abbrev pub must : Bool → Hardened → Turn Counters → Turn Counters
-must true s t = t
-must false s t = ends Alarm s
 
 abbrev pub check : (r e : ℕ) → Hardened → Turn Counters → Turn Counters
 check r e s t = must (eqb (counter s r) e) s t
 
--- A return, from a ret or from place m. "When function 0 returns as the only open one, the host compares its region 0 counter
--- with the a of its ret: equal is finished, else alarm."
 abbrev pub leaves : List Line → Hardened → List (Frame Counters) → Turn Counters
-leaves ls s [] = must (eqb (counter s 0) (retValue ls 0)) s (ends Finished s)
-leaves ls s (f ∷ fs) = on (returning f fs s)
+leaves ls s fs = leavesOf (counterForm ls) s fs
 
--- The column "Step": what line k does. The call that is one too many is not made.
-unfoldable pub lineStep : List Line → (k : ℕ) → Line → Hardened → Turn Counters
-lineStep ls k (doLine o e) now = moved (suc k) (λ x. x) (did o e now)
-lineStep ls k (tickLine r e a) now = check r e now (moved (suc k) (put r a) now)
-lineStep ls k (testLine o r s t e a b c go) now =
-    check r e now
-    (cond (holdsOn o (now .vars)) (moved (suc k) (λ x. put s b (put r a x)) now) (moved go (λ x. put t c (put r a x)) now))
-lineStep ls k (leaveLine r s e a b go) now =
-    check r e now (must (eqb (put r 0 (now .running .own) s) b) now (moved go (λ x. put s a (put r 0 x)) now))
-lineStep ls k (outLine r s t e a go) now = check r e now (moved go (λ x. put s a (clearFrom t r x)) now)
-lineStep ls k (callLine r e a b go) now =
-    check r e now
-    (cond (ltb (depth now) maxOpen)
-    (on (opening (functionAt ls go) go (put 0 b clear) (goTo (suc k) (put r a (now .running .own)) now)))
-    (ends (TooManyOpen maxOpen) now))
-lineStep ls k (backLine r e a b) now = check r e now (must (eqb (now .last 0) b) now (moved (suc k) (put r a) now))
-lineStep ls k (retLine e a) now =
-    check 0 e now (leaves ls (goTo k (put 0 a (now .running .own)) now) (now .callers))
+abbrev pub lineStep : List Line → (k : ℕ) → Line → Hardened → Turn Counters
+lineStep ls k l now = lineStepOf (counterForm ls) ls k l now
 
--- "A hardened run does one line, or one return from place m, per step."
-unfoldable pub hardenedStep : List Line → Hardened → Turn Counters
-hardenedStep ls s =
-    let k = s .running .at in
-    cond (eqb k (finishOf ls (s .running .function))) (leaves ls s (s .callers)) (lineStep ls k (lineAt ls k) s)
+abbrev pub hardenedStep : List Line → Hardened → Turn Counters
+hardenedStep ls s = stepOf (counterForm ls) ls s
 
--- What may strike a run. "A jump .. is a step number k and a place: before step k (from 0) the running function goes to that
--- place. k = 65,535 is no jump"
-abbrev pub strikeBy : (k place : ℕ) → Strike
-strikeBy k p = cond (eqb k noStep) None (Jump k p)
-
--- "place i is before line i": the line of the running function's place, as a line number of the table
-abbrev pub placeLine : List Line → (place : ℕ) → Hardened → ℕ
-placeLine ls p s = startOf ls (s .running .function) + p
-
-abbrev pub land : List Line → (place : ℕ) → Hardened → Turn Counters
-land ls p s =
-    let m = lastPlace ls (s .running .function) in
-    cond (leb p m) (on (goTo (placeLine ls p s) (s .running .own) s)) (untaken (Beyond m) s)
-
-abbrev pub struck : List Line → Strike → (k : ℕ) → Hardened → Turn Counters
-struck ls None k s = on s
-struck ls (Jump j p) k s = cond (eqb j k) (land ls p s) (on s)
-
--- step k of a run that this strikes
 abbrev pub strikingStep : List Line → Strike → (k : ℕ) → Hardened → Turn Counters
-strikingStep ls j k s = next (struck ls j k s) (hardenedStep ls)
+strikingStep ls j k s = strikingStepOf (counterForm ls) ls j k s
 
--- "A hardened run opens function 0 at line 0, counters 0 but region 0's at its base", which is 1: no region opened before it
 abbrev pub hardenedStart : (vars : List ℕ) → Hardened
-hardenedStart vs = begin 0 (put 0 1 clear) clear vs
+hardenedStart vs = startBy (counterForm []) vs
 
 abbrev pub hardenedRun : List Line → Strike → (budget : ℕ) → (vars : List ℕ) → Answer Counters
-hardenedRun ls j b vs = run (strikingStep ls j) b 0 (hardenedStart vs)
+hardenedRun ls j b vs = runOf (counterForm ls) ls j b vs

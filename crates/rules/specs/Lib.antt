@@ -13,6 +13,7 @@ pub mod Variables
 pub mod State
 pub mod Run
 pub mod Source
+pub mod Form
 pub mod Hardened
 pub mod Calls
 pub mod Listing
@@ -26,6 +27,7 @@ pub mod Match
 pub mod Demands
 pub mod Reading
 pub mod TablePromise
+pub mod RunPromise
 pub mod Promise
 pub mod Bounds
 pub mod Links

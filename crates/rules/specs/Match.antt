@@ -11,10 +11,11 @@ use Rattle.rules.specs.Row.{Table, kindAt}
 use Rattle.rules.specs.Check.{isCall}
 use Rattle.rules.specs.Line.{Line, doLine, tickLine, testLine, leaveLine, outLine, callLine, backLine, retLine, lineAt, isGuard}
 use Rattle.rules.specs.Function.{finishOf}
-use Rattle.rules.specs.State.{openFunctions}
+use Rattle.rules.specs.State.{State, openFunctions}
 use Rattle.rules.specs.Run.{Answer, outcomeOf, tally}
 use Rattle.rules.specs.Source.{sourceStep, sourceStart}
-use Rattle.rules.specs.Hardened.{Hardened, strikingStep, hardenedStart, hardenedRun}
+use Rattle.rules.specs.Form.{Form, strikingStepOf, startBy, runOf}
+use Rattle.rules.specs.Hardened.{counterForm}
 
 -- what demand 3 compares of a hardened and a source run
 pub record Shown : Type 0 where
@@ -43,14 +44,16 @@ isQuiet (callLine r e a b go) = false
 isQuiet (backLine r e a b) = true
 isQuiet (retLine e a) = false
 
-unfoldable pub quietAt : List Line → Hardened → Bool
+unfoldable pub quietAt : {H : Type 0} → List Line → State H → Bool
 quietAt ls s =
     not (eqb (s .running .at) (finishOf ls (s .running .function))) && isQuiet (lineAt ls (s .running .at))
 
 -- "Matching step: hardened steps less the ticks and backs done."
-unfoldable pub matching : List Line → (budget : ℕ) → (vars : List ℕ) → ℕ
-matching ls b vs =
-    (hardenedRun ls None b vs) .steps - tally (quietAt ls) (strikingStep ls None) b 0 (hardenedStart vs)
+unfoldable pub matchingOf : {H : Type 0} → Form H → List Line → (budget : ℕ) → (vars : List ℕ) → ℕ
+matchingOf F ls b vs = (runOf F ls None b vs) .steps - tally (quietAt ls) (strikingStepOf F ls None) b 0 (startBy F vs)
+
+abbrev pub matching : List Line → (budget : ℕ) → (vars : List ℕ) → ℕ
+matching ls b vs = matchingOf (counterForm ls) ls b vs
 
 -- "a source run that finishes in n steps with t dos and c calls": those among its first b steps
 abbrev pub isDo : Kind → Bool

@@ -1,6 +1,6 @@
-// What may strike a run (01, "Running"). specs/Hardened.antt says what each does.
+// What may strike a run (01, "Running"). specs/Form.antt says what each does.
 ghost use mathlib.Core.Path.{_≡_};
-ghost use Rattle.rules.specs.Hardened.{strikeBy};
+ghost use Rattle.rules.specs.Form.{strikeBy};
 use crate::limits::NO_STEP;
 
 pub enum Strike {

@@ -16,8 +16,9 @@ use Rattle.rules.specs.Line.{Line, linesIn}
 use Rattle.rules.specs.Function.{startOf, finishOf, lastPlace}
 use Rattle.rules.specs.State.{goTo}
 use Rattle.rules.specs.Run.{Turn, on, untaken, next, after, run}
-use Rattle.rules.specs.Hardened.{Counters, Hardened, hardenedStep, placeLine, strikingStep, hardenedStart, hardenedRun}
-use Rattle.rules.proofs.Jump.{not-now, after-same, not-reached}
+use Rattle.rules.specs.Form.{Form}
+use Rattle.rules.specs.Hardened.{Counters, Hardened, counterForm, hardenedStep, placeLine, strikingStep, hardenedStart, hardenedRun}
+use Rattle.rules.proofs.Struck.{after-same, not-now, not-reached, over-same}
 use Rattle.machine.specs.Step.{Map, Parts, After, lastLine, stepOf}
 use Rattle.machine.specs.Run.{partsAt, stopsAfter, runOf}
 use Rattle.state.specs.Machine.{onward}
@@ -121,15 +122,11 @@ going-there bs m rd left p g place h =
       traced = g .traced;
     }
 
--- ---- the jump is past
-jump-past : (ls : List Line) (j place b k : ℕ) (s : Hardened) → j < k → run (strikingStep ls (Jump j place)) b k s ≡ run (strikingStep ls None) b k s
-unfolding run
-jump-past ls j place zero k s h = refl
-jump-past ls j place (suc b) k s h =
-    rw (not-now ls j place k s (omega arith)) (after-same k (hardenedStep ls s) _ _ (λ s′. jump-past ls j place b (suc k) s′ (omega arith)))
-
 -- ---- the struck step, and all after it
 module _ (bs : List ℕ) (m : Map) (rd : Ready bs m) (held : List ℕ) (b k place : ℕ) (p : Parts) (s : Hardened) (st : Stands (linesIn bs) held p s) (n : p .registers .steps ≡ k) (d : p .registers .traced ≤ k) (h : k + suc b ≤ length held) where
+  abbrev form : Form Counters
+  form = counterForm (linesIn bs)
+
   there : Hardened
   there = goTo (placeLine (linesIn bs) place s) (s .running .own) s
 
@@ -138,7 +135,7 @@ module _ (bs : List ℕ) (m : Map) (rd : Ready bs m) (held : List ℕ) (b k plac
   unfolding run there
   runs-on l =
       subst (Ended (linesIn bs) held (runOf bs m (suc b) (partsAt p (firstLine m (p .registers) + place) (p .registers .steps))))
-      (sym (after-same k (hardenedStep (linesIn bs) there) _ _ (λ s′. jump-past (linesIn bs) k place b (suc k) s′ (omega arith))))
+      (sym (after-same k (hardenedStep (linesIn bs) there) _ _ (λ s′. over-same form (linesIn bs) (Jump k place) k (not-now form (linesIn bs) k place) b (suc k) s′ (omega arith))))
       (run-agrees bs m rd held (suc b) k (partsAt p (firstLine m (p .registers) + place) (p .registers .steps)) there (stands-there bs m rd held p s st place (p .registers .steps) l) n d h)
 
   by-place : (c : Bool) → leb place (placesIn m (p .registers)) ≡ c
@@ -189,7 +186,7 @@ module _ (bs : List ℕ) (m : Map) (rd : Ready bs m) (held : List ℕ) (b place 
   struck-agrees (suc d) k p s st n t h =
       subst (λ c. Ended (linesIn bs) held (landsAfter bs m (suc b) place (runOf bs m (suc d) p)) (run (machine (k + suc d)) c k s)) (sym (suc-add d (suc b)))
       (subst (λ r. Ended (linesIn bs) held (landsAfter bs m (suc b) place (runOf bs m (suc d) p)) (after k r (λ s′. run (machine (k + suc d)) (d + suc b) (suc k) s′)))
-      (sym (not-now (linesIn bs) (k + suc d) place k s (omega arith)))
+      (sym (not-now (counterForm (linesIn bs)) (linesIn bs) (k + suc d) place k s (omega arith)))
       (subst (λ x. Ended (linesIn bs) held x (after k (hardenedStep (linesIn bs) s) (λ s′. run (machine (k + suc d)) (d + suc b) (suc k) s′)))
       (sym (lands-inside bs m (suc b) place (stepOf bs m p .step) (λ j. runOf bs m d (partsAt (stepOf bs m p .parts) j (p .registers .steps + 1))) (stopsAfter (p .registers .steps + 1) (stepOf bs m p)) refl))
       (ended-by (linesIn bs) held p k n (stepOf bs m p) _ _ (hardenedStep (linesIn bs) s) (step-agrees bs m rd held p s st (omega arith))
@@ -213,7 +210,7 @@ module _ (bs : List ℕ) (m : Map) (rd : Ready bs m) (held vs : List ℕ) (b : �
       → Ended (linesIn bs) held (cond c (runOf bs m b p) (landsAfter bs m (b - k) place (runOf bs m k p))) (hardenedRun (linesIn bs) (Jump k place) b vs)
   jump-by k place true e =
       subst (Ended (linesIn bs) held (runOf bs m b p))
-      (sym (not-reached (linesIn bs) (Jump k place) k (not-now (linesIn bs) k place) b 0 (hardenedStart vs) (omega (arith, leb-true b k e)))) unstruck-agrees
+      (sym (not-reached (counterForm (linesIn bs)) (linesIn bs) (Jump k place) k (not-now (counterForm (linesIn bs)) (linesIn bs) k place) b 0 (hardenedStart vs) (omega (arith, leb-true b k e)))) unstruck-agrees
   jump-by k place false e =
       let l = leb-false b k e in
       let left : suc (b - suc k) ≡ b - k = omega arith in

@@ -1,0 +1,69 @@
+-- The promise of a run, of every form that meets demand 3. Assumes nothing.
+use mathlib.Core.Path.{_≡_, refl, sym, ap, _∙_, subst}
+use mathlib.Core.Bool.{Bool, true, false}
+use mathlib.Core.List.{List, _++_}
+use Prim.Native.Nat.{ℕ, _≤_, _<_}
+use lib.ListN.{length, take, drop}
+use lib.Seq.{take-append-seam}
+use Rattle.rules.specs.declared.strike.Strike.the-variants.{None}
+use Rattle.rules.specs.declared.refusal.Verdict.{Verdict}
+use Rattle.rules.specs.declared.refusal.Verdict.the-variants.{Accepted, Refused}
+use Rattle.rules.specs.Row.{Table}
+use Rattle.rules.specs.Line.{Line}
+use Rattle.rules.specs.Refusal.{numberOf}
+use Rattle.rules.specs.State.{openFunctions}
+use Rattle.rules.specs.Run.{Answer, outcomeOf}
+use Rattle.rules.specs.Form.{Form, strikeBy, runOf}
+use Rattle.rules.specs.Demands.{strikesOf, struckShown, DemandOf}
+use Rattle.rules.specs.Calls.{Running, running}
+use Rattle.rules.specs.RunPromise.{seenOf, AsSourceOf, RunPromise}
+use Rattle.rules.proofs.Calls.{accepted-of}
+
+number-of : {C : Type 0} (v : Verdict) (a : Answer C) (vs slots : List ℕ) → (running v a vs slots) .ran .number ≡ numberOf v
+unfolding running
+number-of Accepted a vs slots = refl
+number-of (Refused r) a vs slots = refl
+
+module _ {H : Type 0} (F : Form H) (ls : List Line) (t : Table) (vars : List ℕ) (b k p : ℕ) (slots : List ℕ) (v : Verdict) (demands : v ≡ Accepted → DemandOf F ls t vars b k p) where
+  abbrev ran : Answer H
+  ran = runOf F ls (strikeBy k p) b vars
+
+  abbrev got : Running
+  got = running v ran vars slots
+
+  accepted : got .ran .number ≡ 0 → v ≡ Accepted
+  accepted e = accepted-of v (sym (number-of v ran vars slots) ∙ e)
+
+  seen-is : v ≡ Accepted → seenOf got ≡ struckShown ran
+  unfolding running
+  seen-is e =
+      ap (λ v. let r = running v ran vars slots in record { outcome = r .ran .outcome; steps = r .ran .steps; trace = take (r .ran .traced) (r .trace); variables = r .ran .variables }) e
+      ∙ ap (λ x. record { outcome = outcomeOf (ran .step); steps = ran .steps; trace = x; variables = ran .state .vars })
+      (take-append-seam (ran .state .trace) (drop (length (ran .state .trace)) slots))
+
+  demand : got .ran .number ≡ 0 → DemandOf F ls t vars b k p
+  demand e = demands (accepted e)
+
+  as-source : got .ran .number ≡ 0 → strikesOf F ls vars b k ≡ false → AsSourceOf F ls t vars b k p got
+  as-source e n =
+      let d = demand e in
+      let s = seen-is (accepted e) in
+      let q : ran ≡ runOf F ls None b vars = d .jumped .not-struck n in
+      let u = d .unstruck .as-source in
+      record {
+        outcome-is = ap (λ x. x .outcome) s ∙ ap (λ a. outcomeOf (a .step)) q ∙ ap (λ x. x .outcome) u;
+        trace-is = ap (λ x. x .trace) s ∙ ap (λ a. a .state .trace) q ∙ ap (λ x. x .trace) u;
+        variables-are = ap (λ x. x .variables) s ∙ ap (λ a. a .state .vars) q ∙ ap (λ x. x .variables) u;
+        functions-are = ap (λ a. openFunctions (a .state)) q ∙ ap (λ x. x .functions) u;
+        never-alarm = λ z. d .unstruck .no-alarm (sym (ap (λ x. x .outcome) s ∙ ap (λ a. outcomeOf (a .step)) q) ∙ z);
+      }
+
+  pub promised : RunPromise F ls t vars b k p got
+  unfolding outcomeOf
+  promised =
+      record {
+        unstruck = as-source;
+        beyond = λ e n h. seen-is (accepted e) ∙ ap struckShown (demand e .jumped .beyond n h);
+        caught = λ e n h w. seen-is (accepted e) ∙ demand e .jumped .caught n h w;
+        demand-3 = demand;
+      }

@@ -1,0 +1,111 @@
+-- The machine that every form of hardened lines runs on, line by line, over its lines alone (01, "The hardened lines" and "Running"). The
+-- forms differ only in what an open function keeps for the checks, and in what a guard compares and changes: `Form`.
+use Prim.Native.Nat.{ℕ, suc, _+_}
+use mathlib.Core.Bool.{Bool, true, false, cond}
+use mathlib.Core.List.{List, [], _∷_}
+use lib.Dec.{eqb, ltb, leb}
+use Rattle.rules.specs.declared.step.Step.the-variants.{Finished, Alarm, TooManyOpen, Beyond}
+use Rattle.rules.specs.declared.strike.Strike.{Strike}
+use Rattle.rules.specs.declared.strike.Strike.the-variants.{None, Jump}
+use Rattle.rules.specs.Limits.{maxOpen, noStep}
+use Rattle.rules.specs.Variables.{holdsOn}
+use Rattle.rules.specs.State.{Frame, State, begin, goTo, did, opening, returning, depth}
+use Rattle.rules.specs.Run.{Turn, on, ends, untaken, next, Answer, run}
+use Rattle.rules.specs.Line.{Line, doLine, tickLine, testLine, leaveLine, outLine, callLine, backLine, retLine, lineAt}
+use Rattle.rules.specs.Function.{functionAt, startOf, finishOf, lastPlace}
+
+-- What a line does with what functions keep: whether it passes, by what the running function keeps and what the function that returned
+-- last had kept; what the running function keeps then, on the only or a test's true way (true) and on a test's false way (false); what a
+-- callee opens with.
+pub record Guard (H : Type 0) : Type 0 where
+  pub passes : (own last : H) → Bool
+  pub moves : (way : Bool) → H → H
+  pub opens : H
+
+-- What each line k does, when the host finds that function 0 has ended, what function 0 opens with, and what "returned last" is
+-- where nothing has returned.
+pub record Form (H : Type 0) : Type 0 where
+  pub guard : (k : ℕ) → Line → Guard H
+  pub ended : H → Bool
+  pub first : H
+  pub nothing : H
+
+-- the same function goes on at line k, what it keeps changed
+abbrev pub moved : {H : Type 0} → (k : ℕ) → (H → H) → State H → Turn H
+moved k change s = on (goTo k (change (s .running .own)) s)
+
+-- "else alarm"
+abbrev pub must : {H : Type 0} → Bool → State H → Turn H → Turn H
+must true s t = t
+must false s t = ends Alarm s
+
+abbrev pub guarded : {H : Type 0} → Guard H → State H → Turn H → Turn H
+guarded g s t = must (g .passes (s .running .own) (s .last)) s t
+
+-- A return, from a ret or from place m. "When function 0 returns as the only open one, the host compares"
+abbrev pub leavesOf : {H : Type 0} → Form H → State H → List (Frame H) → Turn H
+leavesOf F s [] = must (F .ended (s .running .own)) s (ends Finished s)
+leavesOf F s (f ∷ fs) = on (returning f fs s)
+
+-- The column "Step": what line k does. The call that is one too many is not made.
+unfoldable pub lineStepOf : {H : Type 0} → Form H → List Line → (k : ℕ) → Line → State H → Turn H
+lineStepOf F ls k (doLine o e) now = moved (suc k) (λ x. x) (did o e now)
+lineStepOf F ls k (tickLine r e a) now =
+    let g = F .guard k (tickLine r e a) in
+    guarded g now (moved (suc k) (g .moves true) now)
+lineStepOf F ls k (testLine o r s t e a b c go) now =
+    let g = F .guard k (testLine o r s t e a b c go) in
+    guarded g now (cond (holdsOn o (now .vars)) (moved (suc k) (g .moves true) now) (moved go (g .moves false) now))
+lineStepOf F ls k (leaveLine r s e a b go) now =
+    let g = F .guard k (leaveLine r s e a b go) in
+    guarded g now (moved go (g .moves true) now)
+lineStepOf F ls k (outLine r s t e a go) now =
+    let g = F .guard k (outLine r s t e a go) in
+    guarded g now (moved go (g .moves true) now)
+lineStepOf F ls k (callLine r e a b go) now =
+    let g = F .guard k (callLine r e a b go) in
+    guarded g now
+    (cond (ltb (depth now) maxOpen)
+    (on (opening (functionAt ls go) go (g .opens) (goTo (suc k) (g .moves true (now .running .own)) now)))
+    (ends (TooManyOpen maxOpen) now))
+lineStepOf F ls k (backLine r e a b) now =
+    let g = F .guard k (backLine r e a b) in
+    guarded g now (moved (suc k) (g .moves true) now)
+lineStepOf F ls k (retLine e a) now =
+    let g = F .guard k (retLine e a) in
+    guarded g now (leavesOf F (goTo k (g .moves true (now .running .own)) now) (now .callers))
+
+-- "A hardened run does one line, or one return from place m, per step."
+unfoldable pub stepOf : {H : Type 0} → Form H → List Line → State H → Turn H
+stepOf F ls s =
+    let k = s .running .at in
+    cond (eqb k (finishOf ls (s .running .function))) (leavesOf F s (s .callers)) (lineStepOf F ls k (lineAt ls k) s)
+
+-- What may strike a run. "A jump .. is a step number k and a place: before step k (from 0) the running function goes to that
+-- place. k = 65,535 is no jump"
+abbrev pub strikeBy : (k place : ℕ) → Strike
+strikeBy k p = cond (eqb k noStep) None (Jump k p)
+
+-- "place i is before line i": the line of the running function's place, as a line number of the table
+abbrev pub placeLine : {H : Type 0} → List Line → (place : ℕ) → State H → ℕ
+placeLine ls p s = startOf ls (s .running .function) + p
+
+abbrev pub land : {H : Type 0} → List Line → (place : ℕ) → State H → Turn H
+land ls p s =
+    let m = lastPlace ls (s .running .function) in
+    cond (leb p m) (on (goTo (placeLine ls p s) (s .running .own) s)) (untaken (Beyond m) s)
+
+abbrev pub struck : {H : Type 0} → List Line → Strike → (k : ℕ) → State H → Turn H
+struck ls None k s = on s
+struck ls (Jump j p) k s = cond (eqb j k) (land ls p s) (on s)
+
+-- step k of a run that this strikes
+abbrev pub strikingStepOf : {H : Type 0} → Form H → List Line → Strike → (k : ℕ) → State H → Turn H
+strikingStepOf F ls j k s = next (struck ls j k s) (stepOf F ls)
+
+-- "A hardened run opens function 0 at line 0"
+abbrev pub startBy : {H : Type 0} → Form H → (vars : List ℕ) → State H
+startBy F vs = begin 0 (F .first) (F .nothing) vs
+
+abbrev pub runOf : {H : Type 0} → Form H → List Line → Strike → (budget : ℕ) → (vars : List ℕ) → Answer H
+runOf F ls j b vs = run (strikingStepOf F ls j) b 0 (startBy F vs)
