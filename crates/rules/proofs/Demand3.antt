@@ -11,9 +11,9 @@ use Rattle.rules.specs.Hardened.{counterForm}
 use Rattle.rules.specs.Demands.{DemandOf, Theorem}
 use Rattle.rules.proofs.Accepted.{Proper, proper}
 use Rattle.rules.proofs.Reading.{lines-of, hardened-source}
-use Rattle.rules.proofs.Forms.{demand-of}
-use Rattle.rules.proofs.CounterForm.{counterSettles}
-use Rattle.rules.proofs.CounterStrict.{counterStrict}
+use Rattle.rules.proofs.Form.Demand.{demand-of}
+use Rattle.rules.proofs.Counter.Settles.{counterSettles}
+use Rattle.rules.proofs.Counter.Strict.{counterStrict}
 
 -- the lines of a hardened table are those of the table that it is read back to
 pub hardened-lines : (lines : List ℕ) → isHardened lines ≡ true → harden (tableOf (sourceBytes lines)) ≡ linesIn lines

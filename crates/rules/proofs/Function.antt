@@ -20,7 +20,7 @@ use Rattle.rules.proofs.Logic.{clash, and-left, and-right, not-false}
 use Rattle.rules.proofs.Search.{Found, hit, miss, found, first-now}
 use Rattle.rules.proofs.Accepted.{Proper, outside-nil}
 use Rattle.rules.proofs.Scan.{origin, NotIn, gone-later, gone-after, by-close, not-closing, open-next}
-use Rattle.rules.proofs.Value.{Silent, a-function, no-kind, Held, takes-past}
+use Rattle.rules.proofs.Value.{Silent, a-function, no-kind, AllHeld, held, Held, takes-past}
 use Rattle.rules.proofs.Close.{end-is, closed-is}
 
 -- ---- the function's body is the last of the open parts, and no other part is a body
@@ -75,6 +75,13 @@ pub formed : (t : Table) → Proper t → (i : ℕ) → i ≤ length t → Forme
 unfolding openAt
 formed t ok zero h = tt
 formed t ok (suc i) h = formed-next t i (kindAt t i) (openAt t i) (ok .rows i h .placed) (formed t ok i (omega arith))
+
+-- an open part that has another around it was opened by an if or a loop, which takes `past` there
+pub part-takes : (t : Table) → Proper t → (i : ℕ) (f g : Open) (gs : List Open) (p : Part) → i < length t → openAt t i ≡ f ∷ g ∷ gs → takes (kindAt t (f .opener)) p ≡ past
+part-takes t ok i f g gs p l q =
+    let m : Held t i f (g ∷ gs) = (subst (AllHeld t i) q (held t i)) .0 in
+    let b : isBody (f .part) ≡ false = (subst (Formed t) q (formed t ok i (omega arith))) .0 in
+    held-takes t i f (g ∷ gs) p m b
 
 -- the row that opens the function that the parts stand in
 abbrev pub home : List Open → ℕ

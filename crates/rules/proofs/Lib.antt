@@ -1,5 +1,7 @@
+-- ---- small facts
 pub mod Logic
 pub mod Search
+-- ---- the table: its parts, values, lines and functions
 pub mod Scan
 pub mod Value
 pub mod Accepted
@@ -7,27 +9,12 @@ pub mod Close
 pub mod Harden
 pub mod Function
 pub mod Place
-pub mod Parts
-pub mod Settled
-pub mod Counters
-pub mod Unique
-pub mod Relation
-pub mod StepTest
-pub mod StepLeave
-pub mod StepOut
-pub mod StepCall
-pub mod Simulate
-pub mod Unstruck
-pub mod Finish
 pub mod Guard
-pub mod Where
-pub mod Struck
-pub mod Alarm
-pub mod Jump
-pub mod Forms
-pub mod Wide
-pub mod CounterForm
-pub mod CounterStrict
+-- ---- the forms in general
+pub mod Form
+-- ---- the counter form
+pub mod Counter
+-- ---- bounds, bytes and reading back
 pub mod ValueBound
 pub mod RegionBound
 pub mod FunctionLine
@@ -38,11 +25,12 @@ pub mod Encode
 pub mod ReadRow
 pub mod ReadBack
 pub mod Reading
+-- ---- the theorem and what the calls promise
 pub mod Calls
 pub mod TablePromise
 pub mod Demand3
-pub mod RunPromise
 pub mod Promise
+-- ---- by computation
 pub mod Instance
 pub mod Compute
 pub mod Cases

@@ -17,7 +17,7 @@ use Rattle.rules.specs.Calls.{HardenedRunning, hardenedVerdict, runHarde
 use Rattle.rules.specs.Promise.{HardenedPromise}
 use Rattle.rules.proofs.Calls.{no-zero, run-hardened-refused, run-hardened-number}
 use Rattle.rules.proofs.Reading.{ten-exactly}
-use Rattle.rules.proofs.RunPromise.{promised}
+use Rattle.rules.proofs.Form.Promise.{promised}
 use Rattle.rules.proofs.Demand3.{demand-3}
 
 -- a test that comes first and is refused with 10

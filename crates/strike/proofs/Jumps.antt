@@ -18,7 +18,7 @@ use Rattle.rules.specs.State.{goTo}
 use Rattle.rules.specs.Run.{Turn, on, untaken, next, after, run}
 use Rattle.rules.specs.Form.{Form}
 use Rattle.rules.specs.Hardened.{Counters, Hardened, counterForm, hardenedStep, placeLine, strikingStep, hardenedStart, hardenedRun}
-use Rattle.rules.proofs.Struck.{after-same, not-now, not-reached, over-same}
+use Rattle.rules.proofs.Form.Struck.{after-same, not-now, not-reached, over-same}
 use Rattle.machine.specs.Step.{Map, Parts, After, lastLine, stepOf}
 use Rattle.machine.specs.Run.{partsAt, stopsAfter, runOf}
 use Rattle.state.specs.Machine.{onward}

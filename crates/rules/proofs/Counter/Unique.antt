@@ -10,20 +10,13 @@ use lib.Dec.{eqb}
 use borrow.Author.Tests.{eqb-true}
 use Rattle.rules.specs.Row.{Table, kindAt}
 use Rattle.rules.specs.Scan.{Part, Open, pushes, shapeOf, openAt}
-use Rattle.rules.specs.Value.{inside, past, takes, value}
+use Rattle.rules.specs.Value.{inside, takes, value}
 use Rattle.rules.proofs.Logic.{Order, less, same, more, order}
 use Rattle.rules.proofs.Accepted.{Proper}
 use Rattle.rules.proofs.Scan.{origin}
 use Rattle.rules.proofs.Value.{AllHeld, held, Held, value-moves, value-pos}
-use Rattle.rules.proofs.Function.{isBody, held-takes, Formed, formed, not-silent}
-use Rattle.rules.proofs.Counters.{counterOf, holding}
-
--- an open part that has another around it was opened by an if or a loop, which takes `past` there
-pub part-takes : (t : Table) → Proper t → (i : ℕ) (f g : Open) (gs : List Open) (p : Part) → i < length t → openAt t i ≡ f ∷ g ∷ gs → takes (kindAt t (f .opener)) p ≡ past
-part-takes t ok i f g gs p l q =
-    let m : Held t i f (g ∷ gs) = (subst (AllHeld t i) q (held t i)) .0 in
-    let b : isBody (f .part) ≡ false = (subst (Formed t) q (formed t ok i (omega arith))) .0 in
-    held-takes t i f (g ∷ gs) p m b
+use Rattle.rules.proofs.Function.{part-takes, not-silent}
+use Rattle.rules.proofs.Counter.Counters.{counterOf, holding}
 
 module _ (t : Table) (ok : Proper t) (j : ℕ) (h : Open) (hs : List Open) (d : ℕ) (jl : j < length t) (l : openAt t j ≡ h ∷ hs) (b : d ≤ takes (kindAt t j) (h .part) - 1) where
   -- both in one region

@@ -15,12 +15,13 @@ use Rattle.rules.specs.Source.{Source, sourceStart}
 use Rattle.rules.specs.Form.{Form, startBy}
 use Rattle.rules.specs.Demands.{JumpedOf}
 use Rattle.rules.proofs.Accepted.{Proper}
-use Rattle.rules.proofs.Settled.{Settles}
-use Rattle.rules.proofs.Relation.{Related, both-on, both-end}
-use Rattle.rules.proofs.Simulate.{Next, moves, waits, next, start}
-use Rattle.rules.proofs.Struck as Strike
-use Rattle.rules.proofs.Struck.{Onward, goes-on, stops}
-use Rattle.rules.proofs.Alarm.{Strict, catches}
+use Rattle.rules.proofs.Form.Settles.{Settles}
+use Rattle.rules.proofs.Form.Relation.{Related, both-on, both-end}
+use Rattle.rules.proofs.Form.Simulate.{Next, moves, waits, next, start}
+use Rattle.rules.proofs.Form.Struck as Whole
+use Rattle.rules.proofs.Form.Struck.{Onward, goes-on, stops}
+use Rattle.rules.proofs.Form.Strict.{Strict}
+use Rattle.rules.proofs.Form.Alarm.{catches}
 
 -- what an unstruck run keeps to: it is related to some state of its source's run
 pub record Goes {H : Type 0} {t : Table} {F : Form H} (S : Settles t F) (h : State H) : Type 0 where
@@ -45,5 +46,5 @@ pub goes-start : (t : Table) → Proper t → {H : Type 0} {F : Form H} (S : Set
 goes-start t ok S vs = record { owed = 0; source = sourceStart vs; related = start t ok S vs }
 
 pub jumped : (t : Table) → Proper t → {H : Type 0} {F : Form H} (S : Settles t F) → Strict S → (vs : List ℕ) (b k p : ℕ) → JumpedOf F (harden t) vs b k p
-jumped t ok {F = F} S R vs b k p = Strike.jumped F (harden t) (Goes S) (onward t ok S) vs (goes-start t ok S vs) b k p
+jumped t ok {F = F} S R vs b k p = Whole.jumped F (harden t) (Goes S) (onward t ok S) vs (goes-start t ok S vs) b k p
     (λ s r l w. catches t ok S R (r .owed) (r .source) s (r .related) p l w)

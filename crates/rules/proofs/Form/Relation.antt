@@ -29,7 +29,7 @@ use Rattle.rules.proofs.Scan.{Chain, chain, body-least}
 use Rattle.rules.proofs.Harden.{line-at}
 use Rattle.rules.proofs.Function.{InFunction}
 use Rattle.rules.proofs.Place.{before-finish}
-use Rattle.rules.proofs.Settled.{Settles}
+use Rattle.rules.proofs.Form.Settles.{Settles}
 
 -- ---- a caller that waits: its function and the row of its call
 pub record Back : Type 0 where

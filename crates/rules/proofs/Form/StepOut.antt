@@ -25,9 +25,9 @@ use Rattle.rules.proofs.Scan.{Chain, chain, body-least, origin}
 use Rattle.rules.proofs.Value.{AllHeld, held}
 use Rattle.rules.proofs.Close.{end-is, closed-is}
 use Rattle.rules.proofs.Function.{held-takes, Formed, home, InFunction, move-to, formed-here, placed-in}
-use Rattle.rules.proofs.Settled.{Settles}
-use Rattle.rules.proofs.Parts.{loop-in}
-use Rattle.rules.proofs.Relation.{Back, src, hard, here, Linked, Both, both-on, source-step, line-step, body-below, ready-at}
+use Rattle.rules.proofs.Form.Settles.{Settles}
+use Rattle.rules.proofs.Form.Parts.{loop-in}
+use Rattle.rules.proofs.Form.Relation.{Back, src, hard, here, Linked, Both, both-on, source-step, line-step, body-below, ready-at}
 
 out-line : {H : Type 0} (F : Form H) (ls : List Line) (n k : ℕ) (c : H) (rest : List (Frame H)) (l : H) (vs tr : List ℕ) (r s t e a go : ℕ) → F .guard k (outLine r s t e a go) .passes c l ≡ true
     → lineStepOf F ls k (outLine r s t e a go) (hard n k c rest l vs tr) ≡ on (hard n go (F .guard k (outLine r s t e a go) .moves true c) rest l vs tr)

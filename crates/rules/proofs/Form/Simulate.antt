@@ -28,12 +28,12 @@ use Rattle.rules.proofs.Value.{Silent, a-function, fresh-value}
 use Rattle.rules.proofs.Harden.{line-at}
 use Rattle.rules.proofs.Function.{InFunction, entry, formed-here, placed-in, not-silent, not-unknown, function-zero, row-zero, some-function}
 use Rattle.rules.proofs.Place.{before-finish}
-use Rattle.rules.proofs.Settled.{Settles, bodyPart}
-use Rattle.rules.proofs.Relation.{Back, lineBacks, src, hard, here, Linked, Mode, ready, ticking, backing, due, Related, Both, owing, extra}
-use Rattle.rules.proofs.StepTest.{step-do, step-if, step-loop}
-use Rattle.rules.proofs.StepLeave.{step-else, step-end}
-use Rattle.rules.proofs.StepOut.{step-break, step-continue}
-use Rattle.rules.proofs.StepCall.{step-call, step-return, step-tick, step-back}
+use Rattle.rules.proofs.Form.Settles.{Settles, bodyPart}
+use Rattle.rules.proofs.Form.Relation.{Back, lineBacks, src, hard, here, Linked, Mode, ready, ticking, backing, due, Related, Both, owing, extra}
+use Rattle.rules.proofs.Form.StepTest.{step-do, step-if, step-loop}
+use Rattle.rules.proofs.Form.StepLeave.{step-else, step-end}
+use Rattle.rules.proofs.Form.StepOut.{step-break, step-continue}
+use Rattle.rules.proofs.Form.StepCall.{step-call, step-return, step-tick, step-back}
 
 -- ---- every row
 step-ready : (t : Table) (ok : Proper t) {H : Type 0} {F : Form H} (S : Settles t F) (n i : ℕ) (f : Open) (fs : List Open) → InFunction t n i f fs → (rest : List Back) → Linked t n rest → (l : H) (vs tr : List ℕ)

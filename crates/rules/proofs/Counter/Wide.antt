@@ -22,12 +22,12 @@ use Rattle.rules.proofs.Logic.{clash}
 use Rattle.rules.proofs.Accepted.{Proper}
 use Rattle.rules.proofs.Value.{AllHeld, held, Held, value-moves}
 use Rattle.rules.proofs.Harden.{line-at}
-use Rattle.rules.proofs.Function.{InFunction, function-end, body-is, not-past-end, not-silent}
-use Rattle.rules.proofs.Counters.{counterOf, counters, holding, at-region}
-use Rattle.rules.proofs.Unique.{part-takes, unique}
-use Rattle.rules.proofs.Relation.{body-below}
+use Rattle.rules.proofs.Function.{part-takes, InFunction, function-end, body-is, not-past-end, not-silent}
+use Rattle.rules.proofs.Counter.Counters.{counterOf, counters, holding, at-region}
+use Rattle.rules.proofs.Counter.Unique.{unique}
+use Rattle.rules.proofs.Form.Relation.{body-below}
 use Rattle.rules.proofs.Guard.{checksAt, checksFor, phaseOf, Guards}
-use Rattle.rules.proofs.Where.{Between, not-same, not-over-do, From, at-guard, before-do, Stands}
+use Rattle.rules.proofs.Form.Where.{Between, not-same, not-over-do, From, at-guard, before-do, Stands}
 
 -- the guard that the run stands before, or will after its do, is not across a guard
 pub own-guard : (t : Table) (i j k k′ ph e ph′ d : ℕ) → j < length t → i ≡ j → e ≡ d → k ≡ lineOf t i + ph → k′ ≡ lineOf t j + ph′ → From t i ph e → ph′ ≡ phaseOf (kindAt t j) d → Between (harden t) k k′ → ⊥

@@ -18,9 +18,9 @@ use Rattle.rules.specs.Form.{Form, strikingStepOf, startBy}
 use Rattle.rules.specs.Match.{Shown, shown, quietAt, matchingOf}
 use Rattle.rules.specs.Demands.{UnstruckOf}
 use Rattle.rules.proofs.Accepted.{Proper}
-use Rattle.rules.proofs.Settled.{Settles}
-use Rattle.rules.proofs.Relation.{Back, sourceBacks, lineBacks, Related, Same, both-on, both-end}
-use Rattle.rules.proofs.Simulate.{Next, moves, waits, next, start}
+use Rattle.rules.proofs.Form.Settles.{Settles}
+use Rattle.rules.proofs.Form.Relation.{Back, sourceBacks, lineBacks, Related, Same, both-on, both-end}
+use Rattle.rules.proofs.Form.Simulate.{Next, moves, waits, next, start}
 
 -- ---- the two machines, as a run takes them
 abbrev pub sourceMachine : Table → ℕ → Source → Turn (Unit {0})

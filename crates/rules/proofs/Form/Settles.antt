@@ -15,7 +15,7 @@ use Rattle.rules.specs.Harden.{lineOf, endValue}
 use Rattle.rules.specs.Form.{Form}
 use Rattle.rules.proofs.Scan.{Chain}
 use Rattle.rules.proofs.Function.{InFunction}
-use Rattle.rules.proofs.Parts.{holding}
+use Rattle.rules.proofs.Form.Parts.{holding}
 
 -- the body of function n
 abbrev pub bodyPart : Table → (n : ℕ) → Open

@@ -29,19 +29,12 @@ use Rattle.rules.proofs.Accepted.{Proper}
 use Rattle.rules.proofs.Harden.{line-at}
 use Rattle.rules.proofs.Function.{InFunction, formed-here}
 use Rattle.rules.proofs.Place.{start-finish, before-finish, line-of}
-use Rattle.rules.proofs.Settled.{Settles}
-use Rattle.rules.proofs.Relation.{Back, waiting, lineBacks, hard, Linked, Related, step-at}
+use Rattle.rules.proofs.Form.Settles.{Settles}
+use Rattle.rules.proofs.Form.Relation.{Back, waiting, lineBacks, hard, Linked, Related, step-at}
 use Rattle.rules.proofs.Guard.{Sort, a-do, a-guard, sort}
-use Rattle.rules.proofs.Struck.{landedAt, CaughtOf, at-once, one-later}
-use Rattle.rules.proofs.Where.{Between, up, down, between, Stands, stands}
-
--- ---- what a form owes: where the run stands, no guard across another passes, and no function has ended
-pub record Strict {H : Type 0} {t : Table} {F : Form H} (S : Settles t F) : Type 0 where
-  pub refuses : (n k w : ℕ) (f : Open) (fs : List Open) → Stands t n k w f fs → (k′ : ℕ) → startOf (harden t) n ≤ k′ → k′ < finishOf (harden t) n → isGuard (lineAt (harden t) k′) ≡ true
-      → Between (harden t) k k′ → (z : H) → F .guard k′ (lineAt (harden t) k′) .passes (S .at k (f ∷ fs) w) z ≡ false
-  pub not-back : (n k w : ℕ) (f : Open) (fs : List Open) → Stands t n k w f fs → {m i : ℕ} {g : Open} {gs : List Open} → InFunction t m i g gs → kindAt t i ≡ Call → operandsAt t i .n ≡ n
-      → (x : H) → F .guard (suc (lineOf t i)) (backOf t i (g ∷ gs) n) .passes x (S .at k (f ∷ fs) w) ≡ false
-  pub not-host : (k w : ℕ) (f : Open) (fs : List Open) → Stands t 0 k w f fs → F .ended (S .at k (f ∷ fs) w) ≡ false
+use Rattle.rules.proofs.Form.Struck.{landedAt, CaughtOf, at-once, one-later}
+use Rattle.rules.proofs.Form.Strict.{Strict}
+use Rattle.rules.proofs.Form.Where.{Between, up, down, between, Stands, stands}
 
 -- ---- a guard whose check fails
 check-fails : {H : Type 0} (F : Form H) (ls : List Line) (ℓ : Line) (n k : ℕ) (c : H) (rest : List (Frame H)) (l : H) (vs tr : List ℕ) → isGuard ℓ ≡ true

@@ -23,11 +23,10 @@ use Rattle.rules.proofs.Accepted.{Proper}
 use Rattle.rules.proofs.Scan.{Chain, chain, body-least, origin, open-next}
 use Rattle.rules.proofs.Value.{AllHeld, held, Held, moved-after, moved-value}
 use Rattle.rules.proofs.Close.{end-is, closed-is}
-use Rattle.rules.proofs.Function.{isBody, InFunction, move-to}
-use Rattle.rules.proofs.Settled.{Settles}
-use Rattle.rules.proofs.Parts.{holding}
-use Rattle.rules.proofs.Unique.{part-takes}
-use Rattle.rules.proofs.Relation.{Back, src, hard, here, Linked, Both, both-on, source-step, line-step, body-below, ready-at}
+use Rattle.rules.proofs.Function.{isBody, part-takes, InFunction, move-to}
+use Rattle.rules.proofs.Form.Settles.{Settles}
+use Rattle.rules.proofs.Form.Parts.{holding}
+use Rattle.rules.proofs.Form.Relation.{Back, src, hard, here, Linked, Both, both-on, source-step, line-step, body-below, ready-at}
 
 leave-line : {H : Type 0} (F : Form H) (ls : List Line) (n k : ℕ) (c : H) (rest : List (Frame H)) (l : H) (vs tr : List ℕ) (r s e a b go : ℕ) → F .guard k (leaveLine r s e a b go) .passes c l ≡ true
     → lineStepOf F ls k (leaveLine r s e a b go) (hard n k c rest l vs tr) ≡ on (hard n go (F .guard k (leaveLine r s e a b go) .moves true c) rest l vs tr)

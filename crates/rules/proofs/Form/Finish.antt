@@ -22,10 +22,10 @@ use Rattle.rules.specs.Form.{Form, stepOf, startBy, runOf}
 use Rattle.rules.specs.Match.{isDo, dosIn, callsIn}
 use Rattle.rules.specs.Demands.{FinishingOf}
 use Rattle.rules.proofs.Accepted.{Proper}
-use Rattle.rules.proofs.Settled.{Settles}
-use Rattle.rules.proofs.Relation.{Related, Both, both-on, both-end, extra}
-use Rattle.rules.proofs.Simulate.{extraAt, Next, moves, waits, next, start}
-use Rattle.rules.proofs.Unstruck.{sourceMachine, lineMachine}
+use Rattle.rules.proofs.Form.Settles.{Settles}
+use Rattle.rules.proofs.Form.Relation.{Related, Both, both-on, both-end, extra}
+use Rattle.rules.proofs.Form.Simulate.{extraAt, Next, moves, waits, next, start}
+use Rattle.rules.proofs.Form.Unstruck.{sourceMachine, lineMachine}
 
 -- the dos and the calls of the first b steps
 abbrev dos : Table → (b k : ℕ) → Source → ℕ

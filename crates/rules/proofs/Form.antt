@@ -1,0 +1,19 @@
+-- The forms in general: what a form owes, two sets of laws about one kind of line each (Settles, Strict), and demand 3 of every form that
+-- meets both (Demand).
+pub mod Parts
+pub mod Settles
+pub mod Relation
+pub mod StepTest
+pub mod StepLeave
+pub mod StepOut
+pub mod StepCall
+pub mod Simulate
+pub mod Unstruck
+pub mod Finish
+pub mod Where
+pub mod Strict
+pub mod Struck
+pub mod Alarm
+pub mod Jump
+pub mod Demand
+pub mod Promise
