@@ -10,6 +10,7 @@ pub mod Harden
 pub mod Function
 pub mod Place
 pub mod Guard
+pub mod Words
 -- ---- the forms in general
 pub mod Form
 -- ---- the counter form

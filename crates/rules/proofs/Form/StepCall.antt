@@ -30,7 +30,8 @@ use Rattle.rules.proofs.Value.{value-next, fresh-value}
 use Rattle.rules.proofs.Harden.{line-suc}
 use Rattle.rules.proofs.Function.{InFunction, move-to, entry, body-is, end-same, callee-known}
 use Rattle.rules.proofs.Place.{callee, ret-value}
-use Rattle.rules.proofs.Form.Settles.{Settles, bodyPart}
+use Rattle.rules.proofs.Words.{word-at}
+use Rattle.rules.proofs.Form.Settles.{Settles, bodyPart, is-tick, is-call}
 use Rattle.rules.proofs.Form.Relation.{Back, waiting, sourceBacks, lineBacks, backs-length, src, hard, here, Linked, ready, backing, Related, Both, both-on, both-end, owing, source-step, line-step, body-below, ready-at}
 
 -- ---- call
@@ -68,7 +69,7 @@ module _ (t : Table) (ok : Proper t) {H : Type 0} {F : Form H} (S : Settles t F)
   entered = F .guard (lineOf t i) calling .opens
 
   waits : left ≡ waiting S i
-  waits = S .call-moves _ f fs _ _ _ _ (body-below t m) ∙ ap (λ s. S .at (suc (lineOf t i)) s (valueIn t i s + 1)) (sym (m .open-is))
+  waits = S .steady-moves _ f fs _ _ _ (body-below t m) (omega (arith, word-at t ok m)) (omega (arith, word-at t ok m)) (is-call _ _) ∙ ap (λ s. S .at (suc (lineOf t i)) s (valueIn t i s + 1)) (sym (m .open-is))
 
   opened : Related S (suc (length rest)) (src called (suc (functionRow t called)) (record { function = n; row = i } ∷ rest) vs tr)
       (hard (functionAt (harden t) (lineOf t (suc (functionRow t called)))) (lineOf t (suc (functionRow t called))) entered
@@ -114,9 +115,9 @@ module _ (t : Table) (ok : Proper t) {H : Type 0} {F : Form H} (S : Settles t F)
 
       by : (y : Bool) → ltb (suc (length (sourceBacks rest))) maxOpen ≡ y → Both S (length rest + 1) (sourceStep t (src n i rest vs tr)) (stepOf F (harden t) (here S n i f fs rest l vs tr))
       by true ey = owing (omega arith) (both-on _ _ (row-is true ey)
-          (line-is ∙ call-line F (harden t) n _ _ (lineBacks S rest) l vs tr _ _ _ _ _ (S .call-passes _ f fs _ _ _ _ _ (body-below t m)) true (room true ey)) opened)
+          (line-is ∙ call-line F (harden t) n _ _ (lineBacks S rest) l vs tr _ _ _ _ _ (S .steady-passes _ f fs _ _ _ _ (body-below t m) (is-call _ _)) true (room true ey)) opened)
       by false ey = both-end (TooManyOpen maxOpen) _ _ (row-is false ey)
-          (line-is ∙ call-line F (harden t) n _ _ (lineBacks S rest) l vs tr _ _ _ _ _ (S .call-passes _ f fs _ _ _ _ _ (body-below t m)) false (room false ey))
+          (line-is ∙ call-line F (harden t) n _ _ (lineBacks S rest) l vs tr _ _ _ _ _ (S .steady-passes _ f fs _ _ _ _ (body-below t m) (is-call _ _)) false (room false ey))
           (record { n = n; i = i; k = lineOf t i; l = l; rest = rest; c = S .at (lineOf t i) (f ∷ fs) (value t (f .region) i); vs = vs; tr = tr; s-is = refl; h-is = refl })
           (inr refl) (λ x. not-finished x)
 
@@ -187,9 +188,9 @@ module _ (t : Table) (ok : Proper t) {H : Type 0} {F : Form H} (S : Settles t F)
   step-tick e = (
     _,
     line-step t ok S m (suc (lineOf t i)) 1 (tickLine (ownRegion (f ∷ fs)) (value t (f .region) i) (value t (f .region) i + 1)) (omega arith) (rw e (omega arith)) (rw e) _ _ l vs tr
-        ∙ tick-line F (harden t) n _ _ _ l vs tr _ _ _ (S .tick-passes _ f fs _ _ _ (body-below t m)),
+        ∙ tick-line F (harden t) n _ _ _ l vs tr _ _ _ (S .steady-passes _ f fs _ _ _ _ (body-below t m) is-tick),
     ready-at S (move-to t ok m (suc i) (m .within) (open-next t i e (m .open-is)) refl) rest lk (omega (arith, line-suc t i e)) (sym (value-next t i e (m .open-is))) l vs tr _
-        (S .tick-moves _ f fs _ _ (body-below t m)),
+        (S .steady-moves _ f fs _ _ _ (body-below t m) (omega (arith, word-at t ok m)) (omega (arith, word-at t ok m)) is-tick),
   )
 
   pub step-back : kindAt t i ≡ Call → S .seen l ≡ S .end (operandsAt t i .n)
@@ -201,5 +202,5 @@ module _ (t : Table) (ok : Proper t) {H : Type 0} {F : Form H} (S : Settles t F)
     line-step t ok S m (suc (lineOf t i)) 1 (backOf t i (f ∷ fs) (operandsAt t i .n)) (omega arith) (rw e (omega arith)) (rw e) _ _ l vs tr
         ∙ back-line F (harden t) n _ _ _ l vs tr _ _ _ _ (S .back-passes m e _ _ l (body-below t m) q),
     ready-at S (move-to t ok m (suc i) (m .within) (open-next t i e (m .open-is)) refl) rest lk (omega (arith, line-suc t i e)) (sym (value-next t i e (m .open-is))) l vs tr _
-        (S .back-moves _ f fs _ _ _ (body-below t m)),
+        (S .back-moves _ f fs _ _ _ (body-below t m) (omega (arith, word-at t ok m)) (omega (arith, word-at t ok m))),
   )

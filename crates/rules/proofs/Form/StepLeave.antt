@@ -24,6 +24,7 @@ use Rattle.rules.proofs.Scan.{Chain, chain, body-least, origin, open-ne
 use Rattle.rules.proofs.Value.{AllHeld, held, Held, moved-after, moved-value}
 use Rattle.rules.proofs.Close.{end-is, closed-is}
 use Rattle.rules.proofs.Function.{isBody, part-takes, InFunction, move-to}
+use Rattle.rules.proofs.Words.{word-of, region-in}
 use Rattle.rules.proofs.Form.Settles.{Settles}
 use Rattle.rules.proofs.Form.Parts.{holding}
 use Rattle.rules.proofs.Form.Relation.{Back, src, hard, here, Linked, Both, both-on, source-step, line-step, body-below, ready-at}
@@ -51,13 +52,15 @@ module _ (t : Table) (ok : Proper t) {H : Type 0} {F : Form H} (S : Settles t F)
   leave-to : (k : Kind) (j a : ℕ) → kindAt t i ≡ k → j ≤ length t → openAt t j ≡ h ∷ hs → a ≡ value t (h .region) j → lineCount k ≡ 1
       → lineAt (rowLines t i (f ∷ h ∷ hs) k) 0 ≡ leaveLine (f .region - bodyRegion (h ∷ hs)) (h .region - bodyRegion (h ∷ hs)) (value t (f .region) i) a (holding t f (h ∷ hs)) (lineOf t j)
       → rowStep t i (f ∷ h ∷ hs) k (src n i rest vs tr) ≡ on (src n j rest vs tr) → Step
-  unfolding lower
+  unfolding lower part
   leave-to k j a e jl q av one ln sr =
       let zh : bodyRegion (h ∷ hs) ≤ h .region = body-least (f .region) h hs lower in
+      let h-in : h .region ≤ length t = omega (arith, lower .0, region-in t m) in
       both-on _ _ (source-step t n i rest vs tr e (m .open-is) ∙ sr)
       (line-step t ok S m (lineOf t i) 0 _ (omega arith) (rw e (omega arith)) (ap (λ x. lineAt (rowLines t i (f ∷ h ∷ hs) x) 0) e ∙ ln) _ _ l vs tr
       ∙ leave-line F (harden t) n _ _ _ l vs tr _ _ _ _ _ _ (S .leave-passes _ f h hs _ _ _ _ zh lower))
-      (ready-at S (move-to t ok m j jl q refl) rest lk refl av l vs tr _ (S .leave-moves _ f h hs _ a _ zh lower))
+      (ready-at S (move-to t ok m j jl q refl) rest lk refl av l vs tr _ (S .leave-moves _ f h hs _ a _ zh lower
+      (omega (arith, word-of t ok (h .region) (f .opener) h-in (omega (arith, part .before, m .within)))) (omega (arith, av, word-of t ok (h .region) j h-in jl))))
 
   pub step-else : kindAt t i ≡ Else → Step
   unfolding rowStep rowLines part

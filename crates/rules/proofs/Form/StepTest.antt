@@ -26,6 +26,7 @@ use Rattle.rules.proofs.Value.{fresh-value}
 use Rattle.rules.proofs.Close.{end-is, closed-is, else-is}
 use Rattle.rules.proofs.Harden.{line-suc}
 use Rattle.rules.proofs.Function.{InFunction, move-to}
+use Rattle.rules.proofs.Words.{word-base, word-at}
 use Rattle.rules.proofs.Form.Settles.{Settles}
 use Rattle.rules.proofs.Form.Relation.{Back, lineBacks, src, hard, here, Linked, ticking, Related, Both, both-on, source-step, line-step, body-below, ready-at}
 
@@ -78,7 +79,8 @@ module _ (t : Table) (ok : Proper t) {H : Type 0} {F : Form H} (S : Settles t F)
   test-true k p e sh one u c go =
       let q : openAt t (suc i) ≡ record { part = p; opener = i; region = regions t i } ∷ f ∷ fs = open-next t i e (m .open-is) ∙ ap (λ x. openAfter x i (regions t i) (f ∷ fs)) sh in
       ready-at S (move-to t ok m (suc i) (m .within) q refl) rest lk (omega (arith, line-suc t i e)) (sym (fresh-value t i)) l vs tr _
-      (S .test-true (lineOf t i) f (record { part = p; opener = i; region = regions t i }) fs _ _ _ _ _ _ _ (body-below t m) (omega (arith, above .0, body-below t m)) refl)
+      (S .test-true (lineOf t i) f (record { part = p; opener = i; region = regions t i }) fs _ _ _ _ _ _ _ (body-below t m) (omega (arith, above .0, body-below t m)) refl
+      (omega (arith, word-at t ok m)) (omega (arith, word-at t ok m)) (word-base t ok i (omega (arith, m .within))))
 
   -- false: past the end of what this row opens
   test-past : (k : Kind) (p : Part) → kindAt t i ≡ k → shapeOf k ≡ pushes p → takes k (f .part) ≡ past
@@ -89,7 +91,7 @@ module _ (t : Table) (ok : Proper t) {H : Type 0} {F : Form H} (S : Settles t F)
       let v : value t (f .region) (suc (endOf t i)) ≡ value t (f .region) i + past
       = cl .moved-on f fs (m .open-is) ∙ ap (λ x. value t (f .region) i + takes x (f .part)) e ∙ ap (λ x. value t (f .region) i + x) tp in
       ready-at S (move-to t ok m (suc (endOf t i)) (en .inside) (cl .open-after ∙ m .open-is) refl) rest lk refl (sym v) l vs tr _
-      (S .test-past (lineOf t i) f fs _ _ _ _ _ _ _ (body-below t m))
+      (S .test-past (lineOf t i) f fs _ _ _ _ _ _ _ (body-below t m) (omega (arith, word-at t ok m)) (omega (arith, word-at t ok m)))
 
   -- false: to the else part
   test-else : hasElse t i ≡ true
@@ -102,7 +104,8 @@ module _ (t : Table) (ok : Proper t) {H : Type 0} {F : Form H} (S : Settles t F)
       = tu .open-after ∙ ap (λ y. record { part = tu .part; opener = i; region = regions t (elseOf t i) } ∷ y) (m .open-is) in
       let ch = subst (Chain (regions t (suc (elseOf t i)))) q (chain t (suc (elseOf t i))) in
       ready-at S (move-to t ok m (suc (elseOf t i)) lt q refl) rest lk refl (sym (fresh-value t (elseOf t i))) l vs tr _
-      (S .test-else (lineOf t i) f (record { part = tu .part; opener = i; region = regions t (elseOf t i) }) fs _ _ _ _ _ _ _ (body-below t m) (omega (arith, ch .1 .0, body-below t m)) refl)
+      (S .test-else (lineOf t i) f (record { part = tu .part; opener = i; region = regions t (elseOf t i) }) fs _ _ _ _ _ _ _ (body-below t m) (omega (arith, ch .1 .0, body-below t m)) refl (λ e. omega (arith, ch .1 .0))
+      (omega (arith, word-at t ok m)) (omega (arith, word-at t ok m)) (word-base t ok (elseOf t i) (omega arith)))
 
   at-test : (k : Kind) (b : Bool) → kindAt t i ≡ k → lineCount k ≡ 1 → lineAt (rowLines t i (f ∷ fs) k) 0 ≡ testOf t i (f ∷ fs) b
       → stepOf F (harden t) (here S n i f fs rest l vs tr) ≡ lineStepOf F (harden t) (lineOf t i) (testOf t i (f ∷ fs) b) (here S n i f fs rest l vs tr)
