@@ -18,6 +18,8 @@
 -- first k steps left, with the do at that place, if one stands there, done on them once.
 --
 -- The "source's run" is that of the table which the bytes are read back to.
+--
+-- Each part is said of any form of hardened lines; `Demand3` and `Theorem` are about the counter form, whose bytes are 01's.
 use Prim.Native.Nat.{ℕ, suc, _+_, _≤_, _<_}
 use mathlib.Core.Logic.{_≢_}
 use mathlib.Core.Path.{_≡_}
@@ -35,7 +37,7 @@ use Rattle.rules.specs.State.{State, did, depth}
 use Rattle.rules.specs.Run.{Answer, outcomeOf}
 use Rattle.rules.specs.Source.{sourceRun}
 use Rattle.rules.specs.Form.{Form, strikeBy, placeLine, runOf}
-use Rattle.rules.specs.Hardened.{Counters, counterForm}
+use Rattle.rules.specs.Hardened.{counterForm}
 use Rattle.rules.specs.Match.{shown, matchingOf, dosIn, callsIn, guardBetween}
 
 -- ---- unstruck
@@ -126,13 +128,7 @@ pub record DemandOf {H : Type 0} (F : Form H) (ls : List Line) (t : Table) (vars
   pub finishing : (c : ℕ) → FinishingOf F ls t vars budget c
   pub jumped : JumpedOf F ls vars budget k place
 
--- ---- of the counter form
-abbrev pub before : List Line → (vs : List ℕ) → (k : ℕ) → Answer Counters
-before ls vs k = beforeOf (counterForm ls) ls vs k
-
-abbrev pub strikes : List Line → (vs : List ℕ) → (b k : ℕ) → Bool
-strikes ls vs b k = strikesOf (counterForm ls) ls vs b k
-
+-- ---- of a hardened table of the counter form
 abbrev pub Demand3 : (lines vars : List ℕ) (budget k place : ℕ) → Type 0
 Demand3 lines vars budget k place =
     DemandOf (counterForm (linesIn lines)) (linesIn lines) (tableOf (sourceBytes lines)) vars budget k place

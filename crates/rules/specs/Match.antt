@@ -15,7 +15,6 @@ use Rattle.rules.specs.State.{State, openFunctions}
 use Rattle.rules.specs.Run.{Answer, outcomeOf, tally}
 use Rattle.rules.specs.Source.{sourceStep, sourceStart}
 use Rattle.rules.specs.Form.{Form, strikingStepOf, startBy, runOf}
-use Rattle.rules.specs.Hardened.{counterForm}
 
 -- what demand 3 compares of a hardened and a source run
 pub record Shown : Type 0 where
@@ -51,9 +50,6 @@ quietAt ls s =
 -- "Matching step: hardened steps less the ticks and backs done."
 unfoldable pub matchingOf : {H : Type 0} → Form H → List Line → (budget : ℕ) → (vars : List ℕ) → ℕ
 matchingOf F ls b vs = (runOf F ls None b vs) .steps - tally (quietAt ls) (strikingStepOf F ls None) b 0 (startBy F vs)
-
-abbrev pub matching : List Line → (budget : ℕ) → (vars : List ℕ) → ℕ
-matching ls b vs = matchingOf (counterForm ls) ls b vs
 
 -- "a source run that finishes in n steps with t dos and c calls": those among its first b steps
 abbrev pub isDo : Kind → Bool
