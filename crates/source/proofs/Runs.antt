@@ -19,7 +19,8 @@ use Rattle.rules.specs.Calls.{over, running}
 use Rattle.state.specs.declared.machine.Registers.{Registers}
 use Rattle.state.specs.declared.machine.Machine.{Machine}
 use Rattle.state.specs.declared.machine.Stopped.{Stopped}
-use Rattle.state.specs.Machine.{stoppedAt, registersAt, onward, firstRegisters, Begun, ranOf}
+use Rattle.state.specs.Machine.{stoppedAt, registersAt, onward, firstRegisters, begunAt, ranOf}
+use Rattle.state.proofs.Begun.{begins}
 use Rattle.state.proofs.Ends.{IsEnd}
 use Rattle.source.specs.Goes.{Known}
 use Rattle.source.specs.Step.{CanStep, Parts, After, stepOf, partsOf}
@@ -160,15 +161,15 @@ module _ {bs goes : List ℕ} (k : Known bs goes) {budget left : ℕ} {start p :
       })
 
 -- ---- the whole run
-pub starts : {bs slots vs : List ℕ} {budget : ℕ} {m : Machine} → verdictOf bs ≡ Accepted → budget ≤ length slots → budget < 65536 → Begun m 1 vs
+pub starts : {bs slots vs : List ℕ} {budget : ℕ} {m : Machine} → verdictOf bs ≡ Accepted → budget ≤ length slots → budget < 65536 → m ≡ begunAt 1 vs
     → Going bs budget (partsIn m slots)
 starts {bs} {slots} {vs} {budget} {m} a h l b =
-    subst (λ x. Going bs budget (partsOf x (m .resumes) (m .functions) (m .variables) slots)) (sym (b .registers-are))
+    subst (λ x. Going bs budget (partsOf x (m .resumes) (m .functions) (m .variables) slots)) (sym (begins b .registers-are))
     (record {
       fits = record {
         deep = omega arith;
-        resumes-are = b .resumes-are;
-        functions-are = b .functions-are;
+        resumes-are = begins b .resumes-are;
+        functions-are = begins b .functions-are;
         here = first-inside bs a;
         waiting = λ d x. absurd (let z : ⊥ = omega arith in z);
       };
@@ -178,12 +179,12 @@ starts {bs} {slots} {vs} {budget} {m} a h l b =
     })
 
 -- the run from there is the source's
-first-run : (bs vs held : List ℕ) (budget : ℕ) (m : Machine) → Begun m 1 vs → runFrom (tableOf bs) budget (partsIn m held) ≡ sourceRun (tableOf bs) budget vs
+first-run : (bs vs held : List ℕ) (budget : ℕ) (m : Machine) → m ≡ begunAt 1 vs → runFrom (tableOf bs) budget (partsIn m held) ≡ sourceRun (tableOf bs) budget vs
 first-run bs vs held budget m b =
-    ap (λ x. runFrom (tableOf bs) budget (partsOf x (m .resumes) (m .functions) (m .variables) held)) (b .registers-are)
-    ∙ ap (λ x. runFrom (tableOf bs) budget (partsOf (firstRegisters 1) (m .resumes) (m .functions) x held)) (b .vars-are)
+    ap (λ x. runFrom (tableOf bs) budget (partsOf x (m .resumes) (m .functions) (m .variables) held)) (begins b .registers-are)
+    ∙ ap (λ x. runFrom (tableOf bs) budget (partsOf (firstRegisters 1) (m .resumes) (m .functions) x held)) (begins b .vars-are)
 
-pub answers : (bs slots vs held : List ℕ) (budget : ℕ) (m : Machine) (x : Stopped) (r : Ran) → Begun m 1 vs → Ended bs budget (partsIn m held) (stoppedWith x slots) → r ≡ ranOf x
+pub answers : (bs slots vs held : List ℕ) (budget : ℕ) (m : Machine) (x : Stopped) (r : Ran) → m ≡ begunAt 1 vs → Ended bs budget (partsIn m held) (stoppedWith x slots) → r ≡ ranOf x
     → ranWith r slots ≡ running Accepted (sourceRun (tableOf bs) budget vs) vs held
 unfolding running
 answers bs slots vs held budget m x r b e q =

@@ -2,7 +2,7 @@
 use Prim.Native.Nat.{ℕ, _+_, _<_}
 use mathlib.Core.Path.{_≡_}
 use mathlib.Core.List.{List}
-use lib.ListN.{length, set}
+use lib.ListN.{length, set, replicate}
 use Rattle.rules.specs.declared.answer.Ran.{Ran}
 use Rattle.rules.specs.declared.operands.Operands.{Operands}
 use Rattle.rules.specs.declared.step.Step.{Step}
@@ -84,11 +84,14 @@ machineAt m k =
 abbrev pub firstRegisters : (at : ℕ) → Registers
 firstRegisters k = record { depth = 0; function = 0; at = k; last = 0; steps = 0; traced = 0 }
 
-pub record Begun (m : Machine) (at : ℕ) (vars : List ℕ) : Type 0 where
-  pub registers-are : m .registers ≡ firstRegisters at
-  pub vars-are : m .variables ≡ vars
-  pub resumes-are : length (m .resumes) ≡ maxOpen
-  pub functions-are : length (m .functions) ≡ maxOpen
+abbrev pub begunAt : (at : ℕ) → (vars : List ℕ) → Machine
+begunAt k vs =
+    record {
+      resumes = replicate maxOpen 0;
+      functions = replicate maxOpen 0;
+      variables = vs;
+      registers = firstRegisters k;
+    }
 
 -- what an accepted run answers
 abbrev pub ranOf : Stopped → Ran

@@ -1,6 +1,6 @@
 // The machine of a run: what it keeps beside the trace slots, and a hardened run's counters, that it is lent.
 ghost use mathlib.Core.Path.{_≡_};
-ghost use Rattle.state.specs.Machine.{registersAt, moved, stoppedAt, machineAt, Begun};
+ghost use Rattle.state.specs.Machine.{registersAt, moved, stoppedAt, machineAt, begunAt};
 use rules::limits::OPEN;
 use rules::limits::VARIABLES;
 use rules::step::Step;
@@ -79,7 +79,7 @@ pub fn standing(h: Registers, at: u16, steps: u16) -> Registers
 
 // The machine that a run starts in: function 0 alone is open, at its first row or line.
 pub fn begun(at: u16, variables: [u16; VARIABLES]) -> Machine
-    ensures { λ r. ⌜ Begun r at variables ⌝ }
+    ensures { λ r. ⌜ r ≡ begunAt at variables ⌝ }
 {
     let resumes = [0; OPEN];
     let functions = [0; OPEN];

@@ -18,7 +18,8 @@ use Rattle.guard.specs.Counters.{freshAt}
 use Rattle.machine.specs.Step.{Map, partsOf}
 use Rattle.machine.specs.Run.{partsIn, stoppedWith}
 use Rattle.machine.specs.Stands.{Own, Sound, Ready, Stands, Going}
-use Rattle.state.specs.Machine.{firstRegisters, Begun, ranOf}
+use Rattle.state.specs.Machine.{firstRegisters, begunAt, ranOf}
+use Rattle.state.proofs.Begun.{begins}
 use Rattle.strike.specs.Struck.{struckOf, ranWith, acceptedRun}
 use Rattle.guard.proofs.Zeroed.{length-zeros, length-zeroed}
 use Rattle.machine.proofs.Own.{own-fresh}
@@ -41,21 +42,21 @@ stands-first ls so ks fs vs ws tr a b c o =
       traces = record { slots-are = refl; traced-is = refl };
     }
 
-module _ (bs vs ws tr : List ℕ) (x : Machine) (so : Sound (linesIn bs)) (bg : Begun x 0 vs) (long : length ws ≡ 1024) (b : ℕ) (h : b ≤ length tr) (few : b ≤ 65535) where
+module _ (bs vs ws tr : List ℕ) (x : Machine) (so : Sound (linesIn bs)) (bg : x ≡ begunAt 0 vs) (long : length ws ≡ 1024) (b : ℕ) (h : b ≤ length tr) (few : b ≤ 65535) where
   fresh-long : length (freshAt ws 0 1) ≡ 1024
   fresh-long = simp length-set (length-zeroed ws 0 64 (omega arith) ∙ long)
 
   pub stands-start : Stands (linesIn bs) tr (partsIn x (freshAt ws 0 1) tr) (hardenedStart vs)
   stands-start =
-      subst (λ y. Stands (linesIn bs) tr (partsOf y (x .resumes) (x .functions) (x .variables) (freshAt ws 0 1) tr) (hardenedStart vs)) (sym (bg .registers-are))
-      (subst (λ y. Stands (linesIn bs) tr (partsOf (firstRegisters 0) (x .resumes) (x .functions) y (freshAt ws 0 1) tr) (hardenedStart vs)) (sym (bg .vars-are))
-      (stands-first (linesIn bs) so (x .resumes) (x .functions) vs (freshAt ws 0 1) tr (bg .resumes-are) (bg .functions-are) fresh-long (own-fresh ws 0 1 (omega arith))))
+      subst (λ y. Stands (linesIn bs) tr (partsOf y (x .resumes) (x .functions) (x .variables) (freshAt ws 0 1) tr) (hardenedStart vs)) (sym (begins bg .registers-are))
+      (subst (λ y. Stands (linesIn bs) tr (partsOf (firstRegisters 0) (x .resumes) (x .functions) y (freshAt ws 0 1) tr) (hardenedStart vs)) (sym (begins bg .vars-are))
+      (stands-first (linesIn bs) so (x .resumes) (x .functions) vs (freshAt ws 0 1) tr (begins bg .resumes-are) (begins bg .functions-are) fresh-long (own-fresh ws 0 1 (omega arith))))
 
   no-steps : x .registers .steps ≡ 0
-  no-steps = ap (λ y. y .steps) (bg .registers-are)
+  no-steps = ap (λ y. y .steps) (begins bg .registers-are)
 
   none-traced : x .registers .traced ≡ 0
-  none-traced = ap (λ y. y .traced) (bg .registers-are)
+  none-traced = ap (λ y. y .traced) (begins bg .registers-are)
 
   pub going-start : Going (linesIn bs) b (partsIn x (freshAt ws 0 1) tr)
   going-start =
@@ -74,7 +75,7 @@ all-same : (o o′ n n′ t t′ : ℕ) (vs vs′ tr tr′ ws ws′ : List ℕ) 
     ≡ ranWith (record { number = 0; outcome = o′; steps = n′; traced = t′; variables = vs′ }) tr′ ws′
 all-same o o′ n n′ t t′ vs vs′ tr tr′ ws ws′ a b c d e f = rw (a, b, c, d, e, f)
 
-pub answer-is : (bs : List ℕ) (m : Map) → Ready bs m → (vs ws tr : List ℕ) (b : ℕ) (j : Strike) (x : Machine) → Begun x 0 vs → length ws ≡ 1024 → b ≤ length tr → b ≤ 65535
+pub answer-is : (bs : List ℕ) (m : Map) → Ready bs m → (vs ws tr : List ℕ) (b : ℕ) (j : Strike) (x : Machine) → x ≡ begunAt 0 vs → length ws ≡ 1024 → b ≤ length tr → b ≤ 65535
     → (y : Stopped) (ws′ tr′ : List ℕ) → stoppedWith y ws′ tr′ ≡ struckOf bs m b j (partsIn x (freshAt ws 0 1) tr)
     → (r : Ran) → r ≡ ranOf y → (ws″ : List ℕ) → ws″ ≡ zeros 1024 → ranWith r tr′ ws″ ≡ acceptedRun bs vs b j tr (zeros 1024)
 unfolding running
@@ -82,7 +83,7 @@ answer-is bs m rd vs ws tr b j x bg long h few y ws′ tr′ e r q ws″ z =
     let st = stands-start bs vs ws tr x (rd .sound) bg long b h few in
     let w : Ended (linesIn bs) tr (stoppedWith y ws′ tr′) (hardenedRun (linesIn bs) j b vs) =
     subst (λ a. Ended (linesIn bs) tr a (hardenedRun (linesIn bs) j b vs)) (sym e)
-    (whole-agrees bs m rd tr vs b (partsIn x (freshAt ws 0 1) tr) st (ap (λ y. y .steps) (bg .registers-are)) (ap (λ y. y .traced) (bg .registers-are)) h j) in
+    (whole-agrees bs m rd tr vs b (partsIn x (freshAt ws 0 1) tr) st (ap (λ y. y .steps) (begins bg .registers-are)) (ap (λ y. y .traced) (begins bg .registers-are)) h j) in
     ap (λ a. ranWith a tr′ ws″) q
     ∙ all-same _ _ _ _ _ _ _ _ _ _ _ _ (ap outcomeOf (w .step-is)) (w .steps-are) (w .traces .traced-is) (w .vars-are) (w .traces .slots-are) z
 
