@@ -1,3 +1,4 @@
+pub mod Limits
 pub mod Once
 pub mod Linking
 pub mod Verdicts

@@ -16,6 +16,7 @@ use Rattle.rules.specs.Scan.{Open, regions}
 use Rattle.rules.specs.Check.{isThen}
 use Rattle.rows.specs.First.{firstKind}
 use Rattle.walk.specs.Standing.{hasLoop, Inside}
+use Rattle.walk.specs.Limit.{NoRegion, Full}
 use Rattle.walk.specs.Walked.{TurnedAway, Before, thenOf, seqRows, stepRows, restRows, SeqOk, StepOk, RestOk}
 use Rattle.walk.specs.declared.answer.Seq.{Seq}
 use Rattle.walk.specs.declared.answer.Seq.the-variants.{Broken, AtEnd, AtElse}
@@ -24,7 +25,7 @@ use Rattle.walk.specs.declared.answer.Step.the-variants.{Faulty, Past, E
 use Rattle.walk.specs.declared.answer.Rest.{Rest}
 use Rattle.walk.specs.declared.answer.Rest.the-variants.{Torn, Rows}
 use Rattle.rows.proofs.Rows.{rest-all, drops}
-use Rattle.walk.proofs.Stepping.{elseOf, loopOf, inside-at, inside-if, inside-loop, inside-else, inside-close, if-deep, if-many, loop-deep, loop-many, else-many, else-misplaced}
+use Rattle.walk.proofs.Stepping.{elseOf, loopOf, inside-at, inside-if, inside-loop, inside-else, inside-close, if-full, loop-full, else-full, else-misplaced}
 use Rattle.walk.proofs.Constructs.{faulty}
 
 -- what a sequence over `&xs[a..]` says, said of the bytes from a on and of an answer by name
@@ -51,21 +52,18 @@ closes xs i k fit w p z =
     refl
 
 -- ---- an if
-module _ {xs : List ℕ} {base d o : ℕ} {b : Bool} {e l : List ℕ} (long : 5 < length xs) (q : firstKind xs ≡ If) where
-  pub if-too-deep : 16 ≤ d → StepOk xs base d o b e l e l (Faulty TooManyParts)
-  if-too-deep a = faulty long (λ bs h hs n w. if-deep w long q a)
+module _ {xs : List ℕ} {base d o : ℕ} {b : Bool} {e l : List ℕ} {f : Bool} (long : 5 < length xs) (q : firstKind xs ≡ If) (u : Full d o f) where
+  pub if-over : f ≡ true → StepOk xs base d o b e l e l (Faulty TooManyParts)
+  if-over t = faulty long (λ bs h hs n w. if-full w long q (sym (u .is) ∙ t))
 
-  pub if-too-many : 64 ≤ o → StepOk xs base d o b e l e l (Faulty TooManyParts)
-  if-too-many a = faulty long (λ bs h hs n w. if-many w long q a)
-
-  module _ {l' e' l'' : List ℕ} {r : Seq} (a : d < 16) (c : o < 64) (y : l' ≡ set l base 0)
+  module _ {l' e' l'' : List ℕ} {r : Seq} (t : f ≡ false) (y : l' ≡ set l base 0)
       (ok : SeqOk (take (length xs - 6) (drop 6 xs)) (base + 1) (d + 1) (o + 1) b e l' e' l'' r) where
     -- the then part
     enters : {bs : List ℕ} {h : Open} {hs : List Open} {n : ℕ} → Inside bs xs base h hs d o b n e l
         → Inside bs (drop 6 xs) (base + 1) (thenOf base (regions (tableOf bs) base)) (h ∷ hs) (d + 1) (o + 1) b n e l'
-    enters w = rw y (inside-at (inside-if w long q a c) refl (sym (add-one base)) (sym (add-one d)) (sym (add-one o)))
+    enters w = rw y (inside-at (inside-if w long q (sym (u .is) ∙ t)) refl (sym (add-one base)) (sym (add-one d)) (sym (add-one o)))
 
-    pub if-broken : {f : Refusal} → r ≡ Broken f → StepOk xs base d o b e l e' l'' (Faulty f)
+    pub if-broken : {c : Refusal} → r ≡ Broken c → StepOk xs base d o b e l e' l'' (Faulty c)
     if-broken m = let s = seq-at xs 6 ok m in faulty long (λ bs h hs n w. s .leads bs _ (h ∷ hs) n (enters w))
 
     pub if-ended : {k o' : ℕ} {e'' : List ℕ} → r ≡ AtEnd k o' → e'' ≡ set e' base (base + 1 + k) → StepOk xs base d o b e l e'' l'' (Past (k + 2) o')
@@ -86,7 +84,7 @@ module _ {xs : List ℕ} {base d o : ℕ} {b : Bool} {e l : List ℕ} (long : 5 
           let z : 6 + 6 * k ≡ 6 * (k + 1) = omega arith in
           rw (← drops xs 6 (6 * k) (6 * (k + 1)) z) s
 
-      pub rest-torn : {f : Refusal} → r' ≡ Torn f → StepOk xs base d o b e l e'' l''' (Faulty f)
+      pub rest-torn : {c : Refusal} → r' ≡ Torn c → StepOk xs base d o b e l e'' l''' (Faulty c)
       rest-torn m' = let s = rest-at xs (6 * (k + 1)) ok' m' in faulty long (λ bs h hs n w. s .leads bs _ h hs n (reaches w))
 
       pub rest-rows : {j o'' : ℕ} → r' ≡ Rows j o'' → StepOk xs base d o b e l e'' l''' (Past (k + 1 + j) o'')
@@ -104,17 +102,17 @@ torn : {xs : List ℕ} {row base d o : ℕ} {b : Bool} {e l e' l' : List ℕ} {c
 unfolding restRows
 torn long f = record { fit = omega arith; leads = f }
 
-module _ {xs : List ℕ} {row base : ℕ} (d : ℕ) {o : ℕ} {b : Bool} {e l : List ℕ} (long : 5 < length xs) where
-  pub else-too-many : 64 ≤ o → RestOk xs row base d o b e l e l (Torn TooManyParts)
-  else-too-many a = torn long (λ bs g h hs n w. else-many (w .here) long (w .kind-is) a)
+module _ {xs : List ℕ} {row base : ℕ} (d : ℕ) {o : ℕ} {b : Bool} {e l : List ℕ} {f : Bool} (long : 5 < length xs) (u : NoRegion o f) where
+  pub else-over : f ≡ true → RestOk xs row base d o b e l e l (Torn TooManyParts)
+  else-over t = torn long (λ bs g h hs n w. else-full (w .here) long (w .kind-is) (sym (u .is) ∙ t))
 
-  module _ {l' e' l'' : List ℕ} {r : Seq} (c : o < 64) (y : l' ≡ set l base row)
+  module _ {l' e' l'' : List ℕ} {r : Seq} (t : f ≡ false) (y : l' ≡ set l base row)
       (ok : SeqOk (take (length xs - 6) (drop 6 xs)) (row + 1) (d + 1) (o + 1) b e l' e' l'' r) where
     turns : {bs : List ℕ} {g : ℕ} {h : Open} {hs : List Open} {n : ℕ} → Before Else bs xs row (thenOf base g) (h ∷ hs) (d + 1) o b n e l
         → Inside bs (drop 6 xs) (row + 1) (elseOf base (regions (tableOf bs) row)) (h ∷ hs) (d + 1) (o + 1) b n e l'
-    turns w = rw y (inside-at (inside-else (w .here) long (w .kind-is) c) refl (sym (add-one row)) refl (sym (add-one o)))
+    turns w = rw y (inside-at (inside-else (w .here) long (w .kind-is) (sym (u .is) ∙ t)) refl (sym (add-one row)) refl (sym (add-one o)))
 
-    pub else-broken : {f : Refusal} → r ≡ Broken f → RestOk xs row base d o b e l e' l'' (Torn f)
+    pub else-broken : {c : Refusal} → r ≡ Broken c → RestOk xs row base d o b e l e' l'' (Torn c)
     else-broken m = let s = seq-at xs 6 ok m in torn long (λ bs g h hs n w. s .leads bs _ (h ∷ hs) n (turns w))
 
     pub else-twice : {k o' : ℕ} → r ≡ AtElse k o' → RestOk xs row base d o b e l e' l'' (Torn Misplaced)
@@ -131,20 +129,17 @@ module _ {xs : List ℕ} {row base : ℕ} (d : ℕ) {o : ℕ} {b : Bool} {e l : 
     })
 
 -- ---- a loop
-module _ {xs : List ℕ} {base d o : ℕ} {b : Bool} {e l : List ℕ} (long : 5 < length xs) (q : firstKind xs ≡ Loop) where
-  pub loop-too-deep : 16 ≤ d → StepOk xs base d o b e l e l (Faulty TooManyParts)
-  loop-too-deep a = faulty long (λ bs h hs n w. loop-deep w long q a)
+module _ {xs : List ℕ} {base d o : ℕ} {b : Bool} {e l : List ℕ} {f : Bool} (long : 5 < length xs) (q : firstKind xs ≡ Loop) (u : Full d o f) where
+  pub loop-over : f ≡ true → StepOk xs base d o b e l e l (Faulty TooManyParts)
+  loop-over t = faulty long (λ bs h hs n w. loop-full w long q (sym (u .is) ∙ t))
 
-  pub loop-too-many : 64 ≤ o → StepOk xs base d o b e l e l (Faulty TooManyParts)
-  loop-too-many a = faulty long (λ bs h hs n w. loop-many w long q a)
-
-  module _ {e' l' : List ℕ} {r : Seq} (a : d < 16) (c : o < 64)
+  module _ {e' l' : List ℕ} {r : Seq} (t : f ≡ false)
       (ok : SeqOk (take (length xs - 6) (drop 6 xs)) (base + 1) (d + 1) (o + 1) true e l e' l' r) where
     loops : {bs : List ℕ} {h : Open} {hs : List Open} {n : ℕ} → Inside bs xs base h hs d o b n e l
         → Inside bs (drop 6 xs) (base + 1) (loopOf base (regions (tableOf bs) base)) (h ∷ hs) (d + 1) (o + 1) true n e l
-    loops w = inside-at (inside-loop w long q a c) refl (sym (add-one base)) (sym (add-one d)) (sym (add-one o))
+    loops w = inside-at (inside-loop w long q (sym (u .is) ∙ t)) refl (sym (add-one base)) (sym (add-one d)) (sym (add-one o))
 
-    pub loop-broken : {f : Refusal} → r ≡ Broken f → StepOk xs base d o b e l e' l' (Faulty f)
+    pub loop-broken : {c : Refusal} → r ≡ Broken c → StepOk xs base d o b e l e' l' (Faulty c)
     loop-broken m = let s = seq-at xs 6 ok m in faulty long (λ bs h hs n w. s .leads bs _ (h ∷ hs) n (loops w))
 
     pub loop-turned : {k o' : ℕ} → r ≡ AtElse k o' → StepOk xs base d o b e l e' l' (Faulty Misplaced)
@@ -161,8 +156,8 @@ module _ {xs : List ℕ} {base d o : ℕ} {b : Bool} {e l : List ℕ} (long : 5 
       leads = λ bs h hs n w. closes xs base k (s .fit) (s .leads bs _ (h ∷ hs) n (loops w)) (w .depth) (w .loops);
     })
 
-pub ruleset ifs = (if-too-deep, if-too-many, if-broken, if-ended, rest-torn, rest-rows)
+pub ruleset ifs = (if-over, if-broken, if-ended, rest-torn, rest-rows)
 
-pub ruleset elses = (else-too-many, else-broken, else-twice, else-ended)
+pub ruleset elses = (else-over, else-broken, else-twice, else-ended)
 
-pub ruleset loops-in = (loop-too-deep, loop-too-many, loop-broken, loop-turned, loop-ended)
+pub ruleset loops-in = (loop-over, loop-broken, loop-turned, loop-ended)

@@ -7,7 +7,6 @@ use native.Mathlib.Numerals.{add-one}
 use native.Mathlib.Omega.{arith}
 use lib.Dec.{leb}
 use lib.ListN.{length, drop, set}
-use borrow.Author.Tests.{le-leb, lt-leb}
 use Rattle.rules.specs.declared.kind.Kind.{Kind}
 use Rattle.rules.specs.declared.kind.Kind.the-variants.{Function, Do, If, Else, Loop, End, Break, Continue, Call, Unknown}
 use Rattle.rules.specs.declared.refusal.Refusal.the-variants.{WrongField, Misplaced, TooManyParts}
@@ -19,6 +18,7 @@ use Rattle.rules.proofs.Logic.{clash, not-false, not-true}
 use Rattle.rules.proofs.Scan.{open-next, regions-next}
 use Rattle.rows.specs.First.{firstKind}
 use Rattle.walk.specs.Standing.{hasLoop, Linked, Inside}
+use Rattle.walk.specs.Limit.{noRegion, isFull}
 use Rattle.walk.specs.Walked.{TurnedAway, thenOf}
 use Rattle.walk.proofs.Linking.{settlesNone, stays-linked, if-linked, end-linked, else-linked}
 use Rattle.rows.proofs.Rows.{isKnown, Reads, reads, reads-wrong, cut-length, cut-end, cut-within, cut-on}
@@ -35,26 +35,18 @@ pub same-functions : (bs : List ℕ) (i : ℕ) {k : Kind} → kindAt (tableOf bs
 unfolding functions
 same-functions bs i q n = rw (ap isFunction q ∙ n)
 
--- 6, "a 17th open if or loop, or a 65th region"
-pub few-parts : (h : Open) (hs : List Open) (g d o : ℕ) → length hs ≡ d → g ≡ bodyRegion (h ∷ hs) + o → d < maxConstructs → o < maxRegions
-    → allConstructs (h ∷ hs) || allRegions g (h ∷ hs) ≡ false
-few-parts h hs g d o p q a b = rw (lt-leb maxConstructs (constructsIn (h ∷ hs)) (omega arith), lt-leb maxRegions (g - bodyRegion (h ∷ hs)) (omega arith))
+-- 6, "a 17th open if or loop, or a 65th region", by the numbers that a walk has
+full-is : (h : Open) (hs : List Open) (g d o : ℕ) → length hs ≡ d → g ≡ bodyRegion (h ∷ hs) + o → allConstructs (h ∷ hs) || allRegions g (h ∷ hs) ≡ isFull d o
+full-is h hs g d o p q =
+    let x : constructsIn (h ∷ hs) ≡ d = omega arith in
+    let y : g - bodyRegion (h ∷ hs) ≡ o = omega arith in
+    ap₂ (λ a b. leb maxConstructs a || leb maxRegions b) x y
 
-pub few-regions : (h : Open) (hs : List Open) (g o : ℕ) → g ≡ bodyRegion (h ∷ hs) + o → o < maxRegions → allRegions g (h ∷ hs) ≡ false
-few-regions h hs g o q b = lt-leb maxRegions (g - bodyRegion (h ∷ hs)) (omega arith)
-
-pub many-regions : (h : Open) (hs : List Open) (g o : ℕ) → g ≡ bodyRegion (h ∷ hs) + o → maxRegions ≤ o → allRegions g (h ∷ hs) ≡ true
-many-regions h hs g o q b = le-leb maxRegions (g - bodyRegion (h ∷ hs)) (omega arith)
-
-pub many-constructs : (h : Open) (hs : List Open) (d : ℕ) → length hs ≡ d → maxConstructs ≤ d → allConstructs (h ∷ hs) ≡ true
-many-constructs h hs d p a = le-leb maxConstructs (constructsIn (h ∷ hs)) (omega arith)
+no-region-is : (h : Open) (hs : List Open) (g o : ℕ) → g ≡ bodyRegion (h ∷ hs) + o → allRegions g (h ∷ hs) ≡ noRegion o
+no-region-is h hs g o q = ap (leb maxRegions) (let z : g - bodyRegion (h ∷ hs) ≡ o = omega arith in z)
 
 pub and-none : {a : Bool} (c : Bool) → a ≡ false → a && c ≡ false
 and-none c e = rw e
-
-pub or-true : (a : Bool) → a || true ≡ true
-or-true true = refl
-or-true false = refl
 
 module _ {bs xs : List ℕ} {i : ℕ} {h : Open} {hs : List Open} {d o : ℕ} {b : Bool} {n : ℕ} {e l : List ℕ}
     (w : Inside bs xs i h hs d o b n e l) where
@@ -136,16 +128,16 @@ module _ {bs xs : List ℕ} {i : ℕ} {h : Open} {hs : List Open} {d o : ℕ} {b
     inside-function q = inside-misplaced q refl refl
 
     -- an if and a loop open a part
-    pub inside-if : firstKind xs ≡ If → d < maxConstructs → o < maxRegions
+    pub inside-if : firstKind xs ≡ If → isFull d o ≡ false
         → Inside bs (drop rowWidth xs) (suc i) (thenOf i (regions (tableOf bs) i)) (h ∷ hs) (suc d) (suc o) b n e (set l i 0)
     unfolding misplacedIn oneTooMany
-    inside-if q a c =
+    inside-if q a =
         let r = read q refl in
         record {
           cut = cut-next;
           within = within-next;
           few = w .few;
-          good = row-good (tableOf bs) i (w .good) (r .kind-is) (w .parts) (r .fits) refl refl (few-parts h hs _ d o (w .depth) (w .opened) a c);
+          good = row-good (tableOf bs) i (w .good) (r .kind-is) (w .parts) (r .fits) refl refl (full-is h hs (regions (tableOf bs) i) d o (w .depth) (w .opened) ∙ a);
           parts = open-next (tableOf bs) i (r .kind-is) (w .parts);
           depth = ap suc (w .depth);
           loops = w .loops;
@@ -154,16 +146,16 @@ module _ {bs xs : List ℕ} {i : ℕ} {h : Open} {hs : List Open} {d o : ℕ} {b
           links = if-linked (tableOf bs) i (w .links) (r .kind-is) below;
         }
 
-    pub inside-loop : firstKind xs ≡ Loop → d < maxConstructs → o < maxRegions
+    pub inside-loop : firstKind xs ≡ Loop → isFull d o ≡ false
         → Inside bs (drop rowWidth xs) (suc i) (loopOf i (regions (tableOf bs) i)) (h ∷ hs) (suc d) (suc o) true n e l
     unfolding misplacedIn oneTooMany
-    inside-loop q a c =
+    inside-loop q a =
         let r = read q refl in
         record {
           cut = cut-next;
           within = within-next;
           few = w .few;
-          good = row-good (tableOf bs) i (w .good) (r .kind-is) (w .parts) (r .fits) refl refl (few-parts h hs _ d o (w .depth) (w .opened) a c);
+          good = row-good (tableOf bs) i (w .good) (r .kind-is) (w .parts) (r .fits) refl refl (full-is h hs (regions (tableOf bs) i) d o (w .depth) (w .opened) ∙ a);
           parts = open-next (tableOf bs) i (r .kind-is) (w .parts);
           depth = ap suc (w .depth);
           loops = refl;
@@ -172,34 +164,24 @@ module _ {bs xs : List ℕ} {i : ℕ} {h : Open} {hs : List Open} {d o : ℕ} {b
           links = stays-linked (tableOf bs) i (w .links) (r .kind-is) refl;
         }
 
-    pub if-deep : firstKind xs ≡ If → maxConstructs ≤ d → TurnedAway bs TooManyParts
+    pub if-full : firstKind xs ≡ If → isFull d o ≡ true → TurnedAway bs TooManyParts
     unfolding misplacedIn oneTooMany
-    if-deep q a =
+    if-full q a =
         let r = read q refl in
-        parts-refused (tableOf bs) i (w .good) (r .kind-is) (w .parts) (r .fits) (r .inside) refl refl (rw (many-constructs h hs d (w .depth) a))
+        parts-refused (tableOf bs) i (w .good) (r .kind-is) (w .parts) (r .fits) (r .inside) refl refl
+        (full-is h hs (regions (tableOf bs) i) d o (w .depth) (w .opened) ∙ a)
 
-    pub if-many : firstKind xs ≡ If → maxRegions ≤ o → TurnedAway bs TooManyParts
+    pub loop-full : firstKind xs ≡ Loop → isFull d o ≡ true → TurnedAway bs TooManyParts
     unfolding misplacedIn oneTooMany
-    if-many q a =
+    loop-full q a =
         let r = read q refl in
-        parts-refused (tableOf bs) i (w .good) (r .kind-is) (w .parts) (r .fits) (r .inside) refl refl (rw (many-regions h hs _ o (w .opened) a) (or-true (allConstructs (h ∷ hs))))
-
-    pub loop-deep : firstKind xs ≡ Loop → maxConstructs ≤ d → TurnedAway bs TooManyParts
-    unfolding misplacedIn oneTooMany
-    loop-deep q a =
-        let r = read q refl in
-        parts-refused (tableOf bs) i (w .good) (r .kind-is) (w .parts) (r .fits) (r .inside) refl refl (rw (many-constructs h hs d (w .depth) a))
-
-    pub loop-many : firstKind xs ≡ Loop → maxRegions ≤ o → TurnedAway bs TooManyParts
-    unfolding misplacedIn oneTooMany
-    loop-many q a =
-        let r = read q refl in
-        parts-refused (tableOf bs) i (w .good) (r .kind-is) (w .parts) (r .fits) (r .inside) refl refl (rw (many-regions h hs _ o (w .opened) a) (or-true (allConstructs (h ∷ hs))))
+        parts-refused (tableOf bs) i (w .good) (r .kind-is) (w .parts) (r .fits) (r .inside) refl refl
+        (full-is h hs (regions (tableOf bs) i) d o (w .depth) (w .opened) ∙ a)
 
 -- an else where the innermost part is a then part
 module _ {bs xs : List ℕ} {i p g : ℕ} {h : Open} {hs : List Open} {d o : ℕ} {b : Bool} {n : ℕ} {e l : List ℕ}
     (w : Inside bs xs i (thenOf p g) (h ∷ hs) d o b n e l) (long : 5 < length xs) (q : firstKind xs ≡ Else) where
-  pub inside-else : o < maxRegions → Inside bs (drop rowWidth xs) (suc i) (elseOf p (regions (tableOf bs) i)) (h ∷ hs) d (suc o) b n e (set l p i)
+  pub inside-else : noRegion o ≡ false → Inside bs (drop rowWidth xs) (suc i) (elseOf p (regions (tableOf bs) i)) (h ∷ hs) d (suc o) b n e (set l p i)
   unfolding misplacedIn oneTooMany
   inside-else c =
       let r = read w long q refl in
@@ -207,7 +189,7 @@ module _ {bs xs : List ℕ} {i p g : ℕ} {h : Open} {hs : List Open} {d o : ℕ
         cut = cut-next w long;
         within = within-next w long;
         few = w .few;
-        good = row-good (tableOf bs) i (w .good) (r .kind-is) (w .parts) (r .fits) refl refl (few-regions (thenOf p g) (h ∷ hs) _ o (w .opened) c);
+        good = row-good (tableOf bs) i (w .good) (r .kind-is) (w .parts) (r .fits) refl refl (no-region-is (thenOf p g) (h ∷ hs) (regions (tableOf bs) i) o (w .opened) ∙ c);
         parts = open-next (tableOf bs) i (r .kind-is) (w .parts);
         depth = w .depth;
         loops = w .loops;
@@ -216,11 +198,11 @@ module _ {bs xs : List ℕ} {i p g : ℕ} {h : Open} {hs : List Open} {d o : ℕ
         links = else-linked (tableOf bs) i (w .links) (thenOf p g) (h ∷ hs) (r .kind-is) (w .parts) refl (below w long);
       }
 
-  pub else-many : maxRegions ≤ o → TurnedAway bs TooManyParts
+  pub else-full : noRegion o ≡ true → TurnedAway bs TooManyParts
   unfolding misplacedIn oneTooMany
-  else-many a =
+  else-full a =
       let r = read w long q refl in
-      parts-refused (tableOf bs) i (w .good) (r .kind-is) (w .parts) (r .fits) (r .inside) refl refl (many-regions (thenOf p g) (h ∷ hs) _ o (w .opened) a)
+      parts-refused (tableOf bs) i (w .good) (r .kind-is) (w .parts) (r .fits) (r .inside) refl refl (no-region-is (thenOf p g) (h ∷ hs) (regions (tableOf bs) i) o (w .opened) ∙ a)
 
 -- and where it is none
 module _ {bs xs : List ℕ} {i : ℕ} {f : Open} {hs : List Open} {d o : ℕ} {b : Bool} {n : ℕ} {e l : List ℕ}

@@ -1,2 +1,3 @@
+pub mod Limit
 pub mod Standing
 pub mod Walked

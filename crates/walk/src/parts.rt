@@ -4,6 +4,8 @@ use crate::answer::Seq;
 use crate::answer::Step;
 use crate::answer::fitting;
 use crate::answer::jump;
+use crate::limit::full;
+use crate::limit::no_region;
 use crate::link::link;
 use rows::LAST;
 use rows::WIDTH;
@@ -11,8 +13,6 @@ use rows::dos::dos;
 use rows::first::fits;
 use rows::first::kind;
 use rules::kind::Kind;
-use rules::limits::CONSTRUCTS;
-use rules::limits::REGIONS;
 use rules::refusal::Refusal;
 ghost use mathlib.Core.Path.{_≡_};
 ghost use Prim.Native.Nat.{_+_, _*_, _≤_, _<_};
@@ -120,10 +120,7 @@ fn if_part(
     requires { ⌜ (5 < length (now rows)) × (firstKind (now rows) ≡ Kind.If) ⌝ }
     ensures { λ r. ⌜ StepOk (now (rows .entry)) base depth opened «in_loop» (now (ends .entry)) (now (elses .entry)) (now (ends .exit)) (now (elses .exit)) r ⌝ }
 {
-    if depth >= CONSTRUCTS {
-        return Step::Faulty(Refusal::TooManyParts);
-    }
-    if opened >= REGIONS {
+    if full(depth, opened) {
         return Step::Faulty(Refusal::TooManyParts);
     }
     link(elses, base, 0);
@@ -176,7 +173,7 @@ fn else_part(
     requires { ⌜ 5 < length (now rows) ⌝ }
     ensures { λ r. ⌜ RestOk (now (rows .entry)) row base depth opened «in_loop» (now (ends .entry)) (now (elses .entry)) (now (ends .exit)) (now (elses .exit)) r ⌝ }
 {
-    if opened >= REGIONS {
+    if no_region(opened) {
         return Rest::Torn(Refusal::TooManyParts);
     }
     link(elses, base, row);
@@ -213,10 +210,7 @@ fn loop_part(
     requires { ⌜ (5 < length (now rows)) × (firstKind (now rows) ≡ Kind.Loop) ⌝ }
     ensures { λ r. ⌜ StepOk (now (rows .entry)) base depth opened «in_loop» (now (ends .entry)) (now (elses .entry)) (now (ends .exit)) (now (elses .exit)) r ⌝ }
 {
-    if depth >= CONSTRUCTS {
-        return Step::Faulty(Refusal::TooManyParts);
-    }
-    if opened >= REGIONS {
+    if full(depth, opened) {
         return Step::Faulty(Refusal::TooManyParts);
     }
     match sequence(

@@ -1,10 +1,11 @@
 -- The walkers meet their contracts: `sequence`, `construct` and the three nested forms prove one another, with the bytes left and a
--- rank as the measure. The laws of Constructs, Nested and Sequence answer the returns. A declaration each: together they would need
--- more steps than one may take. Assumes nothing.
+-- rank as the measure. The laws of Constructs, Nested and Sequence answer the returns, those of Limits say how few are open or opened
+-- where a part begins. A declaration each: together they would need more steps than one may take. Assumes nothing.
 use borrow.Author.Needs.{needs}
 use native.Mathlib.Omega.{arith}
 use lib.ListN.{length}
 use Rattle.walk.proofs.Constructs.{kind-at, at-function, at-unknown, at-wrong, at-dos, at-call, at-end, at-else, at-break, at-continue}
+use Rattle.walk.proofs.Limits.{few-open, few-opened, few-regions}
 use Rattle.walk.proofs.Nested.{ifs, rest-torn, rest-rows, elses, loops-in}
 use Rattle.walk.proofs.Sequence.{SeqTo, to-end, to-else, to-past, sequences, rows-of}
 use Prim.Native.Nat.{ℕ, _<_, _+_, _*_, _-_}
@@ -30,6 +31,8 @@ use Rattle.rows.proofs.first.fits.Reads as fits-reads
 use Rattle.rows.proofs.first.kind.Reads as kind-reads
 use Rattle.walk.proofs.answer.fitting.Reads as fitting-reads
 use Rattle.walk.proofs.answer.jump.Reads as jump-reads
+use Rattle.walk.proofs.limit.full.Reads as full-reads
+use Rattle.walk.proofs.limit.no_region.Reads as no-region-reads
 use Rattle.walk.proofs.link.link.Reads as link-reads
 use Rattle.walk.proofs.parts.+construct+else_part+if_part+loop_part+sequence.{statement}
 use Rattle.walk.proofs.parts.+construct+else_part+if_part+loop_part+sequence.Tie.{close}
@@ -164,7 +167,7 @@ construct-closed t =
     (λ c. search (at-unknown, needs))
 
 abbrev else-part-claims : ℕ → else-part-lts.Claims
-else-part-claims t = (link-reads.Asked, link-reads.Learnt, sequence-below t, sequence.Post)
+else-part-claims t = (no-region-reads.Asked, no-region-reads.Learnt, link-reads.Asked, link-reads.Learnt, sequence-below t, sequence.Post)
 
 else-part-closed : {M : Type 1} (t : ℕ) → else-part-lts.Closed (else-part-claims t) (else-part-at t) else-part.Post M
 else-part-closed t =
@@ -172,6 +175,7 @@ else-part-closed t =
     (else-part-claims t)
     (else-part-at t)
     else-part.Post
+    (λ c κs. search needs)
     (λ c. search (elses, needs))
     (λ c κs. search needs)
     (λ c. omega (arith, rows-of))
@@ -179,7 +183,7 @@ else-part-closed t =
     (λ c. omega (arith, rows-of))
     (λ c. omega (arith, rows-of))
     (λ c. omega (arith, rows-of))
-    (λ c. omega (arith, rows-of))
+    (λ c. omega (arith, few-regions (c .before .before .before .before .before .before .no-region .ensures) (c .before .before .before .before .before .if1 .left)))
     (λ c κs. search needs)
     (λ c. search needs)
     (λ c. search needs)
@@ -199,7 +203,7 @@ else-part-closed t =
     (λ c. search (elses, needs))
 
 abbrev if-part-claims : ℕ → if-part-lts.Claims
-if-part-claims t = (link-reads.Asked, link-reads.Learnt, sequence-below t, sequence.Post, else-part-below t, else-part.Post)
+if-part-claims t = (full-reads.Asked, full-reads.Learnt, link-reads.Asked, link-reads.Learnt, sequence-below t, sequence.Post, else-part-below t, else-part.Post)
 
 if-part-closed : {M : Type 1} (t : ℕ) → if-part-lts.Closed (if-part-claims t) (if-part-at t) if-part.Post M
 if-part-closed t =
@@ -207,15 +211,15 @@ if-part-closed t =
     (if-part-claims t)
     (if-part-at t)
     if-part.Post
-    (λ c. search (ifs, needs))
+    (λ c κs. search needs)
     (λ c. search (ifs, needs))
     (λ c κs. search needs)
     (λ c. omega (arith, rows-of))
     (λ c. omega (arith, rows-of))
     (λ c. omega (arith, rows-of))
     (λ c. omega (arith, rows-of))
-    (λ c. omega (arith, rows-of))
-    (λ c. omega (arith, rows-of))
+    (λ c. omega (arith, few-open (c .before .before .before .before .before .before .full .ensures) (c .before .before .before .before .before .if1 .left)))
+    (λ c. omega (arith, few-opened (c .before .before .before .before .before .before .full .ensures) (c .before .before .before .before .before .if1 .left)))
     (λ c κs. search needs)
     (λ c. search needs)
     (λ c. search needs)
@@ -231,7 +235,7 @@ if-part-closed t =
     (λ c. omega (arith, rows-of))
     (λ c. omega (arith, rows-of))
     (λ c. omega (arith, rows-of))
-    (λ c κs. omega (arith, rows-of))
+    (λ c κs. omega (arith, rows-of, few-open (c .before .before .before .before .before .before .before .before .before .before .before .before .before .before .before .before .before .before .before .full .ensures) (c .before .before .before .before .before .before .before .before .before .before .before .before .before .before .before .before .before .before .if1 .left)))
     (λ c. search needs)
     (λ c. search needs)
     (λ c. omega (arith, rows-of, c .before .before .before .before .before .before .before .else-part .ensures, c .before .before .before .before .before .before .before .before .before .before .before .before .n2 .given, c .before .before .before .before .before .before .before .before .before .before .before .before .before .before .before .before .before .before .sequence .ensures .fit, c .before .before .before .before .before .before .before .before .before .before .before .before .before .before .before .before .before .before .before .before .before .before .before .before .before .before .before .before .before .before .before .pre .1))
@@ -244,13 +248,13 @@ if-part-closed t =
     (λ c. search (ifs, needs))
     (λ c. search needs)
     (λ c. search needs)
-    (λ c. let p = c .before .before .before .before .before .before .before in let q = p .before .before .before .before .before in let s = q .before .before .before .before .before .before in let k = s .before .before .before .before .before .before in let i = k .before .before in let z = i .before .before .before .before .before in search (rest-torn, z .pre .1 .1 .1 .0, z .pre .1 .1 .1 .1, i .before .if1 .left, i .if2 .left, k .link .ensures, s .sequence .ensures, q .n2 .given, p .else-part .ensures, c .before .r2 .given))
+    (λ c. let p = c .before .before .before .before .before .before .before in let q = p .before .before .before .before .before in let s = q .before .before .before .before .before .before in let k = s .before .before .before .before .before .before in let i = k .before .before in let z = i .before .before .before .before .before in search (rest-torn, z .pre .1 .1 .1 .0, z .pre .1 .1 .1 .1, i .before .full .ensures, i .if1 .left, k .link .ensures, s .sequence .ensures, q .n2 .given, p .else-part .ensures, c .before .r2 .given))
     (λ c. search needs)
     (λ c. search needs)
-    (λ c. let p = c .before .before .before .before .before .before .before in let q = p .before .before .before .before .before in let s = q .before .before .before .before .before .before in let k = s .before .before .before .before .before .before in let i = k .before .before in let z = i .before .before .before .before .before in search (rest-rows, z .pre .1 .1 .1 .0, z .pre .1 .1 .1 .1, i .before .if1 .left, i .if2 .left, k .link .ensures, s .sequence .ensures, q .n2 .given, p .else-part .ensures, c .before .k .given))
+    (λ c. let p = c .before .before .before .before .before .before .before in let q = p .before .before .before .before .before in let s = q .before .before .before .before .before .before in let k = s .before .before .before .before .before .before in let i = k .before .before in let z = i .before .before .before .before .before in search (rest-rows, z .pre .1 .1 .1 .0, z .pre .1 .1 .1 .1, i .before .full .ensures, i .if1 .left, k .link .ensures, s .sequence .ensures, q .n2 .given, p .else-part .ensures, c .before .k .given))
 
 abbrev loop-part-claims : ℕ → loop-part-lts.Claims
-loop-part-claims t = (sequence-below t, sequence.Post, link-reads.Asked, link-reads.Learnt)
+loop-part-claims t = (full-reads.Asked, full-reads.Learnt, sequence-below t, sequence.Post, link-reads.Asked, link-reads.Learnt)
 
 loop-part-closed : {M : Type 1} (t : ℕ) → loop-part-lts.Closed (loop-part-claims t) (loop-part-at t) loop-part.Post M
 loop-part-closed t =
@@ -258,14 +262,14 @@ loop-part-closed t =
     (loop-part-claims t)
     (loop-part-at t)
     loop-part.Post
+    (λ c κs. search needs)
     (λ c. search (loops-in, needs))
-    (λ c. search (loops-in, needs))
     (λ c. omega (arith, rows-of))
     (λ c. omega (arith, rows-of))
     (λ c. omega (arith, rows-of))
     (λ c. omega (arith, rows-of))
-    (λ c. omega (arith, rows-of))
-    (λ c. omega (arith, rows-of))
+    (λ c. omega (arith, few-open (c .before .before .full .ensures) (c .before .if1 .left)))
+    (λ c. omega (arith, few-opened (c .before .before .full .ensures) (c .before .if1 .left)))
     (λ c κs. search needs)
     (λ c. search needs)
     (λ c. search needs)
