@@ -1,4 +1,4 @@
--- The lines of a row are its do and its guards: which counter of the counter form each guard checks, and for which value. Assumes that the table is accepted, where it says so.
+-- The lines of a row are its do and its guards: which region each guard checks, and for which value. Assumes nothing.
 use mathlib.Core.Path.{_≡_, refl, sym, ap, _∙_}
 use mathlib.Core.Bool.{Bool, true, false, cond}
 use mathlib.Core.List.{List, [], _∷_}
@@ -16,7 +16,7 @@ use Rattle.rules.specs.Match.{isDo}
 use Rattle.rules.proofs.Logic.{clash}
 use Rattle.rules.proofs.Function.{isBody, Formed}
 
--- the counter that a guard checks, and for which value
+-- the region that a guard checks (its r), and for which value (its e)
 abbrev pub checksAt : Line → ℕ
 checksAt (doLine o e) = 0
 checksAt (tickLine r e a) = r

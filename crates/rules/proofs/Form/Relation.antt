@@ -1,5 +1,5 @@
 -- How an unstruck hardened run stands to its source's run: the same function, variables and trace; the line of the source's row, or
--- the tick or back that follows; the counters that the open parts settle. Assumes that the table is accepted, where it says so.
+-- the tick or back that follows; what the form settles there is kept. Assumes that the table is accepted, where it says so.
 use mathlib.Core.Logic.{_⊎_}
 use mathlib.Core.Path.{_≡_, refl, ap, _∙_, subst}
 use mathlib.Core.Bool.{true}
@@ -36,7 +36,7 @@ pub record Back : Type 0 where
   pub function : ℕ
   pub row : ℕ
 
--- its counters: the call has moved its region on by 1
+-- what it keeps: the call has moved its region on by 1
 abbrev pub waiting : {H : Type 0} {t : Table} {F : Form H} → Settles t F → ℕ → H
 waiting {H} {t} S i = S .at (suc (lineOf t i)) (openAt t i) (valueIn t i (openAt t i) + 1)
 
@@ -79,7 +79,7 @@ abbrev pub Linked : Table → ℕ → List Back → Type 0
 Linked t n [] = n ≡ 0
 Linked t n (b ∷ bs) = Caller t n b × Linked t (b .function) bs
 
--- Row i, the source's row j, the line k; the innermost counter w, where row i's value is u; what returned last ended at.
+-- Row i, the source's row j, the line k; the innermost region has reached w, where row i's value is u; what returned last ended at.
 pub data Mode {H : Type 0} {t : Table} {F : Form H} (S : Settles t F) (i j k w last u : ℕ) : Type 0 where
   ready : j ≡ i → k ≡ lineOf t i → w ≡ u → Mode S i j k w last u
   ticking : kindAt t i ≡ Do → j ≡ suc i → k ≡ suc (lineOf t i) → w ≡ u → Mode S i j k w last u
