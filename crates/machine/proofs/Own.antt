@@ -12,7 +12,7 @@ use Rattle.rules.specs.Line.{Line}
 use Rattle.rules.specs.State.{Frame}
 use Rattle.rules.specs.Hardened.{Counters, clear, put, clearFrom}
 use Rattle.rules.specs.Calls.{zeros}
-use Rattle.guard.specs.Counters.{counter, withCounter, zeroed, freshAt}
+use Rattle.guard.specs.Counters.{withCounter, zeroed, freshAt}
 use Rattle.machine.specs.Stands.{Own, Waiting}
 use Rattle.guard.proofs.Zeroed.{length-zeros, length-zeroed}
 

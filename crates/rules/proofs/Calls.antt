@@ -20,7 +20,7 @@ use Rattle.rules.specs.Row.{tableOf}
 use Rattle.rules.specs.Line.{linesIn}
 use Rattle.rules.specs.Source.{sourceRun}
 use Rattle.rules.specs.Hardened.{strikeBy, hardenedRun}
-use Rattle.rules.specs.Calls.{over, Writing, writing, shortOutput, hardenCall, checkHardenedCall, readBackCall, Running, running, shortTrace, runSourceCall, shortCounters, countersAfter, HardenedRunning, hardenedVerdict, runHardenedCall}
+use Rattle.rules.specs.Calls.{over, writing, shortOutput, hardenCall, checkHardenedCall, readBackCall, Running, running, shortTrace, runSourceCall, shortCounters, countersAfter, hardenedVerdict, runHardenedCall}
 
 -- number 0 says that nothing was refused
 pub no-zero : (r : Refusal) → numberOf (Refused r) ≡ 0 → ⊥

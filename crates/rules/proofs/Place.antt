@@ -13,7 +13,7 @@ use borrow.Author.Tests.{eq-eqb, ne-eqb}
 use Rattle.rules.specs.declared.kind.Kind.{Kind}
 use Rattle.rules.specs.declared.kind.Kind.the-variants.{Function, Do, If, Else, Loop, End, Break, Continue, Call, Unknown}
 use Rattle.rules.specs.Row.{Table, kindAt}
-use Rattle.rules.specs.Scan.{Part, body, thenPart, elsePart, loopBody, Open, stays, shapeOf, openAfter, regions, openAt, partOf, hasElse, isFunction, functions, functionCount, functionRow, endOf}
+use Rattle.rules.specs.Scan.{Part, body, thenPart, elsePart, loopBody, Open, shapeOf, openAfter, regions, openAt, partOf, hasElse, isFunction, functions, functionCount, functionRow, endOf}
 use Rattle.rules.specs.Check.{misplacedIn}
 use Rattle.rules.specs.Value.{value}
 use Rattle.rules.specs.Line.{Line, lineAt, isRet}

@@ -1,11 +1,10 @@
 -- The first line of a row of an accepted table stands for exactly that row.
-use mathlib.Core.Logic.{_≢_, _⊎_, inl, inr}
+use mathlib.Core.Logic.{_⊎_, inl, inr}
 use mathlib.Core.Path.{_≡_, refl, sym, ap, _∙_, subst}
 use mathlib.Core.Bool.{Bool, true, false, cond, _&&_}
 use mathlib.Core.List.{List, [], _∷_}
 use Prim.Native.Nat.{ℕ, suc, _+_, _-_, _≤_, _<_}
 use native.Mathlib.Nat.{eq-or-lt-of-le}
-use native.Mathlib.Decide.{le-ind, decLt}
 use native.Mathlib.Omega.{arith}
 use lib.ListN.{length}
 use lib.Dec.{ltb}
@@ -14,7 +13,7 @@ use Rattle.rules.specs.declared.operands.Operands.{Operands}
 use Rattle.rules.specs.declared.kind.Kind.{Kind}
 use Rattle.rules.specs.declared.kind.Kind.the-variants.{Function, Do, If, Else, Loop, End, Break, Continue, Call, Unknown}
 use Rattle.rules.specs.Row.{Row, Table, rowAt, kindAt, operandsAt, isUnused, usesNone, usesFunction, fieldsFit}
-use Rattle.rules.specs.Scan.{Part, body, thenPart, elsePart, loopBody, Open, Shape, pushes, turns, closes, stays, shapeOf, openAfter, regions, openAt, partOf, openerOf, isLoopBody, fromLoop, endOf, elseOf, hasElse}
+use Rattle.rules.specs.Scan.{Part, body, thenPart, elsePart, loopBody, Open, pushes, shapeOf, openAt, partOf, openerOf, isLoopBody, fromLoop, endOf, elseOf, hasElse}
 use Rattle.rules.specs.Check.{isOutside, misplacedIn}
 use Rattle.rules.specs.Line.{noOperands, lineAt}
 use Rattle.rules.specs.Harden.{lineCount, lineOf, testOf, endLine, rowLines, harden}
@@ -23,7 +22,7 @@ use Rattle.rules.proofs.Logic.{clash, and-left, and-right}
 use Rattle.rules.proofs.Accepted.{Proper}
 use Rattle.rules.proofs.Scan.{origin}
 use Rattle.rules.proofs.Value.{Held, AllHeld, held}
-use Rattle.rules.proofs.Close.{NoOpener, not-past, EndIs, end-is, closed-is, else-is}
+use Rattle.rules.proofs.Close.{NoOpener, not-past, end-is, closed-is, else-is}
 use Rattle.rules.proofs.Harden.{line-mono, line-suc, line-next, line-at}
 use Rattle.rules.proofs.Function.{callee-known, not-unknown}
 use Rattle.rules.proofs.Place.{callee}

@@ -4,8 +4,7 @@ use mathlib.Core.Bool.{Bool, true, false}
 use mathlib.Core.List.{List}
 use Prim.Native.Nat.{ℕ, _≤_}
 use native.Mathlib.Omega.{arith}
-use lib.Dec.{ltb}
-use lib.ListN.{length, take, drop}
+use lib.ListN.{length, drop}
 use lib.Seq.{take-append-seam}
 use Rattle.rules.specs.declared.refusal.Verdict.{Verdict}
 use Rattle.rules.specs.declared.refusal.Verdict.the-variants.{Accepted, Refused}
@@ -17,7 +16,7 @@ use Rattle.rules.specs.ReadBack.{sourceBytes, isHardened}
 use Rattle.rules.specs.Reading.{OnlySource}
 use Rattle.rules.specs.Calls.{Writing, writing, shortOutput, notHardened, hardenCall, checkHardenedCall, readBackCall}
 use Rattle.rules.specs.TablePromise.{front, HardenPromise, CheckHardenedPromise, ReadBackPromise}
-use Rattle.rules.proofs.Calls.{no-zero, accepted-of, check-hardened, read-back-refused, read-back-accepted, read-back-number, write-fits}
+use Rattle.rules.proofs.Calls.{accepted-of, check-hardened, read-back-refused, read-back-accepted, read-back-number, write-fits}
 use Rattle.rules.proofs.Reading.{reads-back, source-hardened, ten-exactly, only-source}
 
 -- ---- what a call that writes a table says, by its verdict

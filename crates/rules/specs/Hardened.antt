@@ -1,7 +1,7 @@
 -- The counter form of hardened lines: what an open function keeps are the counters of its regions (01, "The hardened lines"). A run of
 -- it is a run of the machine of specs/Form.
 use Prim.Native.Nat.{ℕ}
-use mathlib.Core.Bool.{Bool, true, false, cond, _&&_}
+use mathlib.Core.Bool.{Bool, true, cond, _&&_}
 use mathlib.Core.List.{List, []}
 use lib.Dec.{eqb, leb}
 use Rattle.rules.specs.declared.strike.Strike.{Strike}

@@ -1,8 +1,8 @@
 -- What the machine that a run starts in holds. Assumes nothing.
-use mathlib.Core.Path.{_≡_, refl, ap, _∙_}
+use mathlib.Core.Path.{_≡_, ap}
 use mathlib.Core.List.{List}
 use Prim.Native.Nat.{ℕ}
-use lib.ListN.{length, length-replicate}
+use lib.ListN.{length}
 use Rattle.rules.specs.Limits.{maxOpen}
 use Rattle.state.specs.declared.machine.Machine.{Machine}
 use Rattle.state.specs.Machine.{firstRegisters, begunAt}

@@ -1,6 +1,5 @@
 -- What a run keeps, as its steps change it: the registers, the functions that wait, the variables and the trace.
 use Prim.Native.Nat.{ℕ, _+_, _<_}
-use mathlib.Core.Path.{_≡_}
 use mathlib.Core.List.{List}
 use lib.ListN.{length, set, replicate}
 use Rattle.rules.specs.declared.answer.Ran.{Ran}

@@ -1,8 +1,8 @@
 -- The links, one row on: what each kind of row settles. Assumes nothing.
 use mathlib.Core.Logic.{_⊎_, inl, inr}
 use mathlib.Core.Path.{_≡_, refl, sym, ap, _∙_, subst}
-use mathlib.Core.Bool.{Bool, true, false, _&&_}
-use mathlib.Core.List.{List, [], _∷_}
+use mathlib.Core.Bool.{Bool, true, false}
+use mathlib.Core.List.{List, _∷_}
 use Prim.Native.Nat.{ℕ, suc, _<_}
 use native.Mathlib.Nat.{eq-or-lt-of-le}
 use native.Mathlib.Omega.{arith}
@@ -18,7 +18,7 @@ use Rattle.rules.specs.Check.{isThen}
 use Rattle.rules.proofs.Logic.{clash, and-left, and-right}
 use Rattle.rules.proofs.Value.{AllHeld, held}
 use Rattle.walk.specs.Standing.{Linked}
-use Rattle.walk.proofs.Once.{end-below, else-below, end-once, else-once}
+use Rattle.walk.proofs.Once.{else-below, end-once, else-once}
 
 -- what holds of each number below i, and of i
 up-to : (P : ℕ → Type 0) (i : ℕ) → ((j : ℕ) → j < i → P j) → P i → (j : ℕ) → j < suc i → P j

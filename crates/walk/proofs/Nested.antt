@@ -1,27 +1,24 @@
 -- What `if_part`, `else_part` and `loop_part` answer, as laws. Assumes nothing.
-use mathlib.Core.Path.{_≡_, refl, sym, ap, _∙_, subst}
+use mathlib.Core.Path.{_≡_, refl, sym, ap, _∙_}
 use mathlib.Core.Bool.{Bool, true, false}
-use mathlib.Core.List.{List, [], _∷_}
-use Prim.Native.Nat.{ℕ, suc, _+_, _*_, _-_, _≤_, _<_}
+use mathlib.Core.List.{List, _∷_}
+use Prim.Native.Nat.{ℕ, _+_, _*_, _-_, _≤_, _<_}
 use native.Mathlib.Numerals.{add-one}
 use native.Mathlib.Omega.{arith}
 use lib.ListN.{length, take, drop, set, length-drop}
 use lib.Seq.{drop-drop}
-use Rattle.rules.specs.declared.kind.Kind.{Kind}
 use Rattle.rules.specs.declared.kind.Kind.the-variants.{If, Else, Loop, End}
 use Rattle.rules.specs.declared.refusal.Refusal.{Refusal}
 use Rattle.rules.specs.declared.refusal.Refusal.the-variants.{Misplaced, TooManyParts}
 use Rattle.rules.specs.Row.{rowWidth, tableOf}
 use Rattle.rules.specs.Scan.{Open, regions}
-use Rattle.rules.specs.Check.{isThen}
 use Rattle.rows.specs.First.{firstKind}
 use Rattle.walk.specs.Standing.{hasLoop, Inside}
 use Rattle.walk.specs.Limit.{NoRegion, Full}
 use Rattle.walk.specs.Walked.{TurnedAway, Before, thenOf, seqRows, stepRows, restRows, SeqOk, StepOk, RestOk}
 use Rattle.walk.specs.declared.answer.Seq.{Seq}
 use Rattle.walk.specs.declared.answer.Seq.the-variants.{Broken, AtEnd, AtElse}
-use Rattle.walk.specs.declared.answer.Step.{Step}
-use Rattle.walk.specs.declared.answer.Step.the-variants.{Faulty, Past, EndHere, ElseHere}
+use Rattle.walk.specs.declared.answer.Step.the-variants.{Faulty, Past}
 use Rattle.walk.specs.declared.answer.Rest.{Rest}
 use Rattle.walk.specs.declared.answer.Rest.the-variants.{Torn, Rows}
 use Rattle.rows.proofs.Rows.{rest-all, drops}

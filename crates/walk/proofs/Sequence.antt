@@ -1,14 +1,13 @@
 -- The loop of `sequence`: its invariant and what it answers, as laws; and what an answer by name says as numbers. Assumes nothing.
-use mathlib.Core.Path.{_≡_, refl, sym, ap, _∙_, subst}
+use mathlib.Core.Path.{_≡_, refl, sym, ap}
 use mathlib.Core.Bool.{Bool}
 use mathlib.Core.List.{List}
-use Prim.Native.Nat.{ℕ, suc, _+_, _*_, _-_, _≤_, _<_}
+use Prim.Native.Nat.{ℕ, _+_, _*_, _-_, _≤_}
 use native.Mathlib.Nat.{add-zero}
 use native.Mathlib.Omega.{arith}
 use lib.ListN.{length, take, drop, length-drop}
 use Rattle.rules.specs.declared.refusal.Refusal.{Refusal}
 use Rattle.rules.specs.declared.refusal.Refusal.the-variants.{Misplaced}
-use Rattle.rules.specs.Row.{rowWidth}
 use Rattle.rules.specs.Scan.{Open}
 use Rattle.walk.specs.Standing.{Inside}
 use Rattle.walk.specs.Walked.{seqRows, stepRows, restRows, SeqOk, StepOk}
@@ -17,7 +16,7 @@ use Rattle.walk.specs.declared.answer.Seq.the-variants.{Broken, AtEnd, A
 use Rattle.walk.specs.declared.answer.Step.{Step}
 use Rattle.walk.specs.declared.answer.Step.the-variants.{Faulty, Past, EndHere, ElseHere}
 use Rattle.walk.specs.declared.answer.Rest.{Rest}
-use Rattle.walk.specs.declared.answer.Rest.the-variants.{Torn, Rows}
+use Rattle.walk.specs.declared.answer.Rest.the-variants.{Rows}
 use Rattle.rows.proofs.Rows.{rest-all, drops}
 use Rattle.walk.proofs.Stepping.{inside-at, inside-end}
 

@@ -1,8 +1,8 @@
 -- Where a walk stands one row on, for each kind of row inside a function, and the faults of such a row. Assumes nothing.
-use mathlib.Core.Path.{_≡_, refl, sym, ap, ap₂, _∙_, subst}
-use mathlib.Core.Bool.{Bool, true, false, not, cond, _&&_, _||_}
-use mathlib.Core.List.{List, [], _∷_}
-use Prim.Native.Nat.{ℕ, zero, suc, _+_, _*_, _-_, _≤_, _<_}
+use mathlib.Core.Path.{_≡_, refl, ap, ap₂, _∙_, subst}
+use mathlib.Core.Bool.{Bool, true, false, not, _&&_, _||_}
+use mathlib.Core.List.{List, _∷_}
+use Prim.Native.Nat.{ℕ, suc, _+_, _*_, _-_, _≤_, _<_}
 use native.Mathlib.Numerals.{add-one}
 use native.Mathlib.Omega.{arith}
 use lib.Dec.{leb}
@@ -12,12 +12,12 @@ use Rattle.rules.specs.declared.kind.Kind.the-variants.{Function, Do, If, Else,
 use Rattle.rules.specs.declared.refusal.Refusal.the-variants.{WrongField, Misplaced, TooManyParts}
 use Rattle.rules.specs.Limits.{maxRows, maxFunctions, maxConstructs, maxRegions}
 use Rattle.rules.specs.Row.{rowWidth, tableOf, kindAt}
-use Rattle.rules.specs.Scan.{Part, body, thenPart, elsePart, loopBody, Open, Shape, shapeOf, openAfter, regionsAfter, regions, openAt, bodyRegion, fromLoop, functions, isFunction}
-use Rattle.rules.specs.Check.{isOutside, isThen, misplacedIn, oneTooMany, allRegions, allConstructs, constructsIn}
-use Rattle.rules.proofs.Logic.{clash, not-false, not-true}
+use Rattle.rules.specs.Scan.{elsePart, loopBody, Open, Shape, shapeOf, openAfter, regionsAfter, regions, bodyRegion, functions, isFunction}
+use Rattle.rules.specs.Check.{isThen, misplacedIn, oneTooMany, allRegions, allConstructs, constructsIn}
+use Rattle.rules.proofs.Logic.{not-false, not-true}
 use Rattle.rules.proofs.Scan.{open-next, regions-next}
 use Rattle.rows.specs.First.{firstKind}
-use Rattle.walk.specs.Standing.{hasLoop, Linked, Inside}
+use Rattle.walk.specs.Standing.{hasLoop, Inside}
 use Rattle.walk.specs.Limit.{noRegion, isFull}
 use Rattle.walk.specs.Walked.{TurnedAway, thenOf}
 use Rattle.walk.proofs.Linking.{settlesNone, stays-linked, if-linked, end-linked, else-linked}

@@ -2,26 +2,22 @@
 -- before or after it, and no guard lies between those; and region 0 has not ended anywhere before the ret. Assumes that the table is accepted.
 use mathlib.Core.Logic.{_⊎_, inl, inr}
 use mathlib.Core.Path.{_≡_, refl, sym, ap, _∙_, subst}
-use mathlib.Core.Bool.{Bool, true, false, cond, _||_}
+use mathlib.Core.Bool.{Bool, true, false, cond}
 use mathlib.Core.List.{List, [], _∷_}
-use Prim.Native.Nat.{ℕ, zero, suc, _+_, _-_, _≤_, _<_}
+use Prim.Native.Nat.{ℕ, _+_, _-_, _≤_, _<_}
 use native.Mathlib.Nat.{eq-or-lt-of-le, add-zero}
 use native.Mathlib.Omega.{arith}
 use lib.ListN.{length}
 use lib.Dec.{eqb}
 use borrow.Author.Tests.{eqb-true, ne-eqb}
-use Rattle.rules.specs.declared.kind.Kind.{Kind}
-use Rattle.rules.specs.declared.kind.Kind.the-variants.{Function, Do, If, Else, Loop, End, Break, Continue, Call, Unknown}
+use Rattle.rules.specs.declared.kind.Kind.the-variants.{Do, End}
 use Rattle.rules.specs.Row.{Table, kindAt}
 use Rattle.rules.specs.Scan.{Part, body, thenPart, elsePart, loopBody, Open, regions, openAt, bodyRegion, functionRow, endOf}
 use Rattle.rules.specs.Value.{inside, takes, value}
-use Rattle.rules.specs.Line.{Line, lineAt, isGuard}
-use Rattle.rules.specs.Harden.{lineOf, rowLines, endValue, harden}
-use Rattle.rules.specs.Match.{isDo, guardFrom, guardBetween}
-use Rattle.rules.proofs.Logic.{clash}
+use Rattle.rules.specs.Line.{Line}
+use Rattle.rules.specs.Harden.{lineOf, endValue, harden}
 use Rattle.rules.proofs.Accepted.{Proper}
 use Rattle.rules.proofs.Value.{AllHeld, held, Held, value-moves}
-use Rattle.rules.proofs.Harden.{line-at}
 use Rattle.rules.proofs.Function.{part-takes, InFunction, function-end, body-is, not-past-end, not-silent}
 use Rattle.rules.proofs.Counter.Counters.{counterOf, counters, holding, at-region}
 use Rattle.rules.proofs.Counter.Unique.{unique}

@@ -2,7 +2,7 @@
 -- at place m with one function open, and one step later before a do and at place m with more open. Assumes that the table is accepted.
 use mathlib.Core.Logic.{_⊎_, inl, inr}
 use mathlib.Core.Path.{_≡_, refl, sym, ap, _∙_, subst}
-use mathlib.Core.Bool.{Bool, true, false}
+use mathlib.Core.Bool.{true, false}
 use mathlib.Core.List.{List, [], _∷_, _++_}
 use Prim.Native.Nat.{ℕ, suc, _+_, _≤_, _<_}
 use native.Mathlib.Nat.{eq-or-lt-of-le}
@@ -10,7 +10,7 @@ use native.Mathlib.Omega.{arith}
 use lib.ListN.{length}
 use lib.Dec.{eqb}
 use borrow.Author.Tests.{eq-eqb, ne-eqb}
-use Rattle.rules.specs.declared.kind.Kind.the-variants.{Do, Call}
+use Rattle.rules.specs.declared.kind.Kind.the-variants.{Do}
 use Rattle.rules.specs.declared.step.Step.the-variants.{Finished, Alarm}
 use Rattle.rules.specs.Row.{Table, kindAt, operandsAt}
 use Rattle.rules.specs.Scan.{Open}
@@ -19,7 +19,7 @@ use Rattle.rules.specs.Harden.{lineCount, lineOf, backOf, rowLines, hard
 use Rattle.rules.specs.Function.{startOf, finishOf, lastPlace}
 use Rattle.rules.specs.Variables.{doneOn}
 use Rattle.rules.specs.State.{Frame, State}
-use Rattle.rules.specs.Run.{on, ends}
+use Rattle.rules.specs.Run.{ends}
 use Rattle.rules.specs.Source.{Source}
 use Rattle.rules.specs.Form.{Form, must, leavesOf, lineStepOf, stepOf, placeLine}
 use Rattle.rules.specs.Match.{guardBetween}

@@ -11,7 +11,7 @@ use borrow.Author.Tests.{ne-eqb}
 use Rattle.rules.specs.declared.kind.Kind.{Kind}
 use Rattle.rules.specs.declared.kind.Kind.the-variants.{Function, Do, If, Else, Loop, End, Break, Continue, Call, Unknown}
 use Rattle.rules.specs.Row.{Table, kindAt}
-use Rattle.rules.specs.Scan.{Part, body, thenPart, elsePart, loopBody, Open, regions, bodyRegion, hasElse, functionRow}
+use Rattle.rules.specs.Scan.{Part, body, thenPart, elsePart, loopBody, Open, regions, hasElse, functionRow}
 use Rattle.rules.specs.Check.{isThen, misplacedIn}
 use Rattle.rules.specs.Value.{base, value}
 use Rattle.rules.specs.Line.{lineAt}

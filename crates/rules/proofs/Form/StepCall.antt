@@ -5,21 +5,19 @@ use mathlib.Core.Path.{_≡_, refl, sym, ap, _∙_}
 use mathlib.Core.Bool.{Bool, true, false, cond}
 use mathlib.Core.List.{List, [], _∷_}
 use Prim.Native.Nat.{ℕ, suc, _+_, _-_, _<_}
-use native.Mathlib.Nat.{add-zero}
 use native.Mathlib.Omega.{arith}
 use lib.ListN.{length}
-use lib.Dec.{eqb, ltb}
-use borrow.Author.Tests.{eq-eqb}
+use lib.Dec.{ltb}
 use Rattle.rules.specs.declared.kind.Kind.the-variants.{Do, End, Call}
 use Rattle.rules.specs.declared.step.Step.{Step}
 use Rattle.rules.specs.declared.step.Step.the-variants.{Went, Finished, Alarm, TooManyOpen, Beyond}
 use Rattle.rules.specs.Limits.{maxOpen}
 use Rattle.rules.specs.Row.{Table, kindAt, operandsAt}
-use Rattle.rules.specs.Scan.{body, Open, regions, bodyRegion, functionCount, functionRow}
+use Rattle.rules.specs.Scan.{body, Open, regions, functionCount, functionRow}
 use Rattle.rules.specs.Value.{base, value, valueIn}
 use Rattle.rules.specs.Line.{Line, tickLine, callLine, backLine, retLine}
-use Rattle.rules.specs.Harden.{lineOf, ownRegion, endLine, callOf, backOf, endValue, rowLines, harden}
-use Rattle.rules.specs.Function.{functionAt, retValue}
+use Rattle.rules.specs.Harden.{lineOf, ownRegion, endLine, callOf, backOf, rowLines, harden}
+use Rattle.rules.specs.Function.{functionAt}
 use Rattle.rules.specs.State.{Frame, State, frame}
 use Rattle.rules.specs.Run.{on, ends}
 use Rattle.rules.specs.Source.{returnRow, endRow, rowStep, sourceStep}
@@ -28,8 +26,8 @@ use Rattle.rules.proofs.Accepted.{Proper}
 use Rattle.rules.proofs.Scan.{open-next}
 use Rattle.rules.proofs.Value.{value-next, fresh-value}
 use Rattle.rules.proofs.Harden.{line-suc}
-use Rattle.rules.proofs.Function.{InFunction, move-to, entry, body-is, end-same, callee-known}
-use Rattle.rules.proofs.Place.{callee, ret-value}
+use Rattle.rules.proofs.Function.{InFunction, move-to, entry, callee-known}
+use Rattle.rules.proofs.Place.{callee}
 use Rattle.rules.proofs.Words.{word-at}
 use Rattle.rules.proofs.Form.Settles.{Settles, bodyPart, is-tick, is-call}
 use Rattle.rules.proofs.Form.Relation.{Back, waiting, sourceBacks, lineBacks, backs-length, src, hard, here, Linked, ready, backing, Related, Both, both-on, both-end, owing, source-step, line-step, body-below, ready-at}

@@ -1,12 +1,10 @@
 -- The two runs side by side where a part closes: an else, and the end of an if or a loop. Assumes that the table is accepted.
 use mathlib.Core.Path.{_≡_, refl, sym, ap, _∙_, subst}
-use mathlib.Core.Bool.{true, false, cond}
+use mathlib.Core.Bool.{true, false}
 use mathlib.Core.List.{List, _∷_}
-use Prim.Native.Nat.{ℕ, suc, _+_, _-_, _≤_, _<_}
+use Prim.Native.Nat.{ℕ, suc, _+_, _-_, _≤_}
 use native.Mathlib.Omega.{arith}
 use lib.ListN.{length}
-use lib.Dec.{eqb}
-use borrow.Author.Tests.{eq-eqb, ne-eqb}
 use Rattle.rules.specs.declared.kind.Kind.{Kind}
 use Rattle.rules.specs.declared.kind.Kind.the-variants.{Else, End}
 use Rattle.rules.specs.Row.{Table, kindAt}
@@ -27,7 +25,7 @@ use Rattle.rules.proofs.Function.{isBody, part-takes, InFunction, move-
 use Rattle.rules.proofs.Words.{word-of, region-in}
 use Rattle.rules.proofs.Form.Settles.{Settles}
 use Rattle.rules.proofs.Form.Parts.{holding}
-use Rattle.rules.proofs.Form.Relation.{Back, src, hard, here, Linked, Both, both-on, source-step, line-step, body-below, ready-at}
+use Rattle.rules.proofs.Form.Relation.{Back, src, hard, here, Linked, Both, both-on, source-step, line-step, ready-at}
 
 leave-line : {H : Type 0} (F : Form H) (ls : List Line) (n k : ℕ) (c : H) (rest : List (Frame H)) (l : H) (vs tr : List ℕ) (r s e a b go : ℕ) → F .guard k (leaveLine r s e a b go) .passes c l ≡ true
     → lineStepOf F ls k (leaveLine r s e a b go) (hard n k c rest l vs tr) ≡ on (hard n go (F .guard k (leaveLine r s e a b go) .moves true c) rest l vs tr)

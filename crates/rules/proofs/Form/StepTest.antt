@@ -5,7 +5,6 @@ use mathlib.Core.List.{List, [], _∷_, _++_}
 use Prim.Native.Nat.{ℕ, suc, _+_, _-_}
 use native.Mathlib.Omega.{arith}
 use lib.ListN.{length}
-use lib.Dec.{eqb}
 use borrow.Author.Tests.{ltb-true}
 use Rattle.rules.specs.declared.operands.Operands.{Operands}
 use Rattle.rules.specs.declared.kind.Kind.{Kind}

@@ -17,7 +17,7 @@ use Rattle.rules.specs.Limits.{noStep}
 use Rattle.rules.specs.Line.{Line}
 use Rattle.rules.specs.Function.{finishOf, lastPlace}
 use Rattle.rules.specs.State.{State, goTo}
-use Rattle.rules.specs.Run.{Turn, on, ends, untaken, next, Answer, after, run, outcomeOf}
+use Rattle.rules.specs.Run.{Turn, on, ends, untaken, Answer, after, run, outcomeOf}
 use Rattle.rules.specs.Form.{Form, strikeBy, placeLine, struck, stepOf, strikingStepOf, startBy, runOf}
 use Rattle.rules.specs.Match.{guardBetween}
 use Rattle.rules.specs.Demands.{beforeOf, strikesOf, Struck, struckShown, alarmStep, doneAt, caughtFrom, JumpedOf}
