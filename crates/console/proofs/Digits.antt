@@ -9,7 +9,6 @@ use borrow.Author.Tests.{leb-true, ltb-true, ltb-false, le-leb, lt-leb}
 use lib.Dec.{leb, ltb}
 use lib.ListN.{length, drop, getD}
 use lib.Seq.{drop-cons, drop-nil}
-use Rattle.console.specs.declared.number.Number.{Number}
 use Rattle.console.specs.declared.number.Number.the-variants.{Value, Other}
 use Rattle.console.specs.Number.{isFigure, areFigures, valueFrom, numberFrom, numberOf}
 

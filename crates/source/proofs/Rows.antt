@@ -12,7 +12,7 @@ use Rattle.rules.specs.declared.kind.Kind.{Kind}
 use Rattle.rules.specs.declared.kind.Kind.the-variants.{If, Else, End, Break, Continue, Call}
 use Rattle.rules.specs.declared.refusal.Verdict.the-variants.{Accepted}
 use Rattle.rules.specs.Row.{Table, tableOf, kindAt, operandsAt}
-use Rattle.rules.specs.Scan.{Part, body, Open, pushes, closes, stays, shapeOf, openAfter, regions, openAt, partOf, openerOf, around, fromLoop, endOf, elseOf, hasElse, functionRow}
+use Rattle.rules.specs.Scan.{Part, Open, pushes, closes, stays, shapeOf, openAfter, regions, openAt, partOf, openerOf, around, fromLoop, endOf, elseOf, hasElse, functionRow}
 use Rattle.rules.specs.Check.{isOutside, misplacedIn, verdictOf}
 use Rattle.rules.specs.Links.{isOpening}
 use Rattle.rules.specs.Source.{falseRow}

@@ -1,9 +1,7 @@
 use native.Mathlib.Omega.{arith}
-use mathlib.Core.Path.{_≡_, sym}
-use lib.Seq.{length-take-le}
 use denote.Ref.{now}
 use Prim.Native.Nat.{_/_}
-use Prim.Native.Nat.{ℕ, _+_, _*_, _-_, _≤_, _<_}
+use Prim.Native.Nat.{_-_}
 use lib.ListN.{length}
 use borrow.Author.Needs.{needs}
 use Rattle.harden.proofs.output.some_lines.Statement.{statement}

@@ -1,8 +1,6 @@
 use borrow.Author.Needs.{needs}
-use native.Mathlib.Omega.{arith}
 use lib.ListN.{length}
-use Prim.Native.Nat.{_+_, _*_, _-_, _≤_}
-use mathlib.Core.Path.{_≡_}
+use Prim.Native.Nat.{_-_, _≤_}
 use Rattle.replay.proofs.runs.all_are.Statement.{statement}
 use Rattle.replay.proofs.runs.all_are.Tie as tie
 use Rattle.replay.proofs.runs.all_are.Reads as reads

@@ -1,10 +1,9 @@
 use borrow.Author.Needs.{needs}
 use native.Mathlib.Omega.{arith}
 use lib.ListN.{length, length-set}
-use Prim.Native.Nat.{_+_, _*_, _-_, _≤_}
+use Prim.Native.Nat.{_*_, _-_, _≤_}
 use mathlib.Core.Path.{_≡_, sym}
 use lib.Seq.{length-take-le}
-use Rattle.io.specs.Counts.{Counts}
 use Rattle.replay.proofs.show.list.Statement.{statement}
 use Rattle.replay.proofs.show.list.Tie as tie
 use Rattle.replay.proofs.show.list.Reads as reads
