@@ -1,5 +1,6 @@
 // Whether a row's fields are as its kind uses them (cause 3).
 use rules::kind::Kind;
+use rules::limits::VARIABLES;
 ghost use mathlib.Core.Path.{_≡_};
 ghost use mathlib.Core.Bool.{_&&_};
 ghost use Rattle.rules.specs.Row.{fieldsFit, isUnused, isVariable, usesNone, usesNumber, usesVariable, usesFunction, doUses, testUses};
@@ -20,7 +21,7 @@ fn unused_word(n: usize) -> bool
 fn variable(x: u8) -> bool
     ensures { λ r. ⌜ r ≡ isVariable x ⌝ }
 {
-    x < 16
+    (x as usize) < VARIABLES
 }
 
 fn both(a: bool, b: bool) -> bool

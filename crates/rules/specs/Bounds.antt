@@ -5,7 +5,7 @@ use mathlib.Core.List.{List}
 use lib.ListN.{length}
 use Rattle.rules.specs.declared.operands.Operands.{Operands}
 use Rattle.rules.specs.declared.refusal.Verdict.the-variants.{Accepted}
-use Rattle.rules.specs.Limits.{maxRows, maxFunctions, maxRegions}
+use Rattle.rules.specs.Limits.{maxRows, maxFunctions, maxRegions, maxVariables}
 use Rattle.rules.specs.Bytes.{AreBytes}
 use Rattle.rules.specs.Row.{tableOf}
 use Rattle.rules.specs.Check.{verdictOf}
@@ -19,8 +19,8 @@ Word x = x < 65536
 
 pub record VariablesIn (o : Operands) : Type 0 where
   pub op-in : o .op < 4
-  pub p-in : o .p < 16
-  pub q-in : o .q < 16
+  pub p-in : o .p < maxVariables
+  pub q-in : o .q < maxVariables
   pub n-in : Word (o .n)
 
 -- a line number inside function f

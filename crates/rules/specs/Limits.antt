@@ -23,6 +23,10 @@ maxLines = 2048
 abbrev pub maxOpen : ℕ
 maxOpen = 16
 
+-- variables of a run, v0 to v15
+abbrev pub maxVariables : ℕ
+maxVariables = 16
+
 -- 01, "What turns a call away", 9: a counter word for each region of each open function
 abbrev pub counterWords : ℕ
 counterWords = 1024

@@ -91,7 +91,7 @@ abbrev pub isUnused : ℕ → Bool
 isUnused x = eqb x 0
 
 abbrev pub isVariable : ℕ → Bool
-isVariable x = ltb x 16
+isVariable x = ltb x maxVariables
 
 abbrev pub usesNone : Operands → Bool
 usesNone o = isUnused (o .op) && isUnused (o .p) && isUnused (o .q) && isUnused (o .n)
