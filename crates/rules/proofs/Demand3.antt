@@ -8,7 +8,7 @@ use Rattle.rules.specs.Line.{linesIn}
 use Rattle.rules.specs.Harden.{harden}
 use Rattle.rules.specs.ReadBack.{sourceBytes, isHardened}
 use Rattle.rules.specs.Hardened.{counterForm}
-use Rattle.rules.specs.Demands.{DemandOf, Theorem}
+use Rattle.rules.specs.Demands.{Demand, Theorem}
 use Rattle.rules.proofs.Accepted.{Proper, proper}
 use Rattle.rules.proofs.Reading.{lines-of, hardened-source}
 use Rattle.rules.proofs.Form.Demand.{demand-of}
@@ -26,5 +26,5 @@ pub demand-3 : Theorem
 demand-3 lines vars budget k place e =
     let ok = source-proper lines e in
     let t = tableOf (sourceBytes lines) in
-    subst (λ ls. DemandOf (counterForm ls) ls t vars budget k place) (hardened-lines lines e)
+    subst (λ ls. Demand (counterForm ls) ls t vars budget k place) (hardened-lines lines e)
     (demand-of t ok (counterSettles t ok) (counterStrict t ok) vars budget k place)

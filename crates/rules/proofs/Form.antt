@@ -1,6 +1,5 @@
 -- The forms in general: what a form owes, two sets of laws about one kind of line each (Settles, Strict), and demand 3 of every form that
 -- meets both (Demand).
-pub mod Parts
 pub mod Settles
 pub mod Relation
 pub mod StepTest

@@ -9,14 +9,15 @@ pub mod Close
 pub mod Harden
 pub mod Function
 pub mod Place
+pub mod Parts
 pub mod Guard
+pub mod ValueBound
 pub mod Words
 -- ---- the forms in general
 pub mod Form
 -- ---- the counter form
 pub mod Counter
 -- ---- bounds, bytes and reading back
-pub mod ValueBound
 pub mod RegionBound
 pub mod FunctionLine
 pub mod FieldBound

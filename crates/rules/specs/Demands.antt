@@ -19,7 +19,9 @@
 --
 -- The "source's run" is that of the table which the bytes are read back to.
 --
--- Each part is said of any form of hardened lines; `Demand3` and `Theorem` are about the counter form, whose bytes are 01's.
+-- Each part is said of any form of hardened lines; `Demand3` and `Theorem` are about the counter form, whose bytes are 01's. A form is given
+-- with the lines, before values, budget and jump: so one whose guards all pass does not meet `caught`, and one whose guards all refuse
+-- does not meet `no-alarm`.
 use Prim.Native.Nat.{ℕ, suc, _+_, _≤_, _<_}
 use mathlib.Core.Logic.{_≢_}
 use mathlib.Core.Path.{_≡_}
@@ -38,16 +40,16 @@ use Rattle.rules.specs.Run.{Answer, outcomeOf}
 use Rattle.rules.specs.Source.{sourceRun}
 use Rattle.rules.specs.Form.{Form, strikeBy, placeLine, runOf}
 use Rattle.rules.specs.Hardened.{counterForm}
-use Rattle.rules.specs.Match.{shown, matchingOf, dosIn, callsIn, guardBetween}
+use Rattle.rules.specs.Match.{shown, matching, dosIn, callsIn, guardBetween}
 
 -- ---- unstruck
-pub record UnstruckOf {H : Type 0} (F : Form H) (ls : List Line) (t : Table) (vs : List ℕ) (b : ℕ) : Type 0 where
-  pub as-source : shown (runOf F ls None b vs) ≡ shown (sourceRun t (matchingOf F ls b vs) vs)
-  pub at-matching : (sourceRun t (matchingOf F ls b vs) vs) .steps ≡ matchingOf F ls b vs
+pub record Unstruck {H : Type 0} (F : Form H) (ls : List Line) (t : Table) (vs : List ℕ) (b : ℕ) : Type 0 where
+  pub as-source : shown (runOf F ls None b vs) ≡ shown (sourceRun t (matching F ls b vs) vs)
+  pub at-matching : (sourceRun t (matching F ls b vs) vs) .steps ≡ matching F ls b vs
   pub no-alarm : outcomeOf ((runOf F ls None b vs) .step) ≢ 2
 
 -- the source's run of budget b finishes, and the hardened run has the budget c for it
-pub record FinishingOf {H : Type 0} (F : Form H) (ls : List Line) (t : Table) (vs : List ℕ) (b c : ℕ) : Type 0 where
+pub record Finishing {H : Type 0} (F : Form H) (ls : List Line) (t : Table) (vs : List ℕ) (b c : ℕ) : Type 0 where
   pub finishes : outcomeOf ((sourceRun t b vs) .step) ≡ 1 → (sourceRun t b vs) .steps + dosIn t b vs + callsIn t b vs ≤ c
       → outcomeOf ((runOf F ls None c vs) .step) ≡ 1
   pub in-steps : outcomeOf ((sourceRun t b vs) .step) ≡ 1 → (sourceRun t b vs) .steps + dosIn t b vs + callsIn t b vs ≤ c
@@ -55,12 +57,12 @@ pub record FinishingOf {H : Type 0} (F : Form H) (ls : List Line) (t : Table) (v
 
 -- ---- a jump before step k
 -- what the first k steps of the unstruck run come to
-abbrev pub beforeOf : {H : Type 0} → Form H → List Line → (vs : List ℕ) → (k : ℕ) → Answer H
-beforeOf F ls vs k = runOf F ls None k vs
+abbrev pub before : {H : Type 0} → Form H → List Line → (vs : List ℕ) → (k : ℕ) → Answer H
+before F ls vs k = runOf F ls None k vs
 
 -- "a run that ends before k, or whose budget is k, is not struck"; "k = 65,535 is no jump"
-abbrev pub strikesOf : {H : Type 0} → Form H → List Line → (vs : List ℕ) → (b k : ℕ) → Bool
-strikesOf F ls vs b k = not (eqb k noStep) && ltb k b && eqb (outcomeOf ((beforeOf F ls vs k) .step)) 0
+abbrev pub strikes : {H : Type 0} → Form H → List Line → (vs : List ℕ) → (b k : ℕ) → Bool
+strikes F ls vs b k = not (eqb k noStep) && ltb k b && eqb (outcomeOf ((before F ls vs k) .step)) 0
 
 -- "in step k if the place is before a guard, or is m with one function open; in step k + 1 if it is before a do .. or is m with
 -- more open"
@@ -109,29 +111,29 @@ alarmIn x b s =
 unfoldable pub caughtFrom : {H : Type 0} → List Line → (b k place : ℕ) → State H → Struck
 caughtFrom ls b k p s = alarmIn (alarmStep ls p k s) b (doneAt ls p s)
 
-pub record JumpedOf {H : Type 0} (F : Form H) (ls : List Line) (vs : List ℕ) (b k p : ℕ) : Type 0 where
-  pub not-struck : strikesOf F ls vs b k ≡ false → runOf F ls (strikeBy k p) b vs ≡ runOf F ls None b vs
-  pub beyond : strikesOf F ls vs b k ≡ true → lastPlace ls ((beforeOf F ls vs k) .state .running .function) < p
+pub record Jumped {H : Type 0} (F : Form H) (ls : List Line) (vs : List ℕ) (b k p : ℕ) : Type 0 where
+  pub not-struck : strikes F ls vs b k ≡ false → runOf F ls (strikeBy k p) b vs ≡ runOf F ls None b vs
+  pub beyond : strikes F ls vs b k ≡ true → lastPlace ls ((before F ls vs k) .state .running .function) < p
       → runOf F ls (strikeBy k p) b vs
       ≡ record {
-        step = Beyond (lastPlace ls ((beforeOf F ls vs k) .state .running .function));
+        step = Beyond (lastPlace ls ((before F ls vs k) .state .running .function));
         steps = k;
-        state = (beforeOf F ls vs k) .state;
+        state = (before F ls vs k) .state;
       }
-  pub caught : strikesOf F ls vs b k ≡ true → p ≤ lastPlace ls ((beforeOf F ls vs k) .state .running .function)
-      → guardBetween ls ((beforeOf F ls vs k) .state .running .at) (placeLine ls p ((beforeOf F ls vs k) .state)) ≡ true
-      → struckShown (runOf F ls (strikeBy k p) b vs) ≡ caughtFrom ls b k p ((beforeOf F ls vs k) .state)
+  pub caught : strikes F ls vs b k ≡ true → p ≤ lastPlace ls ((before F ls vs k) .state .running .function)
+      → guardBetween ls ((before F ls vs k) .state .running .at) (placeLine ls p ((before F ls vs k) .state)) ≡ true
+      → struckShown (runOf F ls (strikeBy k p) b vs) ≡ caughtFrom ls b k p ((before F ls vs k) .state)
 
 -- ---- demand 3, of a form's lines, the source table, one set of first values, one budget and one jump
-pub record DemandOf {H : Type 0} (F : Form H) (ls : List Line) (t : Table) (vars : List ℕ) (budget k place : ℕ) : Type 0 where
-  pub unstruck : UnstruckOf F ls t vars budget
-  pub finishing : (c : ℕ) → FinishingOf F ls t vars budget c
-  pub jumped : JumpedOf F ls vars budget k place
+pub record Demand {H : Type 0} (F : Form H) (ls : List Line) (t : Table) (vars : List ℕ) (budget k place : ℕ) : Type 0 where
+  pub unstruck : Unstruck F ls t vars budget
+  pub finishing : (c : ℕ) → Finishing F ls t vars budget c
+  pub jumped : Jumped F ls vars budget k place
 
 -- ---- of a hardened table of the counter form
 abbrev pub Demand3 : (lines vars : List ℕ) (budget k place : ℕ) → Type 0
 Demand3 lines vars budget k place =
-    DemandOf (counterForm (linesIn lines)) (linesIn lines) (tableOf (sourceBytes lines)) vars budget k place
+    Demand (counterForm (linesIn lines)) (linesIn lines) (tableOf (sourceBytes lines)) vars budget k place
 
 -- of all of them
 abbrev pub Theorem : Type 0

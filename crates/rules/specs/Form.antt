@@ -14,20 +14,23 @@ use Rattle.rules.specs.Run.{Turn, on, ends, untaken, next, Answer, run}
 use Rattle.rules.specs.Line.{Line, doLine, tickLine, testLine, leaveLine, outLine, callLine, backLine, retLine, lineAt}
 use Rattle.rules.specs.Function.{functionAt, startOf, finishOf, lastPlace}
 
--- What a line does with what functions keep: whether it passes, by what the running function keeps and what the function that returned
--- last had kept; what the running function keeps then, on the only or a test's true way (true) and on a test's false way (false); what a
--- callee opens with.
+-- What a line does with what functions keep, H.
 pub record Guard (H : Type 0) : Type 0 where
+  -- whether it passes, by what the running function keeps and what the function that returned last had kept; else alarm
   pub passes : (own last : H) → Bool
+  -- what the running function keeps then: on the only way, or a test's true way (true), or its false way (false)
   pub moves : (way : Bool) → H → H
+  -- what a callee opens with
   pub opens : H
 
--- What each line k does, when the host finds that function 0 has ended, what function 0 opens with, and what "returned last" is
--- where nothing has returned.
 pub record Form (H : Type 0) : Type 0 where
+  -- what line k does; the machine does not ask it of a do
   pub guard : (k : ℕ) → Line → Guard H
+  -- whether the host finds that function 0 has ended; else alarm
   pub ended : H → Bool
+  -- what function 0 opens with
   pub first : H
+  -- what the function that returned last is taken to have kept where none has returned
   pub nothing : H
 
 -- the same function goes on at line k, what it keeps changed
@@ -42,35 +45,44 @@ must false s t = ends Alarm s
 abbrev pub guarded : {H : Type 0} → Guard H → State H → Turn H → Turn H
 guarded g s t = must (g .passes (s .running .own) (s .last)) s t
 
--- A return, from a ret or from place m. "When function 0 returns as the only open one, the host compares"
+-- A return, from a ret or from place m. "When function 0 returns as the only open one, the host compares .. else alarm."
 abbrev pub leavesOf : {H : Type 0} → Form H → State H → List (Frame H) → Turn H
 leavesOf F s [] = must (F .ended (s .running .own)) s (ends Finished s)
 leavesOf F s (f ∷ fs) = on (returning f fs s)
 
--- The column "Step": what line k does. The call that is one too many is not made.
+-- The column "Step" of 01's table of lines, but for what a guard compares and changes.
 unfoldable pub lineStepOf : {H : Type 0} → Form H → List Line → (k : ℕ) → Line → State H → Turn H
+-- 21 do: "does it, next line"
 lineStepOf F ls k (doLine o e) now = moved (suc k) (λ x. x) (did o e now)
+-- 22 tick: the next line
 lineStepOf F ls k (tickLine r e a) now =
     let g = F .guard k (tickLine r e a) in
     guarded g now (moved (suc k) (g .moves true) now)
+-- 23 test: "check, then the test. True: .. next line. False: .. go"
 lineStepOf F ls k (testLine o r s t e a b c go) now =
     let g = F .guard k (testLine o r s t e a b c go) in
     guarded g now (cond (holdsOn o (now .vars)) (moved (suc k) (g .moves true) now) (moved go (g .moves false) now))
+-- 24 leave: ".. go"
 lineStepOf F ls k (leaveLine r s e a b go) now =
     let g = F .guard k (leaveLine r s e a b go) in
     guarded g now (moved go (g .moves true) now)
+-- 25 out: ".. go"
 lineStepOf F ls k (outLine r s t e a go) now =
     let g = F .guard k (outLine r s t e a go) in
     guarded g now (moved go (g .moves true) now)
+-- 26 call: "check; then outcome 3 if 16 functions are open; .. callee opens .. go to its first line". The call that is one too many is
+-- not made.
 lineStepOf F ls k (callLine r e a b go) now =
     let g = F .guard k (callLine r e a b go) in
     guarded g now
     (cond (ltb (depth now) maxOpen)
     (on (opening (functionAt ls go) go (g .opens) (goTo (suc k) (g .moves true (now .running .own)) now)))
     (ends (TooManyOpen maxOpen) now))
+-- 27 back: the next line
 lineStepOf F ls k (backLine r e a b) now =
     let g = F .guard k (backLine r e a b) in
     guarded g now (moved (suc k) (g .moves true) now)
+-- 28 ret: ".. return"
 lineStepOf F ls k (retLine e a) now =
     let g = F .guard k (retLine e a) in
     guarded g now (leavesOf F (goTo k (g .moves true (now .running .own)) now) (now .callers))

@@ -40,30 +40,31 @@ simply check change = record { passes = λ x last. check x; moves = λ way x. ch
 abbrev pub counterGuard : (k : ℕ) → Line → Guard Counters
 -- 21 do is no guard
 counterGuard k (doLine o e) = simply (λ x. true) (λ x. x)
--- 22 tick: "check; r gets a"
+-- 22 tick: "check; r gets a = e+1"
 counterGuard k (tickLine r e a) = simply (holds r e) (put r a)
--- 23 test: "check .. True: r gets a, s gets its base b .. False: r gets a, then t gets c"
+-- 23 test: "check, .. True: r gets a = e+1, s (region opened) gets its base b, .. False: r gets a, then t gets c, .."
 counterGuard k (testLine o r s t e a b c go) =
     record {
       passes = λ x last. holds r e x;
       moves = λ way x. cond way (put s b (put r a x)) (put t c (put r a x));
       opens = clear;
     }
--- 24 leave: "check; r gets 0; s (region around) must hold b, else alarm; s gets a"
+-- 24 leave: "check; r gets 0; s (region around) must hold b, else alarm; s gets a; .."
 counterGuard k (leaveLine r s e a b go) = simply (λ x. holds r e x && holds s b (put r 0 x)) (λ x. put s a (put r 0 x))
--- 25 out: "check; counters t (loop body) to r get 0; s (around the loop) gets a"
+-- 25 out: "check; counters t (loop body) to r get 0; s (around the loop) gets a; .."
 counterGuard k (outLine r s t e a go) = simply (holds r e) (λ x. put s a (clearFrom t r x))
--- 26 call: "check; .. r gets a; callee opens, counters 0, its region 0 gets its base b"
+-- 26 call: "check; .. r gets a = e+1; callee opens, counters 0, its region 0 gets its base b; .."
 counterGuard k (callLine r e a b go) =
     record { passes = λ x last. holds r e x; moves = λ way x. put r a x; opens = put 0 b clear }
--- 27 back: "check; the region 0 counter of the function that returned last in the run .. must have ended at b, else alarm; r gets a"
+-- 27 back: "check; the region 0 counter of the function that returned last in the run .. must have ended at b, else alarm; r gets a = e+1"
 counterGuard k (backLine r e a b) =
     record { passes = λ x last. holds r e x && holds 0 b last; moves = λ way x. put r a x; opens = clear }
--- 28 ret: "check; r gets a"
+-- 28 ret: "check; r gets a = e+1; .."
 counterGuard k (retLine e a) = simply (holds 0 e) (put 0 a)
 
--- "the host compares its region 0 counter with the a of its ret: equal is finished"; "A hardened run opens function 0 at line 0,
--- counters 0 but region 0's at its base", which is 1: no region opened before it; "0 if none has" returned
+-- ended: "the host compares its region 0 counter with the a of its ret: equal is finished, else alarm"
+-- first: "counters 0 but region 0's at its base", which is 1: no region opened before it
+-- nothing: "0 if none has" returned
 abbrev pub counterForm : List Line → Form Counters
 counterForm ls =
     record { guard = counterGuard; ended = holds 0 (retValue ls 0); first = put 0 1 clear; nothing = clear }
@@ -84,6 +85,7 @@ hardenedStep ls s = stepOf (counterForm ls) ls s
 abbrev pub strikingStep : List Line → Strike → (k : ℕ) → Hardened → Turn Counters
 strikingStep ls j k s = strikingStepOf (counterForm ls) ls j k s
 
+-- what function 0 opens with does not go by the lines
 abbrev pub hardenedStart : (vars : List ℕ) → Hardened
 hardenedStart vs = startBy (counterForm []) vs
 

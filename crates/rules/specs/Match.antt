@@ -48,8 +48,8 @@ quietAt ls s =
     not (eqb (s .running .at) (finishOf ls (s .running .function))) && isQuiet (lineAt ls (s .running .at))
 
 -- "Matching step: hardened steps less the ticks and backs done."
-unfoldable pub matchingOf : {H : Type 0} → Form H → List Line → (budget : ℕ) → (vars : List ℕ) → ℕ
-matchingOf F ls b vs = (runOf F ls None b vs) .steps - tally (quietAt ls) (strikingStepOf F ls None) b 0 (startBy F vs)
+unfoldable pub matching : {H : Type 0} → Form H → List Line → (budget : ℕ) → (vars : List ℕ) → ℕ
+matching F ls b vs = (runOf F ls None b vs) .steps - tally (quietAt ls) (strikingStepOf F ls None) b 0 (startBy F vs)
 
 -- "a source run that finishes in n steps with t dos and c calls": those among its first b steps
 abbrev pub isDo : Kind → Bool

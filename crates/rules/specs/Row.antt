@@ -7,6 +7,7 @@ use lib.ListN.{length, getD}
 use Rattle.rules.specs.declared.kind.Kind.{Kind}
 use Rattle.rules.specs.declared.kind.Kind.the-variants.{Function, Do, If, Else, Loop, End, Break, Continue, Call, Unknown}
 use Rattle.rules.specs.declared.operands.Operands.{Operands}
+use Rattle.rules.specs.Limits.{maxVariables}
 use Rattle.rules.specs.Bytes.{low, high, wordAt}
 
 pub record Row : Type 0 where

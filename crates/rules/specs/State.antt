@@ -5,7 +5,7 @@ use lib.ListN.{length}
 use Rattle.rules.specs.declared.operands.Operands.{Operands}
 use Rattle.rules.specs.Variables.{doneOn}
 
--- An open function: its number, the row or line that it goes on at, and what is its own (the counters, in a hardened run).
+-- An open function: its number, the row or line that it goes on at, and what is its own (what its form keeps, in a hardened run).
 pub record Frame (C : Type 0) : Type 0 where
   pub function : ℕ
   pub at : ℕ

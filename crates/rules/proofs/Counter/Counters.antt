@@ -14,7 +14,7 @@ use Rattle.rules.specs.Value.{inside, valueIn}
 use Rattle.rules.specs.Hardened.{Counters, clear, put, clearFrom}
 use Rattle.rules.proofs.Logic.{clash}
 use Rattle.rules.proofs.Scan.{Chain, NotIn, chain-not-in}
-pub use Rattle.rules.proofs.Form.Parts.{holding, LoopIn, loop-in}
+use Rattle.rules.proofs.Parts.{holding, loop-in}
 
 -- The counter of region x, where the innermost of the parts fs holds v: each part around holds what its inner part's row left,
 -- and every other region 0.

@@ -16,7 +16,8 @@ use Rattle.rules.proofs.Accepted.{Proper}
 use Rattle.rules.proofs.Scan.{origin}
 use Rattle.rules.proofs.Value.{AllHeld, held, Held, value-moves, value-pos}
 use Rattle.rules.proofs.Function.{part-takes, not-silent}
-use Rattle.rules.proofs.Counter.Counters.{counterOf, holding}
+use Rattle.rules.proofs.Parts.{holding}
+use Rattle.rules.proofs.Counter.Counters.{counterOf}
 
 module _ (t : Table) (ok : Proper t) (j : ℕ) (h : Open) (hs : List Open) (d : ℕ) (jl : j < length t) (l : openAt t j ≡ h ∷ hs) (b : d ≤ takes (kindAt t j) (h .part) - 1) where
   -- both in one region

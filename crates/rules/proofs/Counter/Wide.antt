@@ -19,9 +19,9 @@ use Rattle.rules.specs.Harden.{lineOf, endValue, harden}
 use Rattle.rules.proofs.Accepted.{Proper}
 use Rattle.rules.proofs.Value.{AllHeld, held, Held, value-moves}
 use Rattle.rules.proofs.Function.{part-takes, InFunction, function-end, body-is, not-past-end, not-silent}
-use Rattle.rules.proofs.Counter.Counters.{counterOf, counters, holding, at-region}
+use Rattle.rules.proofs.Parts.{holding, body-below}
+use Rattle.rules.proofs.Counter.Counters.{counterOf, counters, at-region}
 use Rattle.rules.proofs.Counter.Unique.{unique}
-use Rattle.rules.proofs.Form.Relation.{body-below}
 use Rattle.rules.proofs.Guard.{checksAt, checksFor, phaseOf, Guards}
 use Rattle.rules.proofs.Form.Where.{Between, not-same, not-over-do, From, at-guard, before-do, Stands}
 

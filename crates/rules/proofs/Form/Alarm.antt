@@ -1,4 +1,4 @@
--- The step that a wide jump strikes, in every form whose guards pass only at their own place: the alarm comes at once before a guard and
+-- The step that a wide jump strikes, in every strict form: the alarm comes at once before a guard and
 -- at place m with one function open, and one step later before a do and at place m with more open. Assumes that the table is accepted.
 use mathlib.Core.Logic.{_⊎_, inl, inr}
 use mathlib.Core.Path.{_≡_, refl, sym, ap, _∙_, subst}
@@ -32,7 +32,7 @@ use Rattle.rules.proofs.Place.{start-finish, before-finish, line-of}
 use Rattle.rules.proofs.Form.Settles.{Settles}
 use Rattle.rules.proofs.Form.Relation.{Back, waiting, lineBacks, hard, Linked, Related, step-at}
 use Rattle.rules.proofs.Guard.{Sort, a-do, a-guard, sort}
-use Rattle.rules.proofs.Form.Struck.{landedAt, CaughtOf, at-once, one-later}
+use Rattle.rules.proofs.Form.Struck.{landedAt, Caught, at-once, one-later}
 use Rattle.rules.proofs.Form.Strict.{Strict}
 use Rattle.rules.proofs.Form.Where.{Between, up, down, between, Stands, stands}
 
@@ -65,7 +65,7 @@ guard-keeps (Line.callLine r e a b go) g s = refl
 guard-keeps (backLine r e a b) g s = refl
 guard-keeps (Line.retLine e a) g s = refl
 
--- a guard across which line k lies is across the line after a do too
+-- a guard between k and a do is also between k and the line after the do
 past-do : (ls : List Line) (k k′ : ℕ) → isGuard (lineAt ls k′) ≡ false → Between ls k k′ → Between ls k (suc k′)
 past-do ls k k′ d (up x a b g) = up x a (omega arith) g
 past-do ls k k′ d (down x a b g) = by (eq-or-lt-of-le a)
@@ -88,7 +88,7 @@ module _ (t : Table) (ok : Proper t) {H : Type 0} {F : Form H} (S : Settles t F)
   abbrev at : ℕ
   at = startOf (harden t) n + p
 
-  caught-last : p ≡ lastPlace (harden t) n → (bs : List Back) → Linked t n bs → CaughtOf F (harden t) p (from (lineBacks S bs))
+  caught-last : p ≡ lastPlace (harden t) n → (bs : List Back) → Linked t n bs → Caught F (harden t) p (from (lineBacks S bs))
   unfolding alarmStep rowLines
   caught-last e [] lk = at-once (λ k. rw (eq-eqb p (lastPlace (harden t) n) e)) (landedAt (harden t) p (from []))
       (step-finish F t n at cn [] l vs tr (omega (arith, start-finish t ok n (st .in-function .known)))
@@ -117,14 +117,14 @@ module _ (t : Table) (ok : Proper t) {H : Type 0} {F : Form H} (S : Settles t F)
     not-last : eqb p (lastPlace (harden t) n) ≡ false
     not-last = ne-eqb p (lastPlace (harden t) n) (omega arith)
 
-    caught-guard : (ℓ : Line) → lineAt (harden t) at ≡ ℓ → isGuard ℓ ≡ true → CaughtOf F (harden t) p (from rest)
+    caught-guard : (ℓ : Line) → lineAt (harden t) at ≡ ℓ → isGuard ℓ ≡ true → Caught F (harden t) p (from rest)
     unfolding alarmStep doneAt
     caught-guard ℓ q g = at-once (λ k. rw (not-last, q, g)) (landedAt (harden t) p (from rest))
         (step-at S n at ℓ (omega arith) q cn rest l vs tr
         ∙ check-fails F (harden t) ℓ n at cn rest l vs tr g (subst (λ x. F .guard at x .passes cn l ≡ false) q (R .refuses n k w f fs st at (omega arith) (omega arith) (ap isGuard q ∙ g) wide l)))
         (rw (not-last, q, guard-keeps ℓ g (from rest)) (record { vars-are = refl; trace-is = refl }))
 
-    caught-do : (j : ℕ) (h : Open) (hs : List Open) → InFunction t n j h hs → at ≡ lineOf t j → kindAt t j ≡ Do → lineAt (harden t) at ≡ doLine (operandsAt t j) j → CaughtOf F (harden t) p (from rest)
+    caught-do : (j : ℕ) (h : Open) (hs : List Open) → InFunction t n j h hs → at ≡ lineOf t j → kindAt t j ≡ Do → lineAt (harden t) at ≡ doLine (operandsAt t j) j → Caught F (harden t) p (from rest)
     unfolding alarmStep doneAt rowLines lineStepOf
     caught-do j h hs mj is r q =
         let done = hard n (suc at) cn rest l (doneOn (operandsAt t j) vs) (tr ++ (j ∷ [])) in
@@ -142,15 +142,15 @@ module _ (t : Table) (ok : Proper t) {H : Type 0} {F : Form H} (S : Settles t F)
         (rw (not-last, q) (record { vars-are = refl; trace-is = refl })) (rw (not-last, q) (record { vars-are = refl; trace-is = refl }))
 
     caught-line : (j ph : ℕ) (h : Open) (hs : List Open) → InFunction t n j h hs → at ≡ lineOf t j + ph → lineAt (harden t) at ≡ lineAt (rowLines t j (h ∷ hs) (kindAt t j)) ph
-        → Sort t j h hs ph (lineAt (rowLines t j (h ∷ hs) (kindAt t j)) ph) → CaughtOf F (harden t) p (from rest)
+        → Sort t j h hs ph (lineAt (rowLines t j (h ∷ hs) (kindAt t j)) ph) → Caught F (harden t) p (from rest)
     caught-line j ph h hs mj is q (a-guard d g) = caught-guard _ q (g .guards)
     caught-line j ph h hs mj is q (a-do r z x) = caught-do j h hs mj (omega arith) r (q ∙ x)
 
   -- ---- any place across a guard
-  caught : (bs : List Back) → Linked t n bs → p ≤ lastPlace (harden t) n → Between (harden t) k at → CaughtOf F (harden t) p (from (lineBacks S bs))
+  caught : (bs : List Back) → Linked t n bs → p ≤ lastPlace (harden t) n → Between (harden t) k at → Caught F (harden t) p (from (lineBacks S bs))
   caught bs lk b wide = by (eq-or-lt-of-le b)
     where
-      by : (p ≡ lastPlace (harden t) n) ⊎ (p < lastPlace (harden t) n) → CaughtOf F (harden t) p (from (lineBacks S bs))
+      by : (p ≡ lastPlace (harden t) n) ⊎ (p < lastPlace (harden t) n) → Caught F (harden t) p (from (lineBacks S bs))
       by (inl e) = caught-last e bs lk
       by (inr x) =
           let pl = line-of t ok n at (st .in-function .known) (omega arith) (omega arith) in
@@ -161,7 +161,7 @@ module _ (t : Table) (ok : Proper t) {H : Type 0} {F : Form H} (S : Settles t F)
 -- ---- from a state that is related to a source state
 abbrev pub Catches : {H : Type 0} → Table → Form H → ℕ → State H → Type 0
 Catches t F p h =
-    p ≤ lastPlace (harden t) (h .running .function) → guardBetween (harden t) (h .running .at) (placeLine (harden t) p h) ≡ true → CaughtOf F (harden t) p h
+    p ≤ lastPlace (harden t) (h .running .function) → guardBetween (harden t) (h .running .at) (placeLine (harden t) p h) ≡ true → Caught F (harden t) p h
 
 pub catches : (t : Table) → Proper t → {H : Type 0} {F : Form H} (S : Settles t F) → Strict S → (d : ℕ) (s : Source) (h : State H) → Related S d s h → (p : ℕ) → Catches t F p h
 catches t ok {F = F} S R d s h r p = subst (Catches t F p) (sym (r .h-is))

@@ -20,7 +20,7 @@ use Rattle.rules.specs.Run.{run, tally, outcomeOf}
 use Rattle.rules.specs.Source.{Source, sourceStep, sourceStart, sourceRun}
 use Rattle.rules.specs.Form.{Form, stepOf, startBy, runOf}
 use Rattle.rules.specs.Match.{isDo, dosIn, callsIn}
-use Rattle.rules.specs.Demands.{FinishingOf}
+use Rattle.rules.specs.Demands.{Finishing}
 use Rattle.rules.proofs.Accepted.{Proper}
 use Rattle.rules.proofs.Form.Settles.{Settles}
 use Rattle.rules.proofs.Form.Relation.{Related, Both, both-on, both-end, extra}
@@ -120,7 +120,7 @@ finish t ok S zero s d k j x h r o = absurd (bad o)
 finish t ok S (suc b) s d k j x h r o = step-by t ok S b (finish t ok S b) d s k j x h r o
 
 -- ---- from the start
-pub finishing : (t : Table) → Proper t → {H : Type 0} {F : Form H} (S : Settles t F) → (vs : List ℕ) (b c : ℕ) → FinishingOf F (harden t) t vs b c
+pub finishing : (t : Table) → Proper t → {H : Type 0} {F : Form H} (S : Settles t F) → (vs : List ℕ) (b c : ℕ) → Finishing F (harden t) t vs b c
 unfolding dosIn callsIn
 finishing t ok {H = H} {F = F} S vs b c = record { finishes = λ o l. (by o l) .0; in-steps = λ o l. (by o l) .1 }
   where

@@ -13,7 +13,7 @@ use Rattle.rules.specs.State.{State}
 use Rattle.rules.specs.Run.{outcomeOf}
 use Rattle.rules.specs.Source.{Source, sourceStart}
 use Rattle.rules.specs.Form.{Form, startBy}
-use Rattle.rules.specs.Demands.{JumpedOf}
+use Rattle.rules.specs.Demands.{Jumped}
 use Rattle.rules.proofs.Accepted.{Proper}
 use Rattle.rules.proofs.Form.Settles.{Settles}
 use Rattle.rules.proofs.Form.Relation.{Related, both-on, both-end}
@@ -45,6 +45,6 @@ onward t ok {H = H} {F = F} S h r = by (next t ok S (r .owed) (r .source) h (r .
 pub goes-start : (t : Table) → Proper t → {H : Type 0} {F : Form H} (S : Settles t F) → (vs : List ℕ) → Goes S (startBy F vs)
 goes-start t ok S vs = record { owed = 0; source = sourceStart vs; related = start t ok S vs }
 
-pub jumped : (t : Table) → Proper t → {H : Type 0} {F : Form H} (S : Settles t F) → Strict S → (vs : List ℕ) (b k p : ℕ) → JumpedOf F (harden t) vs b k p
+pub jumped : (t : Table) → Proper t → {H : Type 0} {F : Form H} (S : Settles t F) → Strict S → (vs : List ℕ) (b k p : ℕ) → Jumped F (harden t) vs b k p
 jumped t ok {F = F} S R vs b k p = Whole.jumped F (harden t) (Goes S) (onward t ok S) vs (goes-start t ok S vs) b k p
     (λ s r l w. catches t ok S R (r .owed) (r .source) s (r .related) p l w)

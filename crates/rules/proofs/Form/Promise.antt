@@ -14,9 +14,9 @@ use Rattle.rules.specs.Refusal.{numberOf}
 use Rattle.rules.specs.State.{openFunctions}
 use Rattle.rules.specs.Run.{Answer, outcomeOf}
 use Rattle.rules.specs.Form.{Form, strikeBy, runOf}
-use Rattle.rules.specs.Demands.{strikesOf, struckShown, DemandOf}
+use Rattle.rules.specs.Demands.{strikes, struckShown, Demand}
 use Rattle.rules.specs.Calls.{Running, running}
-use Rattle.rules.specs.RunPromise.{seenOf, AsSourceOf, RunPromise}
+use Rattle.rules.specs.RunPromise.{seen, AsSource, RunPromise}
 use Rattle.rules.proofs.Calls.{accepted-of}
 
 number-of : {C : Type 0} (v : Verdict) (a : Answer C) (vs slots : List ℕ) → (running v a vs slots) .ran .number ≡ numberOf v
@@ -24,7 +24,7 @@ unfolding running
 number-of Accepted a vs slots = refl
 number-of (Refused r) a vs slots = refl
 
-module _ {H : Type 0} (F : Form H) (ls : List Line) (t : Table) (vars : List ℕ) (b k p : ℕ) (slots : List ℕ) (v : Verdict) (demands : v ≡ Accepted → DemandOf F ls t vars b k p) where
+module _ {H : Type 0} (F : Form H) (ls : List Line) (t : Table) (vars : List ℕ) (b k p : ℕ) (slots : List ℕ) (v : Verdict) (demands : v ≡ Accepted → Demand F ls t vars b k p) where
   abbrev ran : Answer H
   ran = runOf F ls (strikeBy k p) b vars
 
@@ -34,17 +34,17 @@ module _ {H : Type 0} (F : Form H) (ls : List Line) (t : Table) (vars : List ℕ
   accepted : got .ran .number ≡ 0 → v ≡ Accepted
   accepted e = accepted-of v (sym (number-of v ran vars slots) ∙ e)
 
-  seen-is : v ≡ Accepted → seenOf got ≡ struckShown ran
+  seen-is : v ≡ Accepted → seen got ≡ struckShown ran
   unfolding running
   seen-is e =
       ap (λ v. let r = running v ran vars slots in record { outcome = r .ran .outcome; steps = r .ran .steps; trace = take (r .ran .traced) (r .trace); variables = r .ran .variables }) e
       ∙ ap (λ x. record { outcome = outcomeOf (ran .step); steps = ran .steps; trace = x; variables = ran .state .vars })
       (take-append-seam (ran .state .trace) (drop (length (ran .state .trace)) slots))
 
-  demand : got .ran .number ≡ 0 → DemandOf F ls t vars b k p
+  demand : got .ran .number ≡ 0 → Demand F ls t vars b k p
   demand e = demands (accepted e)
 
-  as-source : got .ran .number ≡ 0 → strikesOf F ls vars b k ≡ false → AsSourceOf F ls t vars b k p got
+  as-source : got .ran .number ≡ 0 → strikes F ls vars b k ≡ false → AsSource F ls t vars b k p got
   as-source e n =
       let d = demand e in
       let s = seen-is (accepted e) in

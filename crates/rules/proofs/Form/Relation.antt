@@ -50,10 +50,6 @@ pub backs-length : {H : Type 0} {t : Table} {F : Form H} (S : Settles t F) (bs :
 backs-length S [] = refl
 backs-length S (b ∷ bs) = ap suc (backs-length S bs)
 
-pub source-length : (bs : List Back) → length (sourceBacks bs) ≡ length bs
-source-length [] = refl
-source-length (b ∷ bs) = ap suc (source-length bs)
-
 -- ---- the states of the two runs
 abbrev pub src : (n i : ℕ) → List Back → (vs tr : List ℕ) → Source
 src n i rest vs tr = record { running = frame n i tt; callers = sourceBacks rest; last = tt; vars = vs; trace = tr }
@@ -77,7 +73,8 @@ abbrev pub Linked : Table → ℕ → List Back → Type 0
 Linked t n [] = n ≡ 0
 Linked t n (b ∷ bs) = Caller t n b × Linked t (b .function) bs
 
--- Row i, the source's row j, the line k; the innermost region has reached w, where row i's value is u; what returned last ended at.
+-- Row i, the source's row j, the line k; the innermost region has reached w, where row i's value is u; the function that returned last is
+-- seen to have ended at `last`.
 pub data Mode {H : Type 0} {t : Table} {F : Form H} (S : Settles t F) (i j k w last u : ℕ) : Type 0 where
   ready : j ≡ i → k ≡ lineOf t i → w ≡ u → Mode S i j k w last u
   ticking : kindAt t i ≡ Do → j ≡ suc i → k ≡ suc (lineOf t i) → w ≡ u → Mode S i j k w last u
@@ -157,10 +154,6 @@ line-step t ok S {n} {i} {f} {fs} m k ph ℓ e h q c rest l vs tr =
   where
     bad : k ≡ finishOf (harden t) n → ⊥
     bad x = omega (arith, before-finish t ok m)
-
--- ---- small facts
-pub body-below : (t : Table) {n i : ℕ} {f : Open} {fs : List Open} → InFunction t n i f fs → bodyRegion (f ∷ fs) ≤ f .region
-body-below t {n} {i} {f} {fs} m = body-least (regions t i) f fs (subst (Chain (regions t i)) (m .open-is) (chain t i))
 
 -- both runs before row j
 pub ready-at : {H : Type 0} {t : Table} {F : Form H} (S : Settles t F) {n j k w : ℕ} {g : Open} {gs : List Open} → InFunction t n j g gs → (rest : List Back) → Linked t n rest → k ≡ lineOf t j → w ≡ value t (g .region) j

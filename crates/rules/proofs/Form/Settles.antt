@@ -16,7 +16,7 @@ use Rattle.rules.specs.Bounds.{Word}
 use Rattle.rules.specs.Form.{Form}
 use Rattle.rules.proofs.Scan.{Chain}
 use Rattle.rules.proofs.Function.{InFunction}
-use Rattle.rules.proofs.Form.Parts.{holding}
+use Rattle.rules.proofs.Parts.{holding}
 
 -- line ℓ at k passes; it moves what is kept to `after`
 abbrev pub Passes : {H : Type 0} → Form H → (k : ℕ) → Line → (own last : H) → Type 0
@@ -25,7 +25,7 @@ Passes F k ℓ own last = F .guard k ℓ .passes own last ≡ true
 abbrev pub Moves : {H : Type 0} → Form H → (k : ℕ) → Line → (way : Bool) → (own after : H) → Type 0
 Moves F k ℓ way own after = F .guard k ℓ .moves way own ≡ after
 
--- guards that stay in their region, look at the running function alone and go on to the next line
+-- guards that stay in their region and look at the running function alone, which goes on at the next line (after a call, when it is back)
 pub data Steady (r e a : ℕ) : Line → Type 0 where
   is-tick : Steady r e a (tickLine r e a)
   is-call : (b go : ℕ) → Steady r e a (callLine r e a b go)
@@ -81,7 +81,7 @@ pub record Settles {H : Type 0} (t : Table) (F : Form H) : Type 0 where
   pub out-passes : {n i : ℕ} {f : Open} {fs : List Open} → InFunction t n i f fs → (kindAt t i ≡ Break) ⊎ (kindAt t i ≡ Continue) → (s u a go : ℕ) (z : H) → Low f fs
       → Passes F (lineOf t i) (outLine (ownOf f fs) s u (value t (f .region) i) a go) (at (lineOf t i) (f ∷ fs) (value t (f .region) i)) z
   pub out-moves : {n i : ℕ} {f : Open} {fs : List Open} → InFunction t n i f fs → (kindAt t i ≡ Break) ⊎ (kindAt t i ≡ Continue) → (l h : Open) (hs : List Open) (a go : ℕ)
-      → fromLoop (f ∷ fs) ≡ l ∷ h ∷ hs → Chain (suc (f .region)) (f ∷ fs) → bodyRegion (f ∷ fs) ≤ h .region → bodyRegion (h ∷ hs) ≡ bodyRegion (f ∷ fs)
+      → fromLoop (f ∷ fs) ≡ l ∷ h ∷ hs → Chain (suc (f .region)) (f ∷ fs) → bodyRegion (f ∷ fs) ≤ h .region → bodyRegion (h ∷ hs) ≡ bodyRegion (f ∷ fs) → Word a
       → Moves F (lineOf t i) (outLine (ownOf f fs) (newOf h f fs) (newOf l f fs) (value t (f .region) i) a go) true (at (lineOf t i) (f ∷ fs) (value t (f .region) i)) (at go (h ∷ hs) a)
   -- a back of row i, where the callee is seen to have ended
   pub back-passes : {n i : ℕ} {f : Open} {fs : List Open} → InFunction t n i f fs → kindAt t i ≡ Call → (w v : ℕ) (z : H) → Low f fs → seen z ≡ end (operandsAt t i .n)

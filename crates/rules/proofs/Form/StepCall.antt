@@ -29,8 +29,9 @@ use Rattle.rules.proofs.Harden.{line-suc}
 use Rattle.rules.proofs.Function.{InFunction, move-to, entry, callee-known}
 use Rattle.rules.proofs.Place.{callee}
 use Rattle.rules.proofs.Words.{word-at}
+use Rattle.rules.proofs.Parts.{body-below}
 use Rattle.rules.proofs.Form.Settles.{Settles, bodyPart, is-tick, is-call}
-use Rattle.rules.proofs.Form.Relation.{Back, waiting, sourceBacks, lineBacks, backs-length, src, hard, here, Linked, ready, backing, Related, Both, both-on, both-end, owing, source-step, line-step, body-below, ready-at}
+use Rattle.rules.proofs.Form.Relation.{Back, waiting, sourceBacks, lineBacks, backs-length, src, hard, here, Linked, ready, backing, Related, Both, both-on, both-end, owing, source-step, line-step, ready-at}
 
 -- ---- call
 call-line : {H : Type 0} (F : Form H) (ls : List Line) (n k : ℕ) (c : H) (rest : List (Frame H)) (l : H) (vs tr : List ℕ) (r e a b go : ℕ) → F .guard k (callLine r e a b go) .passes c l ≡ true

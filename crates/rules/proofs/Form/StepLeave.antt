@@ -24,7 +24,7 @@ use Rattle.rules.proofs.Close.{end-is, closed-is}
 use Rattle.rules.proofs.Function.{isBody, part-takes, InFunction, move-to}
 use Rattle.rules.proofs.Words.{word-of, region-in}
 use Rattle.rules.proofs.Form.Settles.{Settles}
-use Rattle.rules.proofs.Form.Parts.{holding}
+use Rattle.rules.proofs.Parts.{holding}
 use Rattle.rules.proofs.Form.Relation.{Back, src, hard, here, Linked, Both, both-on, source-step, line-step, ready-at}
 
 leave-line : {H : Type 0} (F : Form H) (ls : List Line) (n k : ℕ) (c : H) (rest : List (Frame H)) (l : H) (vs tr : List ℕ) (r s e a b go : ℕ) → F .guard k (leaveLine r s e a b go) .passes c l ≡ true

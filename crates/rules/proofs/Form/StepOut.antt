@@ -24,9 +24,10 @@ use Rattle.rules.proofs.Scan.{Chain, chain, body-least, origin}
 use Rattle.rules.proofs.Value.{AllHeld, held}
 use Rattle.rules.proofs.Close.{end-is, closed-is}
 use Rattle.rules.proofs.Function.{held-takes, Formed, home, InFunction, move-to, formed-here, placed-in}
+use Rattle.rules.proofs.Words.{word-of, region-in}
 use Rattle.rules.proofs.Form.Settles.{Settles}
-use Rattle.rules.proofs.Form.Parts.{loop-in}
-use Rattle.rules.proofs.Form.Relation.{Back, src, hard, here, Linked, Both, both-on, source-step, line-step, body-below, ready-at}
+use Rattle.rules.proofs.Parts.{loop-in, body-below}
+use Rattle.rules.proofs.Form.Relation.{Back, src, hard, here, Linked, Both, both-on, source-step, line-step, ready-at}
 
 out-line : {H : Type 0} (F : Form H) (ls : List Line) (n k : ℕ) (c : H) (rest : List (Frame H)) (l : H) (vs tr : List ℕ) (r s t e a go : ℕ) → F .guard k (outLine r s t e a go) .passes c l ≡ true
     → lineStepOf F ls k (outLine r s t e a go) (hard n k c rest l vs tr) ≡ on (hard n go (F .guard k (outLine r s t e a go) .moves true c) rest l vs tr)
@@ -79,7 +80,8 @@ module _ (t : Table) (ok : Proper t) {H : Type 0} {F : Form H} (S : Settles t F)
       (line-step t ok S m (lineOf t i) 0 _ (omega arith) (rw e (omega arith)) (ap (λ x. lineAt (rowLines t i (f ∷ fs) x) 0) e ∙ ln) _ _ l vs tr
       ∙ out-line F (harden t) n _ _ _ l vs tr _ _ _ _ _ _ (S .out-passes m out _ _ _ _ _ (body-below t m)))
       (ready-at S (move-to t ok m j jl q (p .same-home)) rest lk refl av l vs tr _
-      (S .out-moves m out lf h hs a _ fl ch zh (p .same-body)))
+      (S .out-moves m out lf h hs a _ fl ch zh (p .same-body)
+      (omega (arith, av, word-of t ok (h .region) j (omega (arith, il .low, il .rest .0, region-in t m)) jl))))
 
   -- a break or a continue stands in a loop, and the loop stands in a function
   in-loop : (gs : List Open) → fromLoop (f ∷ fs) ≡ gs → isOutside gs ≡ false

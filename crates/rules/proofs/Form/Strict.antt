@@ -1,5 +1,5 @@
 -- What a form owes beside: from where an unstruck run stands no guard passes across another guard, and nothing is taken for ended. Every
--- law is about one line; none is about a run. Assumes nothing.
+-- law is about one kind of line; none is about a run. Assumes nothing.
 use mathlib.Core.Path.{_≡_}
 use mathlib.Core.Bool.{true, false}
 use mathlib.Core.List.{List, _∷_}

@@ -20,7 +20,7 @@ use Rattle.rules.specs.State.{State, goTo}
 use Rattle.rules.specs.Run.{Turn, on, ends, untaken, Answer, after, run, outcomeOf}
 use Rattle.rules.specs.Form.{Form, strikeBy, placeLine, struck, stepOf, strikingStepOf, startBy, runOf}
 use Rattle.rules.specs.Match.{guardBetween}
-use Rattle.rules.specs.Demands.{beforeOf, strikesOf, Struck, struckShown, alarmStep, doneAt, caughtFrom, JumpedOf}
+use Rattle.rules.specs.Demands.{before, strikes, Struck, struckShown, alarmStep, doneAt, caughtFrom, Jumped}
 use Rattle.rules.proofs.Logic.{clash, and-left, and-right, not-true}
 
 -- ---- a strike that names step j: every other step is as without it
@@ -42,10 +42,10 @@ pub data Onward {H : Type 0} (F : Form H) (ls : List Line) (I : State H → Type
   stops : (o : Step) (g : State H) → stepOf F ls h ≡ ends o g → (outcomeOf o ≡ 0 → ⊥) → Onward F ls I h
 
 -- ---- the step that a jump strikes: the alarm comes at once, or one step later
-pub data CaughtOf {H : Type 0} (F : Form H) (ls : List Line) (p : ℕ) (s : State H) : Type 0 where
-  at-once : ((k : ℕ) → alarmStep ls p k s ≡ k) → (h : State H) → stepOf F ls (landedAt ls p s) ≡ ends Alarm h → Keeps h (doneAt ls p s) → CaughtOf F ls p s
+pub data Caught {H : Type 0} (F : Form H) (ls : List Line) (p : ℕ) (s : State H) : Type 0 where
+  at-once : ((k : ℕ) → alarmStep ls p k s ≡ k) → (h : State H) → stepOf F ls (landedAt ls p s) ≡ ends Alarm h → Keeps h (doneAt ls p s) → Caught F ls p s
   one-later : ((k : ℕ) → alarmStep ls p k s ≡ suc k) → (h g : State H) → stepOf F ls (landedAt ls p s) ≡ on h → h .running .at < finishOf ls (h .running .function) → stepOf F ls h ≡ ends Alarm g
-      → Keeps h (doneAt ls p s) → Keeps g (doneAt ls p s) → CaughtOf F ls p s
+      → Keeps h (doneAt ls p s) → Keeps g (doneAt ls p s) → Caught F ls p s
 
 pub after-same : {H : Type 0} (k : ℕ) (r : Turn H) (f g : State H → Answer H) → ((h : State H) → f h ≡ g h) → after k r f ≡ after k r g
 after-same k (on h) f g e = e h
@@ -92,15 +92,15 @@ module _ {H : Type 0} (F : Form H) (ls : List Line) where
       by (untaken y h′) o ih = refl
 
   -- ---- jumps that do not strike
-  not-struck-by : (vs : List ℕ) (b k p : ℕ) → (x y z : Bool) → eqb k noStep ≡ x → ltb k b ≡ y → eqb (outcomeOf ((beforeOf F ls vs k) .step)) 0 ≡ z → not x && y && z ≡ false
+  not-struck-by : (vs : List ℕ) (b k p : ℕ) → (x y z : Bool) → eqb k noStep ≡ x → ltb k b ≡ y → eqb (outcomeOf ((before F ls vs k) .step)) 0 ≡ z → not x && y && z ≡ false
       → runOf F ls (cond x None (Jump k p)) b vs ≡ runOf F ls None b vs
   not-struck-by vs b k p true y z ex ey ez e = refl
   not-struck-by vs b k p false false z ex ey ez e = not-reached (Jump k p) k (not-now k p) b 0 (startBy F vs) (omega (arith, ltb-false k b ey))
   not-struck-by vs b k p false true true ex ey ez e = clash {b = true} refl e
   not-struck-by vs b k p false true false ex ey ez e = no-strike (Jump k p) k (not-now k p) k b 0 (startBy F vs) (omega arith) (λ o. absurd (eqb-false _ _ ez o))
 
-  pub not-struck : (vs : List ℕ) (b k p : ℕ) → strikesOf F ls vs b k ≡ false → runOf F ls (strikeBy k p) b vs ≡ runOf F ls None b vs
-  not-struck vs b k p e = not-struck-by vs b k p (eqb k noStep) (ltb k b) (eqb (outcomeOf ((beforeOf F ls vs k) .step)) 0) refl refl refl e
+  pub not-struck : (vs : List ℕ) (b k p : ℕ) → strikes F ls vs b k ≡ false → runOf F ls (strikeBy k p) b vs ≡ runOf F ls None b vs
+  not-struck vs b k p e = not-struck-by vs b k p (eqb k noStep) (ltb k b) (eqb (outcomeOf ((before F ls vs k) .step)) 0) refl refl refl e
 
   -- ---- the struck step, and the one after it
   struck-on : (p k : ℕ) (h : State H) → p ≤ lastPlace ls (h .running .function) → struck ls (Jump k p) k h ≡ on (landedAt ls p h)
@@ -117,7 +117,7 @@ module _ {H : Type 0} (F : Form H) (ls : List Line) where
   shown-of : (o n : ℕ) (h s : State H) → Keeps h s → _≡_ {A = Struck} (record { outcome = o; steps = n; trace = h .trace; variables = h .vars }) (record { outcome = o; steps = n; trace = s .trace; variables = s .vars })
   shown-of o n h s q = rw (q .vars-are, q .trace-is)
 
-  caught-from : (p k b : ℕ) (s : State H) → p ≤ lastPlace ls (s .running .function) → CaughtOf F ls p s
+  caught-from : (p k b : ℕ) (s : State H) → p ≤ lastPlace ls (s .running .function) → Caught F ls p s
       → struckShown (run (strikingStepOf F ls (Jump k p)) (suc b) k s) ≡ caughtFrom ls (k + suc b) k p s
   unfolding run caughtFrom outcomeOf
   caught-from p k b s l (at-once x h e q) =
@@ -156,17 +156,17 @@ module _ {H : Type 0} (F : Form H) (ls : List Line) where
         by (stops y h′ e n) o ih = absurd (n (rw e at o))
 
     -- ---- from the start
-    module _ (vs : List ℕ) (start : I (startBy F vs)) (b k : ℕ) (e : strikesOf F ls vs b k ≡ true) where
+    module _ (vs : List ℕ) (start : I (startBy F vs)) (b k : ℕ) (e : strikes F ls vs b k ≡ true) where
       some-step : eqb k noStep ≡ false
-      some-step = not-true (eqb k noStep) (and-left (not (eqb k noStep)) (ltb k b) (and-left _ (eqb (outcomeOf ((beforeOf F ls vs k) .step)) 0) e))
+      some-step = not-true (eqb k noStep) (and-left (not (eqb k noStep)) (ltb k b) (and-left _ (eqb (outcomeOf ((before F ls vs k) .step)) 0) e))
 
       in-budget : k < b
-      in-budget = ltb-true k b (and-right (not (eqb k noStep)) (ltb k b) (and-left _ (eqb (outcomeOf ((beforeOf F ls vs k) .step)) 0) e))
+      in-budget = ltb-true k b (and-right (not (eqb k noStep)) (ltb k b) (and-left _ (eqb (outcomeOf ((before F ls vs k) .step)) 0) e))
 
       there-by : (x : Strike) → Named F ls x k → Reached x k 0 (startBy F vs)
-      there-by x w = reach x k w k 0 (startBy F vs) (zero-add k) start (eqb-true _ _ (and-right (not (eqb k noStep) && ltb k b) (eqb (outcomeOf ((beforeOf F ls vs k) .step)) 0) e))
+      there-by x w = reach x k w k 0 (startBy F vs) (zero-add k) start (eqb-true _ _ (and-right (not (eqb k noStep) && ltb k b) (eqb (outcomeOf ((before F ls vs k) .step)) 0) e))
 
-      state-is : (x : Strike) (w : Named F ls x k) → (beforeOf F ls vs k) .state ≡ (there-by x w) .there
+      state-is : (x : Strike) (w : Named F ls x k) → (before F ls vs k) .state ≡ (there-by x w) .there
       state-is x w = ap (λ y. y .state) ((there-by x w) .plainly)
 
       -- the run with the strike, from step k on
@@ -180,17 +180,17 @@ module _ {H : Type 0} (F : Form H) (ls : List Line) where
       unfolding some-step
       is-jump p = rw some-step
 
-      beyond : (p : ℕ) → lastPlace ls ((beforeOf F ls vs k) .state .running .function) < p
-          → runOf F ls (strikeBy k p) b vs ≡ record { step = Beyond (lastPlace ls ((beforeOf F ls vs k) .state .running .function)); steps = k; state = (beforeOf F ls vs k) .state }
+      beyond : (p : ℕ) → lastPlace ls ((before F ls vs k) .state .running .function) < p
+          → runOf F ls (strikeBy k p) b vs ≡ record { step = Beyond (lastPlace ls ((before F ls vs k) .state .running .function)); steps = k; state = (before F ls vs k) .state }
       beyond p l =
           let w = not-now k p in
           ap (λ y. runOf F ls y b vs) (is-jump p) ∙ from-there (Jump k p) w
           ∙ rw (state-is (Jump k p) w) (beyond-from p k (b - suc k) ((there-by (Jump k p) w) .there) (subst (λ y. lastPlace ls (y .running .function) < p) (state-is (Jump k p) w) l))
 
-      caught : (p : ℕ) → ((s : State H) → I s → p ≤ lastPlace ls (s .running .function) → guardBetween ls (s .running .at) (placeLine ls p s) ≡ true → CaughtOf F ls p s)
-          → p ≤ lastPlace ls ((beforeOf F ls vs k) .state .running .function)
-          → guardBetween ls ((beforeOf F ls vs k) .state .running .at) (placeLine ls p ((beforeOf F ls vs k) .state)) ≡ true
-          → struckShown (runOf F ls (strikeBy k p) b vs) ≡ caughtFrom ls b k p ((beforeOf F ls vs k) .state)
+      caught : (p : ℕ) → ((s : State H) → I s → p ≤ lastPlace ls (s .running .function) → guardBetween ls (s .running .at) (placeLine ls p s) ≡ true → Caught F ls p s)
+          → p ≤ lastPlace ls ((before F ls vs k) .state .running .function)
+          → guardBetween ls ((before F ls vs k) .state .running .at) (placeLine ls p ((before F ls vs k) .state)) ≡ true
+          → struckShown (runOf F ls (strikeBy k p) b vs) ≡ caughtFrom ls b k p ((before F ls vs k) .state)
       unfolding in-budget
       caught p catches l w =
           let nm = not-now k p in
@@ -204,6 +204,6 @@ module _ {H : Type 0} (F : Form H) (ls : List Line) where
 
     -- ---- demand 3 of runs with a strike, of every form
     pub jumped : (vs : List ℕ) → I (startBy F vs) → (b k p : ℕ)
-        → ((s : State H) → I s → p ≤ lastPlace ls (s .running .function) → guardBetween ls (s .running .at) (placeLine ls p s) ≡ true → CaughtOf F ls p s) → JumpedOf F ls vs b k p
+        → ((s : State H) → I s → p ≤ lastPlace ls (s .running .function) → guardBetween ls (s .running .at) (placeLine ls p s) ≡ true → Caught F ls p s) → Jumped F ls vs b k p
     jumped vs start b k p catches =
         record { not-struck = not-struck vs b k p; beyond = λ e l. beyond vs start b k e p l; caught = λ e l w. caught vs start b k e p catches l w }

@@ -15,8 +15,8 @@ use Rattle.rules.specs.State.{State, numbersOf, openFunctions}
 use Rattle.rules.specs.Run.{Turn, run, tally, outcomeOf}
 use Rattle.rules.specs.Source.{Source, sourceStep, sourceStart, sourceRun}
 use Rattle.rules.specs.Form.{Form, strikingStepOf, startBy}
-use Rattle.rules.specs.Match.{Shown, shown, quietAt, matchingOf}
-use Rattle.rules.specs.Demands.{UnstruckOf}
+use Rattle.rules.specs.Match.{Shown, shown, quietAt, matching}
+use Rattle.rules.specs.Demands.{Unstruck}
 use Rattle.rules.proofs.Accepted.{Proper}
 use Rattle.rules.proofs.Form.Settles.{Settles}
 use Rattle.rules.proofs.Form.Relation.{Back, sourceBacks, lineBacks, Related, Same, both-on, both-end}
@@ -95,11 +95,11 @@ simulates t ok {H = H} S (suc b) k j d s h r =
         }
 
 -- ---- from the start
-pub unstruck : (t : Table) → Proper t → {H : Type 0} {F : Form H} (S : Settles t F) → (vs : List ℕ) (b : ℕ) → UnstruckOf F (harden t) t vs b
-unfolding matchingOf
+pub unstruck : (t : Table) → Proper t → {H : Type 0} {F : Form H} (S : Settles t F) → (vs : List ℕ) (b : ℕ) → Unstruck F (harden t) t vs b
+unfolding matching
 unstruck t ok {F = F} S vs b =
     let x = simulates t ok S b 0 0 0 (sourceStart vs) (startBy F vs) (start t ok S vs) in
-    let m : matchingOf F (harden t) b vs ≡ x .m = omega (arith, x .counted) in
+    let m : matching F (harden t) b vs ≡ x .m = omega (arith, x .counted) in
     record {
       as-source = x .alike ∙ ap (λ y. shown (sourceRun t y vs)) (sym m);
       at-matching = ap (λ y. (sourceRun t y vs) .steps) m ∙ x .took ∙ omega (arith, m);
