@@ -3,7 +3,7 @@
 use mathlib.Core.Logic.{_⊎_}
 use mathlib.Core.Path.{_≡_, refl, ap, _∙_, subst}
 use mathlib.Core.List.{List, [], _∷_}
-use Prim.Native.Nat.{ℕ, suc, _+_, _-_, _≤_, _<_}
+use Prim.Native.Nat.{ℕ, suc, _+_, _-_, _<_}
 use native.Mathlib.Omega.{arith}
 use lib.ListN.{length}
 use borrow.Author.Tests.{ne-eqb}
@@ -13,7 +13,7 @@ use Rattle.rules.specs.declared.step.Step.{Step}
 use Rattle.rules.specs.declared.step.Step.the-variants.{Finished, TooManyOpen}
 use Rattle.rules.specs.Limits.{maxOpen}
 use Rattle.rules.specs.Row.{Table, kindAt, operandsAt}
-use Rattle.rules.specs.Scan.{Open, regions, openAt, bodyRegion}
+use Rattle.rules.specs.Scan.{Open, openAt}
 use Rattle.rules.specs.Value.{value, valueIn}
 use Rattle.rules.specs.Line.{Line, lineAt}
 use Rattle.rules.specs.Harden.{lineCount, lineOf, rowLines, harden}
@@ -23,7 +23,6 @@ use Rattle.rules.specs.Run.{Turn, on, ends}
 use Rattle.rules.specs.Source.{Source, rowStep, sourceStep}
 use Rattle.rules.specs.Form.{Form, lineStepOf, stepOf}
 use Rattle.rules.proofs.Accepted.{Proper}
-use Rattle.rules.proofs.Scan.{Chain, chain, body-least}
 use Rattle.rules.proofs.Harden.{line-at}
 use Rattle.rules.proofs.Function.{InFunction}
 use Rattle.rules.proofs.Place.{before-finish}
