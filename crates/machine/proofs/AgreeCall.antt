@@ -14,7 +14,7 @@ use Rattle.rules.specs.Line.{Line}
 use Rattle.rules.specs.Function.{functionAt, retValue}
 use Rattle.rules.specs.State.{Frame, frame, goTo, opening, returning, depth}
 use Rattle.rules.specs.Run.{Turn, on, ends}
-use Rattle.rules.specs.Form.{lineStepOf}
+use Rattle.rules.specs.Form.{turnBy}
 use Rattle.rules.specs.Hardened.{Counters, Hardened, put, clear, must, check, leaves, lineStep}
 use Rattle.rules.specs.Bounds.{Fits}
 use Rattle.line.specs.declared.Line as Declared
@@ -109,7 +109,7 @@ module _ (ls : List Line) (held : List ℕ) (m : Map) (mp : Mapped ls m) (p : Pa
   by-check false t a = ends-as ls held p s st Alarm alarm-ends (p .words)
 
   pub ret-agrees : Agrees ls held (p .registers .traced) (lineOf m Ret l p) (lineStep ls (p .registers .at) (asLine Ret l) s)
-  unfolding lineOf lineStepOf retOf
+  unfolding lineOf turnBy retOf
   ret-agrees =
       subst (λ b. Agrees ls held (p .registers .traced) (settling p (cond b (settled (returnOf (m .home) (p .registers) (p .resumes) (p .functions) ended) ended) (settled (moved Alarm (p .registers)) (p .words)))) (check 0 (l .e) s (leaves ls (goTo (p .registers .at) (put 0 (l .a) (s .running .own)) s) (s .callers))))
       (ap (λ x. eqb x (l .e)) (sym (st .own-is 0 (omega arith))))
@@ -218,7 +218,7 @@ module _ (ls : List Line) (held : List ℕ) (sd : Sound ls) (m : Map) (mp : Mapp
   depth-is = omega (arith, waiting-length ls (p .resumes) (p .functions) (p .words) d (s .callers) (st .waiting))
 
   pub call-agrees : Agrees ls held (p .registers .traced) (lineOf m Call l p) (lineStep ls k (asLine Call l) s)
-  unfolding lineOf lineStepOf callOf opened-turn
+  unfolding lineOf turnBy callOf opened-turn
   call-agrees =
       let c = eqb (s .running .own (l .r)) (l .e) in
       let room = subst (λ n. Agrees ls held (p .registers .traced)

@@ -8,7 +8,7 @@ use lib.ListN.{length, getD, set, drop, length-append}
 use lib.Seq.{drop-cons, set-append-seam}
 use Rattle.rules.specs.Line.{Line}
 use Rattle.rules.specs.Variables.{doneOn}
-use Rattle.rules.specs.Form.{lineStepOf}
+use Rattle.rules.specs.Form.{turnBy}
 use Rattle.rules.specs.Hardened.{Hardened, lineStep}
 use Rattle.rules.specs.Bounds.{Fits}
 use Rattle.rules.specs.Calls.{over}
@@ -29,7 +29,7 @@ over-more tr held e h =
 
 module _ (ls : List Line) (held : List ℕ) (m : Map) (p : Parts) (s : Hardened) (st : Stands ls held p s) (l : Declared.Line) where
   pub do-agrees : p .registers .traced < length held → Fits ls (s .running .function) (p .registers .at) (asLine Do l) → Agrees ls held (p .registers .traced) (lineOf m Do l p) (lineStep ls (p .registers .at) (asLine Do l) s)
-  unfolding lineOf lineStepOf doOf
+  unfolding lineOf turnBy doOf
   do-agrees room f =
       let t = st .traces in
       record {

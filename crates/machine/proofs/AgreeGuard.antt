@@ -11,7 +11,7 @@ use Rattle.rules.specs.declared.step.Step.the-variants.{Went}
 use Rattle.rules.specs.Line.{Line}
 use Rattle.rules.specs.Variables.{holdsOn}
 use Rattle.rules.specs.Run.{Turn}
-use Rattle.rules.specs.Form.{lineStepOf}
+use Rattle.rules.specs.Form.{turnBy}
 use Rattle.rules.specs.Hardened.{Counters, Hardened, put, clearFrom, moved, lineStep}
 use Rattle.rules.specs.Bounds.{Fits}
 use Rattle.line.specs.declared.Line as Declared
@@ -56,14 +56,14 @@ module _ (ls : List Line) (held : List ℕ) (m : Map) (p : Parts) (s : Hardened)
       (set-below (64 * d) (withCounter ws d r v) (64 * d + q) w (omega arith))
 
   pub tick-agrees : Fits ls (s .running .function) k (asLine Tick l) → Agrees ls held (p .registers .traced) (lineOf m Tick l p) (lineStep ls k (asLine Tick l) s)
-  unfolding lineOf lineStepOf tickOf
+  unfolding lineOf turnBy tickOf
   tick-agrees f =
       checks ls held p s st (l .r) (l .e) (counted (Went (k + 1)) (withCounter ws d (l .r) (l .a))) (moved (suc k) (put (l .r) (l .a)) s) (f .0)
       (moves-on ls held p s st (k + 1) (suc k) (withCounter ws d (l .r) (l .a)) (put (l .r) (l .a) own) (add-one k) (f .3) (simp length-set (st .sizes .words-are))
       (put-below (l .r) (l .a)) (put-own (l .r) (l .a) (f .0)))
 
   pub back-agrees : Fits ls (s .running .function) k (asLine Back l) → Agrees ls held (p .registers .traced) (lineOf m Back l p) (lineStep ls k (asLine Back l) s)
-  unfolding lineOf lineStepOf backOf
+  unfolding lineOf turnBy backOf
   back-agrees f =
       let w = withCounter ws d (l .r) (l .a) in
       subst (Agrees ls held (p .registers .traced) (lineOf m Back l p)) (sym (must-and (eqb (own (l .r)) (l .e)) (eqb (s .last 0) (l .b)) s _))
@@ -73,7 +73,7 @@ module _ (ls : List Line) (held : List ℕ) (m : Map) (p : Parts) (s : Hardened)
       (put-below (l .r) (l .a)) (put-own (l .r) (l .a) (f .0)))))
 
   pub leave-agrees : Fits ls (s .running .function) k (asLine Leave l) → Agrees ls held (p .registers .traced) (lineOf m Leave l p) (lineStep ls k (asLine Leave l) s)
-  unfolding lineOf lineStepOf leaveOf
+  unfolding lineOf turnBy leaveOf
   leave-agrees f =
       let w = withCounter ws d (l .r) 0 in
       subst (Agrees ls held (p .registers .traced) (lineOf m Leave l p)) (sym (must-and (eqb (own (l .r)) (l .e)) (eqb (put (l .r) 0 own (l .s)) (l .b)) s _))
@@ -84,7 +84,7 @@ module _ (ls : List Line) (held : List ℕ) (m : Map) (p : Parts) (s : Hardened)
       (simp length-set (st .sizes .words-are)) (two-below (l .r) 0 (l .s) (l .a)) (put-two (l .r) 0 (l .s) (l .a) (f .0) (f .1)))))
 
   pub out-agrees : Fits ls (s .running .function) k (asLine Out l) → Agrees ls held (p .registers .traced) (lineOf m Out l p) (lineStep ls k (asLine Out l) s)
-  unfolding lineOf lineStepOf outOf
+  unfolding lineOf turnBy outOf
   out-agrees f =
       let from = 64 * d + l .t in
       let n = l .r + 1 - l .t in
@@ -99,7 +99,7 @@ module _ (ls : List Line) (held : List ℕ) (m : Map) (p : Parts) (s : Hardened)
       (own-clear ws d (l .t) (l .r) own (f .2) (room (l .r) (f .0)) (st .own-is))))
 
   pub test-agrees : Fits ls (s .running .function) k (asLine Test l) → Agrees ls held (p .registers .traced) (lineOf m Test l p) (lineStep ls k (asLine Test l) s)
-  unfolding lineOf lineStepOf testOf
+  unfolding lineOf turnBy testOf
   test-agrees f = checks ls held p s st (l .r) (l .e) _ _ (f .1)
       (subst (λ b. Agrees ls held (p .registers .traced) (guarded p (cond b (counted (Went (k + 1)) held-words) (counted (Went (l .go)) failed-words))) (cond (holdsOn (l .operands) (s .vars)) held-turn failed-turn))
       (ap (holdsOn (l .operands)) (sym (st .vars-are))) (by (holdsOn (l .operands) (s .vars))))

@@ -11,10 +11,10 @@ use Rattle.rules.specs.ReadBack.{rowFor, unreadTo, sourceBytes, isHarden
 use Rattle.rules.specs.Variables.{doneOn, holdsOn}
 use Rattle.rules.specs.Run.{outcomeOf, run}
 use Rattle.rules.specs.Source.{falseRow, rowStep, sourceStep}
-use Rattle.rules.specs.Form.{lineStepOf, stepOf}
+use Rattle.rules.specs.Form.{turnBy, stepOf}
 use Rattle.rules.specs.Calls.{writing, hardenCall, readBackCall, running, runSourceCall, zeros, countersAfter, hardenedVerdict, runHardenedCall}
 use Rattle.rules.specs.Listing.{digits, listed, words}
 
 unfoldable pub compute : Unit {0}
-unfolding digits listed words same first kindOf kindByte rowIn rowsFrom tableOf rowBytes tableBytes fieldsFit regions openAt endOf elseOf functions functionRow misplacedIn oneTooMany rowVerdict rowsVerdict callsVerdict tableVerdict verdictOf taken base value lineBytes linesBytes lineIn linesFrom linesIn lineOf testOf endValue rowLines hardenTo hardenedBytes functionAt startOf rowFor unreadTo sourceBytes isHardened doneOn holdsOn outcomeOf run falseRow rowStep sourceStep lineStepOf stepOf writing hardenCall readBackCall running runSourceCall zeros countersAfter hardenedVerdict runHardenedCall
+unfolding digits listed words same first kindOf kindByte rowIn rowsFrom tableOf rowBytes tableBytes fieldsFit regions openAt endOf elseOf functions functionRow misplacedIn oneTooMany rowVerdict rowsVerdict callsVerdict tableVerdict verdictOf taken base value lineBytes linesBytes lineIn linesFrom linesIn lineOf testOf endValue rowLines hardenTo hardenedBytes functionAt startOf rowFor unreadTo sourceBytes isHardened doneOn holdsOn outcomeOf run falseRow rowStep sourceStep turnBy stepOf writing hardenCall readBackCall running runSourceCall zeros countersAfter hardenedVerdict runHardenedCall
 compute = tt

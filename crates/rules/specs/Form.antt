@@ -50,42 +50,33 @@ abbrev pub leavesOf : {H : Type 0} → Form H → State H → List (Frame H) →
 leavesOf F s [] = must (F .ended (s .running .own)) s (ends Finished s)
 leavesOf F s (f ∷ fs) = on (returning f fs s)
 
--- The column "Step" of 01's table of lines, but for what a guard compares and changes.
-unfoldable pub lineStepOf : {H : Type 0} → Form H → List Line → (k : ℕ) → Line → State H → Turn H
+-- The column "Step" of 01's table of lines: what line k does, where g is what it compares and changes.
+unfoldable pub turnBy : {H : Type 0} → Form H → List Line → (k : ℕ) → Line → Guard H → State H → Turn H
 -- 21 do: "does it, next line"
-lineStepOf F ls k (doLine o e) now = moved (suc k) (λ x. x) (did o e now)
+turnBy F ls k (doLine o e) g now = moved (suc k) (λ x. x) (did o e now)
 -- 22 tick: the next line
-lineStepOf F ls k (tickLine r e a) now =
-    let g = F .guard k (tickLine r e a) in
-    guarded g now (moved (suc k) (g .moves true) now)
+turnBy F ls k (tickLine r e a) g now = guarded g now (moved (suc k) (g .moves true) now)
 -- 23 test: "check, then the test. True: .. next line. False: .. go"
-lineStepOf F ls k (testLine o r s t e a b c go) now =
-    let g = F .guard k (testLine o r s t e a b c go) in
+turnBy F ls k (testLine o r s t e a b c go) g now =
     guarded g now (cond (holdsOn o (now .vars)) (moved (suc k) (g .moves true) now) (moved go (g .moves false) now))
 -- 24 leave: ".. go"
-lineStepOf F ls k (leaveLine r s e a b go) now =
-    let g = F .guard k (leaveLine r s e a b go) in
-    guarded g now (moved go (g .moves true) now)
+turnBy F ls k (leaveLine r s e a b go) g now = guarded g now (moved go (g .moves true) now)
 -- 25 out: ".. go"
-lineStepOf F ls k (outLine r s t e a go) now =
-    let g = F .guard k (outLine r s t e a go) in
-    guarded g now (moved go (g .moves true) now)
+turnBy F ls k (outLine r s t e a go) g now = guarded g now (moved go (g .moves true) now)
 -- 26 call: "check; then outcome 3 if 16 functions are open; .. callee opens .. go to its first line". The call that is one too many is
 -- not made.
-lineStepOf F ls k (callLine r e a b go) now =
-    let g = F .guard k (callLine r e a b go) in
+turnBy F ls k (callLine r e a b go) g now =
     guarded g now
     (cond (ltb (depth now) maxOpen)
     (on (opening (functionAt ls go) go (g .opens) (goTo (suc k) (g .moves true (now .running .own)) now)))
     (ends (TooManyOpen maxOpen) now))
 -- 27 back: the next line
-lineStepOf F ls k (backLine r e a b) now =
-    let g = F .guard k (backLine r e a b) in
-    guarded g now (moved (suc k) (g .moves true) now)
+turnBy F ls k (backLine r e a b) g now = guarded g now (moved (suc k) (g .moves true) now)
 -- 28 ret: ".. return"
-lineStepOf F ls k (retLine e a) now =
-    let g = F .guard k (retLine e a) in
-    guarded g now (leavesOf F (goTo k (g .moves true (now .running .own)) now) (now .callers))
+turnBy F ls k (retLine e a) g now = guarded g now (leavesOf F (goTo k (g .moves true (now .running .own)) now) (now .callers))
+
+abbrev pub lineStepOf : {H : Type 0} → Form H → List Line → (k : ℕ) → Line → State H → Turn H
+lineStepOf F ls k l now = turnBy F ls k l (F .guard k l) now
 
 -- "A hardened run does one line, or one return from place m, per step."
 unfoldable pub stepOf : {H : Type 0} → Form H → List Line → State H → Turn H

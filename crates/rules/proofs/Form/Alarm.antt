@@ -21,7 +21,7 @@ use Rattle.rules.specs.Variables.{doneOn}
 use Rattle.rules.specs.State.{Frame, State}
 use Rattle.rules.specs.Run.{ends}
 use Rattle.rules.specs.Source.{Source}
-use Rattle.rules.specs.Form.{Form, must, leavesOf, lineStepOf, stepOf, placeLine}
+use Rattle.rules.specs.Form.{Form, must, leavesOf, turnBy, lineStepOf, stepOf, placeLine}
 use Rattle.rules.specs.Match.{guardBetween}
 use Rattle.rules.specs.Demands.{alarmStep, doneBy, doneAt}
 use Rattle.rules.proofs.Logic.{clash}
@@ -39,7 +39,7 @@ use Rattle.rules.proofs.Form.Where.{Between, up, down, between, Stands,
 -- ---- a guard whose check fails
 check-fails : {H : Type 0} (F : Form H) (ls : List Line) (ℓ : Line) (n k : ℕ) (c : H) (rest : List (Frame H)) (l : H) (vs tr : List ℕ) → isGuard ℓ ≡ true
     → F .guard k ℓ .passes c l ≡ false → lineStepOf F ls k ℓ (hard n k c rest l vs tr) ≡ ends Alarm (hard n k c rest l vs tr)
-unfolding lineStepOf
+unfolding turnBy
 check-fails F ls (doLine o e) n k c rest l vs tr g h = clash g refl
 check-fails F ls (tickLine r e a) n k c rest l vs tr g h = rw h
 check-fails F ls (Line.testLine o r s t e a b d go) n k c rest l vs tr g h = rw h
@@ -125,7 +125,7 @@ module _ (t : Table) (ok : Proper t) {H : Type 0} {F : Form H} (S : Settles t F)
         (rw (not-last, q, guard-keeps ℓ g (from rest)) (record { vars-are = refl; trace-is = refl }))
 
     caught-do : (j : ℕ) (h : Open) (hs : List Open) → InFunction t n j h hs → at ≡ lineOf t j → kindAt t j ≡ Do → lineAt (harden t) at ≡ doLine (operandsAt t j) j → Caught F (harden t) p (from rest)
-    unfolding alarmStep doneAt rowLines lineStepOf
+    unfolding alarmStep doneAt rowLines turnBy
     caught-do j h hs mj is r q =
         let done = hard n (suc at) cn rest l (doneOn (operandsAt t j) vs) (tr ++ (j ∷ [])) in
         let ct : lineCount (kindAt t j) ≡ 2 = ap lineCount r in

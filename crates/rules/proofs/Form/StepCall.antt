@@ -21,7 +21,7 @@ use Rattle.rules.specs.Function.{functionAt}
 use Rattle.rules.specs.State.{Frame, State, frame}
 use Rattle.rules.specs.Run.{on, ends}
 use Rattle.rules.specs.Source.{returnRow, endRow, rowStep, sourceStep}
-use Rattle.rules.specs.Form.{Form, must, leavesOf, lineStepOf, stepOf}
+use Rattle.rules.specs.Form.{Form, must, leavesOf, turnBy, lineStepOf, stepOf}
 use Rattle.rules.proofs.Accepted.{Proper}
 use Rattle.rules.proofs.Scan.{open-next}
 use Rattle.rules.proofs.Value.{value-next, fresh-value}
@@ -37,7 +37,7 @@ use Rattle.rules.proofs.Form.Relation.{Back, waiting, sourceBacks, line
 call-line : {H : Type 0} (F : Form H) (ls : List Line) (n k : ℕ) (c : H) (rest : List (Frame H)) (l : H) (vs tr : List ℕ) (r e a b go : ℕ) → F .guard k (callLine r e a b go) .passes c l ≡ true
     → (y : Bool) → ltb (suc (length rest)) maxOpen ≡ y → lineStepOf F ls k (callLine r e a b go) (hard n k c rest l vs tr)
     ≡ cond y (on (hard (functionAt ls go) go (F .guard k (callLine r e a b go) .opens) (frame n (suc k) (F .guard k (callLine r e a b go) .moves true c) ∷ rest) l vs tr)) (ends (TooManyOpen maxOpen) (hard n k c rest l vs tr))
-unfolding lineStepOf
+unfolding turnBy
 call-line F ls n k c rest l vs tr r e a b go h y z = rw (h, z)
 
 not-finished : TooManyOpen maxOpen ≡ Finished → {d : ℕ} → d ≡ 0
@@ -123,7 +123,7 @@ module _ (t : Table) (ok : Proper t) {H : Type 0} {F : Form H} (S : Settles t F)
 -- ---- a function's end
 ret-line : {H : Type 0} (F : Form H) (ls : List Line) (n k : ℕ) (c : H) (rest : List (Frame H)) (l : H) (vs tr : List ℕ) (e a : ℕ) → F .guard k (retLine e a) .passes c l ≡ true
     → lineStepOf F ls k (retLine e a) (hard n k c rest l vs tr) ≡ leavesOf F (hard n k (F .guard k (retLine e a) .moves true c) rest l vs tr) rest
-unfolding lineStepOf
+unfolding turnBy
 ret-line F ls n k c rest l vs tr e a h = rw h
 
 module _ (t : Table) (ok : Proper t) {H : Type 0} {F : Form H} (S : Settles t F) (n i : ℕ) (f : Open) (m : InFunction t n i f []) (l : H) (vs tr : List ℕ) (e : kindAt t i ≡ End) (w : f .part ≡ body) where
@@ -171,12 +171,12 @@ module _ (t : Table) (ok : Proper t) {H : Type 0} {F : Form H} (S : Settles t F)
 -- ---- ticks and backs
 tick-line : {H : Type 0} (F : Form H) (ls : List Line) (n k : ℕ) (c : H) (rest : List (Frame H)) (l : H) (vs tr : List ℕ) (r e a : ℕ) → F .guard k (tickLine r e a) .passes c l ≡ true
     → lineStepOf F ls k (tickLine r e a) (hard n k c rest l vs tr) ≡ on (hard n (suc k) (F .guard k (tickLine r e a) .moves true c) rest l vs tr)
-unfolding lineStepOf
+unfolding turnBy
 tick-line F ls n k c rest l vs tr r e a h = rw h
 
 back-line : {H : Type 0} (F : Form H) (ls : List Line) (n k : ℕ) (c : H) (rest : List (Frame H)) (l : H) (vs tr : List ℕ) (r e a b : ℕ) → F .guard k (backLine r e a b) .passes c l ≡ true
     → lineStepOf F ls k (backLine r e a b) (hard n k c rest l vs tr) ≡ on (hard n (suc k) (F .guard k (backLine r e a b) .moves true c) rest l vs tr)
-unfolding lineStepOf
+unfolding turnBy
 back-line F ls n k c rest l vs tr r e a b h = rw h
 
 module _ (t : Table) (ok : Proper t) {H : Type 0} {F : Form H} (S : Settles t F) (n i : ℕ) (f : Open) (fs : List Open) (m : InFunction t n i f fs) (rest : List Back) (lk : Linked t n rest) (l : H) (vs tr : List ℕ) where

@@ -15,7 +15,7 @@ use Rattle.rules.specs.Harden.{lineCount, lineOf, endLine, rowLines, har
 use Rattle.rules.specs.State.{Frame}
 use Rattle.rules.specs.Run.{on}
 use Rattle.rules.specs.Source.{endRow, rowStep, sourceStep}
-use Rattle.rules.specs.Form.{Form, lineStepOf, stepOf}
+use Rattle.rules.specs.Form.{Form, turnBy, lineStepOf, stepOf}
 use Rattle.rules.proofs.Logic.{clash}
 use Rattle.rules.proofs.Accepted.{Proper}
 use Rattle.rules.proofs.Scan.{Chain, chain, body-least, origin, open-next}
@@ -29,7 +29,7 @@ use Rattle.rules.proofs.Form.Relation.{Back, src, hard, here, Linked, B
 
 leave-line : {H : Type 0} (F : Form H) (ls : List Line) (n k : ℕ) (c : H) (rest : List (Frame H)) (l : H) (vs tr : List ℕ) (r s e a b go : ℕ) → F .guard k (leaveLine r s e a b go) .passes c l ≡ true
     → lineStepOf F ls k (leaveLine r s e a b go) (hard n k c rest l vs tr) ≡ on (hard n go (F .guard k (leaveLine r s e a b go) .moves true c) rest l vs tr)
-unfolding lineStepOf
+unfolding turnBy
 leave-line F ls n k c rest l vs tr r s e a b go h = rw h
 
 module _ (t : Table) (ok : Proper t) {H : Type 0} {F : Form H} (S : Settles t F) (n i : ℕ) (f h : Open) (hs : List Open) (m : InFunction t n i f (h ∷ hs)) (rest : List Back) (lk : Linked t n rest) (l : H) (vs tr : List ℕ) where

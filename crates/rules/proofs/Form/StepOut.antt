@@ -17,7 +17,7 @@ use Rattle.rules.specs.Harden.{lineCount, lineOf, ownRegion, openerValue
 use Rattle.rules.specs.State.{Frame}
 use Rattle.rules.specs.Run.{on}
 use Rattle.rules.specs.Source.{toRow, rowStep, sourceStep}
-use Rattle.rules.specs.Form.{Form, lineStepOf, stepOf}
+use Rattle.rules.specs.Form.{Form, turnBy, lineStepOf, stepOf}
 use Rattle.rules.proofs.Logic.{clash}
 use Rattle.rules.proofs.Accepted.{Proper}
 use Rattle.rules.proofs.Scan.{Chain, chain, body-least, origin}
@@ -31,7 +31,7 @@ use Rattle.rules.proofs.Form.Relation.{Back, src, hard, here, Linked, B
 
 out-line : {H : Type 0} (F : Form H) (ls : List Line) (n k : ℕ) (c : H) (rest : List (Frame H)) (l : H) (vs tr : List ℕ) (r s t e a go : ℕ) → F .guard k (outLine r s t e a go) .passes c l ≡ true
     → lineStepOf F ls k (outLine r s t e a go) (hard n k c rest l vs tr) ≡ on (hard n go (F .guard k (outLine r s t e a go) .moves true c) rest l vs tr)
-unfolding lineStepOf
+unfolding turnBy
 out-line F ls n k c rest l vs tr r s t e a go h = rw h
 
 -- ---- the parts from the innermost loop body on keep what is known of all

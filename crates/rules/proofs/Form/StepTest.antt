@@ -18,7 +18,7 @@ use Rattle.rules.specs.Variables.{doneOn, holdsOn}
 use Rattle.rules.specs.State.{Frame}
 use Rattle.rules.specs.Run.{on}
 use Rattle.rules.specs.Source.{falseRow, rowStep, sourceStep}
-use Rattle.rules.specs.Form.{Form, lineStepOf, stepOf}
+use Rattle.rules.specs.Form.{Form, turnBy, lineStepOf, stepOf}
 use Rattle.rules.proofs.Accepted.{Proper}
 use Rattle.rules.proofs.Scan.{Chain, chain, open-next}
 use Rattle.rules.proofs.Value.{fresh-value}
@@ -33,7 +33,7 @@ use Rattle.rules.proofs.Form.Relation.{Back, lineBacks, src, hard, here
 test-line : {H : Type 0} (F : Form H) (ls : List Line) (n k : ℕ) (c : H) (rest : List (Frame H)) (l : H) (vs tr : List ℕ) (o : Operands) (r s t e a b d go : ℕ) → F .guard k (testLine o r s t e a b d go) .passes c l ≡ true
     → (y : Bool) → holdsOn o vs ≡ y → lineStepOf F ls k (testLine o r s t e a b d go) (hard n k c rest l vs tr)
     ≡ cond y (on (hard n (suc k) (F .guard k (testLine o r s t e a b d go) .moves true c) rest l vs tr)) (on (hard n go (F .guard k (testLine o r s t e a b d go) .moves false c) rest l vs tr))
-unfolding lineStepOf
+unfolding turnBy
 test-line F ls n k c rest l vs tr o r s t e a b d go h y z = rw (h, z)
 
 module _ (t : Table) (ok : Proper t) {H : Type 0} {F : Form H} (S : Settles t F) (n i : ℕ) (f : Open) (fs : List Open) (m : InFunction t n i f fs) (rest : List Back) (lk : Linked t n rest) (l : H) (vs tr : List ℕ) where
@@ -41,7 +41,7 @@ module _ (t : Table) (ok : Proper t) {H : Type 0} {F : Form H} (S : Settles t F)
   Step d = Both S d (sourceStep t (src n i rest vs tr)) (stepOf F (harden t) (here S n i f fs rest l vs tr))
 
   pub step-do : kindAt t i ≡ Do → Step (length rest + 1)
-  unfolding rowStep lineStepOf rowLines
+  unfolding rowStep turnBy rowLines
   step-do e = both-on _ _ (source-step t n i rest vs tr e (m .open-is))
       (line-step t ok S m (lineOf t i) 0 (doLine (operandsAt t i) i) (omega arith) (rw e (omega arith)) (rw e) _ _ l vs tr)
       (record {
