@@ -11,7 +11,7 @@ use Rattle.rules.specs.Line.{callLine, backLine}
 use Rattle.rules.specs.Harden.{lineOf, endValue, rowLines}
 use Rattle.layout.specs.declared.spot.Spot.{Spot}
 use Rattle.layout.specs.Number.{valueOf}
-use Rattle.layout.specs.Spot.{SpotIs, CalleeIs, Head, endOfBody}
+use Rattle.layout.specs.Spot.{SpotIs, CalleeIs, endOfBody}
 use Rattle.line.specs.declared.Line as Declared
 use Rattle.line.specs.Line.{struct}
 use Rattle.emit.specs.Emit.{rowLine}
@@ -22,9 +22,6 @@ same-call r= e= a= b= g= = rw (r=, e=, a=, b=, g=)
 
 same-back : {r e a b r′ e′ a′ b′ : ℕ} → r ≡ r′ → e ≡ e′ → a ≡ a′ → b ≡ b′ → struct (backLine r e a b) ≡ struct (backLine r′ e′ a′ b′)
 same-back r= e= a= b= = rw (r=, e=, a=, b=)
-
-pub head-of : {bs : List ℕ} {n o : ℕ} → CalleeIs bs n o → Head bs o
-head-of {n = n} c = record { number = n; it = c }
 
 pub call-line : {bs : List ℕ} {i o g b : ℕ} {h : Spot} {l : Declared.Line} → kindAt (tableOf bs) i ≡ Call → CalleeIs bs (operandsAt (tableOf bs) i .n) o
     → SpotIs bs i h → b ≡ base (tableOf bs) (regions (tableOf bs) o) → g ≡ lineOf (tableOf bs) (suc o) → l ≡ struct (callLine (h .r) (h .e) (h .e + 1) b g)

@@ -62,9 +62,6 @@ lines-are {bs} {i} m = row-lines-length (tableOf bs) i (openAt (tableOf bs) i) (
 
 -- line g is the first of row i, in a buffer that begins with line f
 module _ {bs out : List ℕ} {i f g : ℕ} (h : Holds bs i f out) (w : g ≡ lineOf (tableOf bs) i) where
-  pub first-low : f ≤ g
-  first-low = omega (arith, h .low)
-
   pub room-for : {count : ℕ} → Makes bs i count → 20 * (g - f) + 20 * count ≤ length out
   room-for m = omega (arith, h .low, h .enough, m .are)
 
@@ -183,6 +180,3 @@ all-bytes bs =
 pub answer-length : (bs : List ℕ) → length (hardenedBytes bs) ≡ 20 * lineOf (tableOf bs) (length bs / 6)
 unfolding hardenedBytes
 answer-length bs = bytes-length (tableOf bs) (length (tableOf bs)) ∙ ap (λ x. 20 * lineOf (tableOf bs) x) (table-length bs)
-
-pub all-room : {bs out : List ℕ} → 20 * lineOf (tableOf bs) (length bs / 6) ≤ length out → Room bs 0 (length bs / 6) out
-all-room {bs} h = record { rows = omega arith; enough = omega (arith, ap (lineOf (tableOf bs)) (zero-add (length bs / 6))) }

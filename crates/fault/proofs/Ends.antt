@@ -22,7 +22,7 @@ use Rattle.rules.specs.Check.{wrongField, misplaced, tooManyFunctions, tooManyP
 use Rattle.rules.specs.Fault.{isFaulty, faultyRow, callingRow, faultRow, stopRow, faultCall}
 use Rattle.rules.proofs.Logic.{clash}
 use Rattle.rules.proofs.Search.{first-is}
-use Rattle.rules.proofs.Accepted.{then-left, then-right, if-not, table-length}
+use Rattle.rules.proofs.Accepted.{then-left, then-right, proper-calls, table-length}
 use Rattle.rows.specs.First.{firstKind, callsBeyond}
 use Rattle.rows.proofs.Rows.{rest-all, cut-end}
 use Rattle.walk.proofs.Verdicts.{table-refused, left-open, none-open}
@@ -50,17 +50,6 @@ row-before t (suc n) e m h = by (eq-or-lt-of-le h) (λ l. row-before t n (then-l
         ap (rowVerdict t) r ∙ then-right (rowsVerdict t n) _ e
     by (inr l) ih = ih (omega arith)
 
-call-before : (t : Table) (n : ℕ) → callsVerdict t n ≡ Accepted → (m : ℕ) → m < n → noSuchFunction t m ≡ false
-unfolding callsVerdict
-call-before t zero e m h = absurd (not-suc-le-zero h)
-call-before t (suc n) e m h = by (eq-or-lt-of-le h) (λ l. call-before t n (then-left _ _ e) m l)
-  where
-    by : (suc m ≡ suc n) ⊎ (suc m < suc n) → (m < n → noSuchFunction t m ≡ false) → noSuchFunction t m ≡ false
-    by (inl q) ih =
-        let r : m ≡ n = omega arith in
-        ap (noSuchFunction t) r ∙ if-not _ NoSuchFunction (then-right (callsVerdict t n) _ e)
-    by (inr l) ih = ih (omega arith)
-
 faulty-first : (t : Table) (i : ℕ) → rowsVerdict t i ≡ Accepted → i ≤ length t → (i < length t → isFaulty t i ≡ true) → faultyRow t ≡ i
 faulty-first t i g l f =
     first-is (isFaulty t) (length t) 0 i (omega arith) (omega arith) (λ h. f (omega arith))
@@ -68,7 +57,7 @@ faulty-first t i g l f =
 
 calling-first : (t : Table) (i : ℕ) → callsVerdict t i ≡ Accepted → i < length t → noSuchFunction t i ≡ true → callingRow t ≡ i
 calling-first t i g l f =
-    first-is (noSuchFunction t) (length t) 0 i (omega arith) (omega arith) (λ h. f) (λ m a b. call-before t i g m b)
+    first-is (noSuchFunction t) (length t) 0 i (omega arith) (omega arith) (λ h. f) (λ m a b. proper-calls t i g m b)
 
 -- ---- the causes of a row
 isRowCause : Refusal → Bool

@@ -6,6 +6,7 @@ use mathlib.Core.List.{List, [], _∷_}
 use lib.Dec.{eqb}
 use lib.ListN.{length, getD}
 use Rattle.rules.specs.declared.refusal.Verdict.the-variants.{Accepted}
+use Rattle.rules.specs.Limits.{maxFunctions, maxConstructs, maxRegions}
 use Rattle.rules.specs.Row.{tableOf}
 use Rattle.rules.specs.Scan.{Part, body, thenPart, elsePart, loopBody, Open, regions, openAt, bodyRegion, functions}
 use Rattle.rules.specs.Check.{rowsVerdict}
@@ -59,12 +60,12 @@ loopsWithout part loops = cond (eqb part 0x05) (loops - 1) loops
 
 -- what holds of the numbers and bytes, whatever the table: at most a body and 16 ifs and loops are open
 pub record Sane (s : Standing) (ps : List ℕ) : Type 0 where
-  pub long : length ps ≡ 17
-  pub deep : s .depth ≤ 17
+  pub long : length ps ≡ maxConstructs + 1
+  pub deep : s .depth ≤ maxConstructs + 1
   pub loops-are : loopBytes ps (s .depth) ≡ s .loops
   pub loops-low : s .loops ≤ s .depth
-  pub regions-low : s .opened ≤ 64
-  pub functions-low : s .count ≤ 32
+  pub regions-low : s .opened ≤ maxRegions
+  pub functions-low : s .count ≤ maxFunctions
 
 abbrev pub none : Standing
 none = record { depth = 0; loops = 0; opened = 0; count = 0 }

@@ -5,10 +5,13 @@ use crate::open::step;
 use rows::LAST;
 use rows::WIDTH;
 use rows::first::first_kind;
+use rules::limits::CONSTRUCTS;
 use rules::refusal::Refusal;
 ghost use mathlib.Core.Path.{_≡_};
-ghost use Prim.Native.Nat.{_≤_, _<_};
+ghost use Prim.Native.Nat.{_*_, _≤_, _<_};
 ghost use lib.ListN.{length};
+ghost use Rattle.rules.specs.Limits.{maxRows};
+ghost use Rattle.rules.specs.Row.{rowWidth};
 ghost use Rattle.fault.specs.Standing.{none};
 ghost use Rattle.fault.specs.Found.{endOf, PassedOk};
 
@@ -41,11 +44,11 @@ fn end(s: Standing, at: usize) -> Passed
 }
 
 pub fn rows(rows: &[u8]) -> Passed
-    requires { ⌜ length (now rows) ≤ 6144 ⌝ }
+    requires { ⌜ length (now rows) ≤ rowWidth * maxRows ⌝ }
     ensures { λ r. ⌜ PassedOk (now (rows .entry)) r ⌝ }
 {
     // A function's body, and 16 ifs and loops in it.
-    let mut parts = [0u8; 17];
+    let mut parts = [0u8; CONSTRUCTS + 1];
     let mut s = start();
     let mut at = 0;
     while WIDTH * at + LAST < rows.len() {

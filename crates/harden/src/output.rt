@@ -2,12 +2,11 @@
 ghost use mathlib.Core.Path.{_≡_};
 ghost use Prim.Native.Nat.{_+_, _*_, _%_, _≤_, _<_};
 ghost use lib.ListN.{length};
+ghost use Rattle.rules.specs.Line.{lineWidth};
 use console::input::Read;
 use console::output;
+use line::Line;
 use text::write;
-
-// The bytes of a hardened line.
-const WIDTH: usize = 20;
 
 // Lines that are printed at a time.
 const MANY: usize = 1000;
@@ -40,12 +39,12 @@ fn harden(rows: &[u8], lines: &mut [u8], listing: &mut [u8])
 fn list(lines: &[u8], listing: &mut [u8])
     requires { ⌜ 65536 ≡ length (now listing) ⌝ }
 {
-    let count = lines.len() / WIDTH;
+    let count = lines.len() / Line::WIDTH;
     let mut done = 0;
     while done < count {
         let next = done + output::least(count - done, MANY);
-        let from = WIDTH * done;
-        let to = WIDTH * next;
+        let from = Line::WIDTH * done;
+        let to = Line::WIDTH * next;
         if !some_lines(&lines[from..to], listing) {
             return;
         }
@@ -54,8 +53,8 @@ fn list(lines: &[u8], listing: &mut [u8])
 }
 
 fn some_lines(lines: &[u8], listing: &mut [u8]) -> bool
-    requires { ⌜ (length (now lines) % 20 ≡ 0) × (length (now lines) ≤ 20000) × (65536 ≡ length (now listing)) ⌝ }
+    requires { ⌜ (length (now lines) % lineWidth ≡ 0) × (length (now lines) ≤ 20000) × (65536 ≡ length (now listing)) ⌝ }
 {
-    let n = write::listing(lines, WIDTH, listing);
+    let n = write::listing(lines, Line::WIDTH, listing);
     output::answer_front(n, listing)
 }

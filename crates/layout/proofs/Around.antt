@@ -17,6 +17,7 @@ use Rattle.rules.proofs.Scan.{origin}
 use Rattle.rules.proofs.Value.{AllHeld, held}
 use Rattle.rules.proofs.Accepted.{Proper}
 use Rattle.rules.proofs.Function.{Formed, formed, isBody}
+use Rattle.rules.proofs.RegionBound.{is-loop-body}
 
 -- a row that pushes a part opens something, and the other way round
 pub pushes-opening : (k : Kind) {p : Part} → shapeOf k ≡ pushes p → isOpening k ≡ true
@@ -30,18 +31,6 @@ pushes-opening Break e = cc
 pushes-opening Continue e = cc
 pushes-opening Call e = cc
 pushes-opening Unknown e = cc
-
-pub opening-pushes : (k : Kind) → isOpening k ≡ true → (p : Part) × (shapeOf k ≡ pushes p)
-opening-pushes Function e = (body, refl)
-opening-pushes Do e = clash e refl
-opening-pushes If e = (thenPart, refl)
-opening-pushes Else e = clash e refl
-opening-pushes Loop e = (loopBody, refl)
-opening-pushes End e = clash e refl
-opening-pushes Break e = clash e refl
-opening-pushes Continue e = clash e refl
-opening-pushes Call e = clash e refl
-opening-pushes Unknown e = clash e refl
 
 -- what is open at the row that opened the part
 pub outer-of : (t : Table) (i : ℕ) (fs : List Open) → AllHeld t i fs → isOutside fs ≡ false → openAt t (openerOf fs) ≡ around fs
@@ -93,12 +82,6 @@ own t ok zero h = tt
 own t ok (suc i) h = own-next t i (kindAt t i) (openAt t i) (ok .rows i h .placed) (own t ok i (omega arith))
 
 -- ---- the innermost loop
-is-loop-body : (p : Part) → isLoopBody p ≡ true → p ≡ loopBody
-is-loop-body body e = cc
-is-loop-body thenPart e = cc
-is-loop-body elsePart e = cc
-is-loop-body loopBody e = refl
-
 -- a part that is no body stands in another
 pub not-outermost : (t : Table) (f : Open) (fs : List Open) → Formed t (f ∷ fs) → isBody (f .part) ≡ false → isOutside fs ≡ false
 not-outermost t f [] g e = clash (ap isBody (g .0)) e

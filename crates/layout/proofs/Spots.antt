@@ -16,7 +16,7 @@ use Rattle.rules.specs.Value.{base, value}
 use Rattle.rules.specs.Check.{isOutside}
 use Rattle.rules.specs.Harden.{lineOf}
 use Rattle.rules.specs.Links.{isOpening}
-use Rattle.rules.proofs.Scan.{Chain, chain, body-least, regions-mono}
+use Rattle.rules.proofs.Scan.{Chain, chain, body-least, regions-mono, opening-pushes}
 use Rattle.rules.proofs.Value.{held}
 use Rattle.rules.proofs.Accepted.{proper, table-length}
 use Rattle.rules.proofs.Close.{end-is}
@@ -30,7 +30,7 @@ use Rattle.layout.specs.Number.{valueOf, Based, Valued}
 use Rattle.layout.specs.Spot.{Near, Inside, InLoop, Opens, Grows, SpotIs, childOf, inBody, isLoop, OpenerIs, LoopIs, CalleeIs, Head, endOfBody, Ends, Heads}
 use Rattle.layout.proofs.Survey.{some-open}
 use Rattle.layout.proofs.Numbers.{value-low}
-use Rattle.layout.proofs.Around.{opening-pushes, pushes-opening, opened-by, loop-at}
+use Rattle.layout.proofs.Around.{pushes-opening, opened-by, loop-at}
 
 -- ---- regions by their numbers in the function
 -- row i is within the table

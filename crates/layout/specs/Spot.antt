@@ -5,7 +5,7 @@ use mathlib.Core.Bool.{Bool, true, false}
 use mathlib.Core.List.{List}
 use lib.ListN.{length, getD}
 use lib.Dec.{eqb}
-use Rattle.rules.specs.Limits.{maxRows}
+use Rattle.rules.specs.Limits.{maxRows, maxFunctions, maxRegions}
 use Rattle.rules.specs.declared.kind.Kind.{Kind}
 use Rattle.rules.specs.declared.kind.Kind.the-variants.{Function, Do, If, Else, Loop, End, Break, Continue, Call, Unknown}
 use Rattle.rules.specs.Row.{Table, tableOf, kindAt}
@@ -20,7 +20,7 @@ use Rattle.layout.specs.Number.{valueOf}
 -- a region of the function that has this body
 pub record Near (region body : ℕ) : Type 0 where
   pub low : body ≤ region
-  pub high : region < body + 64
+  pub high : region < body + maxRegions
 
 -- row i stands in a function; in a loop
 pub record Inside (bs : List ℕ) (i : ℕ) : Type 0 where
@@ -108,5 +108,5 @@ pub record Elses (bs elses : List ℕ) : Type 0 where
   pub each : (i : ℕ) → i < length (tableOf bs) → kindAt (tableOf bs) i ≡ If → getD elses i 0 ≡ elseLink (tableOf bs) i
 
 pub record Heads (bs heads : List ℕ) : Type 0 where
-  pub room : 32 ≤ length heads
+  pub room : maxFunctions ≤ length heads
   pub each : (n : ℕ) → n < functionCount (tableOf bs) → getD heads n 0 ≡ functionRow (tableOf bs) n

@@ -6,7 +6,8 @@ use mathlib.Core.List.{List}
 use lib.Dec.{ltb}
 use lib.ListN.{length, take}
 use Rattle.rules.specs.Line.{lineWidth, linesIn, lineAt}
-use Rattle.rules.specs.Row.{tableBytes}
+use Rattle.rules.specs.Limits.{maxRows}
+use Rattle.rules.specs.Row.{rowWidth, tableBytes}
 use Rattle.rules.specs.ReadBack.{leavesTo, begins, unreadTo, sourceBytes}
 use Rattle.line.specs.declared.kind.LineKind.{LineKind}
 use Rattle.line.specs.declared.kind.LineKind.the-variants.{Do, Tick, Test, Leave, Out, Call, Back, Ret}
@@ -68,5 +69,5 @@ pub record Fronted (lines rows : List ℕ) (n : ℕ) : Type 0 where
   pub front-is : take n rows ≡ sourceBytes lines
 
 abbrev pub CandidateIs : (lines rows : List ℕ) → Candidate → Type 0
-CandidateIs lines rows TooLong = 6144 < length (sourceBytes lines)
+CandidateIs lines rows TooLong = rowWidth * maxRows < length (sourceBytes lines)
 CandidateIs lines rows (Bytes n) = Fronted lines rows n

@@ -3,15 +3,15 @@ use mathlib.Core.Path.{_≡_, refl, sym, ap, _∙_}
 use mathlib.Core.Bool.{Bool, true, false, cond}
 use mathlib.Core.List.{List}
 use Prim.Native.Nat.{ℕ, _+_, _*_, _-_, _≤_, _<_}
-use native.Mathlib.Nat.{add-zero, add-assoc}
 use native.Mathlib.Omega.{arith}
 use lib.ListN.{length, drop, take, length-drop}
-use lib.Seq.{getD-drop, take-all, drop-drop}
+use lib.Seq.{take-all, drop-drop}
 use Rattle.rules.specs.declared.kind.Kind.{Kind}
 use Rattle.rules.specs.declared.kind.Kind.the-variants.{Function, Do, If, Else, Loop, End, Break, Continue, Call, Unknown}
 use Rattle.rules.specs.Row.{Row, rowWidth, rowIn, tableOf, rowAt, kindAt, operandsAt, fieldsFit}
 use Rattle.rules.proofs.Logic.{clash}
 use Rattle.rules.proofs.Accepted.{table-length}
+use Rattle.rules.proofs.Encode.{row-drop}
 use Rattle.rules.proofs.FieldBound.{row-at}
 use Rattle.rows.specs.First.{properKind, firstKind}
 
@@ -22,10 +22,6 @@ rest-all a xs = take-all (length xs - a) (drop a xs) (omega (arith, length-drop 
 -- what is dropped twice is dropped at once
 pub drops : (xs : List ℕ) (a c n : ℕ) → a + c ≡ n → drop c (drop a xs) ≡ drop n xs
 drops xs a c n p = drop-drop c a xs ∙ ap (λ k. drop k xs) p
-
-row-drop : (bs : List ℕ) (k : ℕ) → rowIn bs k ≡ rowIn (drop k bs) 0
-unfolding rowIn
-row-drop bs k = simp (getD-drop, add-assoc, add-zero)
 
 -- the bytes xs from row i on
 module _ (bs xs : List ℕ) (i : ℕ) (cut : xs ≡ drop (rowWidth * i) bs) (within : rowWidth * i ≤ length bs) where

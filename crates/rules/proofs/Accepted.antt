@@ -87,7 +87,7 @@ proper-rows t (suc n) e i h = by (eq-or-lt-of-le h) (λ l. proper-rows t n (then
         proper-row t i (ap (rowVerdict t) r ∙ then-right (rowsVerdict t n) _ e)
     by (inr l) ih = ih (omega arith)
 
-proper-calls : (t : Table) (n : ℕ) → callsVerdict t n ≡ Accepted → (i : ℕ) → i < n → noSuchFunction t i ≡ false
+pub proper-calls : (t : Table) (n : ℕ) → callsVerdict t n ≡ Accepted → (i : ℕ) → i < n → noSuchFunction t i ≡ false
 unfolding callsVerdict
 proper-calls t zero e i h = absurd (not-suc-le-zero h)
 proper-calls t (suc n) e i h = by (eq-or-lt-of-le h) (λ l. proper-calls t n (then-left _ _ e) i l)

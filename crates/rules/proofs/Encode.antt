@@ -78,7 +78,7 @@ kind-byte b =
     (spells-or b 7 Break _ refl (spells-or b 8 Continue _ refl (spells-or b 9 Call Unknown refl (λ n. absurd (n refl))))))))))
 
 -- ---- rows
-row-drop : (bs : List ℕ) (k : ℕ) → rowIn bs k ≡ rowIn (drop k bs) 0
+pub row-drop : (bs : List ℕ) (k : ℕ) → rowIn bs k ≡ rowIn (drop k bs) 0
 unfolding rowIn
 row-drop bs k = simp (getD-drop, add-assoc, add-zero)
 

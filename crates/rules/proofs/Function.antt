@@ -144,7 +144,7 @@ no-function t n (suc m) h = by (isFunction (kindAt t m)) (h m (le-refl _)) (no-f
     by true e l = omega (arith, ne (eqb-false (functions t m) n e))
     by false e l = l
 
-is-function : (k : Kind) → isFunction k ≡ true → k ≡ Function
+pub is-function : (k : Kind) → isFunction k ≡ true → k ≡ Function
 is-function Function e = refl
 is-function Do e = cc
 is-function If e = cc

@@ -20,8 +20,8 @@ use Rattle.rules.specs.Bounds.{LineIn}
 use Rattle.rules.proofs.Search.{first-is}
 use Rattle.rules.proofs.Accepted.{Proper}
 use Rattle.rules.proofs.Scan.{origin}
-use Rattle.rules.proofs.Value.{Silent, a-function, no-kind, AllHeld, held}
-use Rattle.rules.proofs.Harden.{line-mono, line-suc, line-next}
+use Rattle.rules.proofs.Value.{AllHeld, held}
+use Rattle.rules.proofs.Harden.{line-mono, line-suc, line-next, some-line}
 use Rattle.rules.proofs.Function.{Formed, formed, home, not-silent, opens-function, functions-mono, InFunction, function-end, not-past-end, Somewhere, somewhere}
 use Rattle.rules.proofs.Place.{function-inside, function-at-mono, lines-all, functions-next, functions-home, start-is, before-finish, Spot, locate, LineOf}
 
@@ -96,23 +96,11 @@ line-in t ok {n} {i} m ph l =
       in-table = omega (arith, lines-all t, line-next t i (length t) (m .within));
     }
 
-one-line : (k : Kind) → (Silent k → ⊥) → 0 < lineCount k
-one-line Function s = absurd (s a-function)
-one-line Do s = omega arith
-one-line If s = omega arith
-one-line Else s = omega arith
-one-line Loop s = omega arith
-one-line End s = omega arith
-one-line Break s = omega arith
-one-line Continue s = omega arith
-one-line Call s = omega arith
-one-line Unknown s = absurd (s no-kind)
-
 -- the first line of a row, as a go names it
 pub first-in : (t : Table) → Proper t → {n i : ℕ} {f : Open} {fs : List Open} → InFunction t n i f fs → LineIn (harden t) n (lineOf t i)
 first-in t ok {n} {i} m =
     subst (LineIn (harden t) n) (add-zero (lineOf t i))
-    (line-in t ok m 0 (one-line (kindAt t i) (not-silent t ok i (m .within) (m .open-is))))
+    (line-in t ok m 0 (some-line (kindAt t i) (not-silent t ok i (m .within) (m .open-is))))
 
 -- ---- the row after one that is no end
 pub next-row : (t : Table) → Proper t → {n i : ℕ} {f : Open} {fs : List Open} → InFunction t n i f fs → (kindAt t i ≡ End → ⊥) → Somewhere t n (suc i)

@@ -15,6 +15,7 @@ use Rattle.rules.specs.Scan.{Open, openAt}
 use Rattle.rules.specs.Line.{Line, retLine, lineAt}
 use Rattle.rules.specs.Harden.{lineCount, lineOf, rowLines, linesOf, hardenTo, harden}
 use Rattle.rules.proofs.Logic.{append-nil}
+use Rattle.rules.proofs.Value.{Silent, a-function, no-kind}
 
 pub line-mono : (t : Table) {i : ℕ} (j : ℕ) → i ≤ j → lineOf t i ≤ lineOf t j
 unfolding lineOf
@@ -27,6 +28,19 @@ line-suc t i e = ap (λ x. lineOf t i + lineCount x) e
 pub line-next : (t : Table) (i j : ℕ) → i < j → lineOf t i + lineCount (kindAt t i) ≤ lineOf t j
 unfolding lineOf
 line-next t i j h = line-mono t {i = suc i} j h
+
+-- a row of a function stands for some line
+pub some-line : (k : Kind) → (Silent k → ⊥) → 0 < lineCount k
+some-line Function s = absurd (s a-function)
+some-line Do s = omega arith
+some-line If s = omega arith
+some-line Else s = omega arith
+some-line Loop s = omega arith
+some-line End s = omega arith
+some-line Break s = omega arith
+some-line Continue s = omega arith
+some-line Call s = omega arith
+some-line Unknown s = absurd (s no-kind)
 
 pub row-lines-length : (t : Table) (i : ℕ) (fs : List Open) (k : Kind) → length (rowLines t i fs k) ≡ lineCount k
 unfolding rowLines

@@ -11,6 +11,7 @@ pub mod Function
 pub mod Place
 pub mod Parts
 pub mod Guard
+pub mod Between
 pub mod ValueBound
 pub mod Words
 -- ---- the forms in general

@@ -13,7 +13,7 @@ use Rattle.rules.specs.declared.kind.Kind.the-variants.{End, Call}
 use Rattle.rules.specs.Limits.{maxRegions}
 use Rattle.rules.specs.Row.{Table, kindAt, operandsAt}
 use Rattle.rules.specs.Scan.{Part, body, thenPart, elsePart, loopBody, Open, pushes, shapeOf, regions, openAt, openerOf, regionOf, around, fromLoop, local, isEnd, endOf, elseOf, hasElse, functionCount, functionRow}
-use Rattle.rules.specs.Value.{past, base, value, valueIn}
+use Rattle.rules.specs.Value.{past, value, valueIn}
 use Rattle.rules.specs.Line.{outLine}
 use Rattle.rules.specs.Harden.{lineCount, lineOf, ownRegion, testOf, openerValue, leaveOf, outOf, endLine, endValue, callOf, backOf, harden}
 use Rattle.rules.specs.Function.{startOf}
@@ -26,16 +26,10 @@ use Rattle.rules.proofs.Close.{end-is, closed-is, Turned, else-is}
 use Rattle.rules.proofs.Harden.{line-suc}
 use Rattle.rules.proofs.Function.{isBody, home, FunctionAt, function-at, InFunction, move-to, entry, formed-here, function-end, end-same, callee-known}
 use Rattle.rules.proofs.Place.{start-is, finish-is, callee}
-use Rattle.rules.proofs.ValueBound.{value-bound, base-bound, regions-bound}
+use Rattle.rules.proofs.ValueBound.{regions-bound}
+use Rattle.rules.proofs.Words.{word-of, word-base}
 use Rattle.rules.proofs.RegionBound.{own-bound, around-below, around-bound, opened-bound, else-bound, local-bound, LoopAround}
 use Rattle.rules.proofs.FunctionLine.{line-in, first-in, next-in}
-
--- ---- values and bases are words
-value-word : (t : Table) → Proper t → (g i : ℕ) → g ≤ length t → i ≤ length t → value t g i + 2 < 65536
-value-word t ok g i a b = omega (arith, value-bound t g i b, ok .few-rows)
-
-base-word : (t : Table) → Proper t → (i : ℕ) → i ≤ length t → Word (base t (regions t i))
-base-word t ok i h = omega (arith, base-bound t (regions t i), regions-bound t i, ok .few-rows)
 
 end-word : (t : Table) → Proper t → (n : ℕ) → n < functionCount t → Word (endValue t n)
 unfolding endValue
@@ -43,7 +37,7 @@ end-word t ok n l =
     let a = function-at t ok n l in
     let e = function-end t ok n l in
     omega
-    (arith, value-word t ok (regions t (functionRow t n)) (endOf t (functionRow t n)) (omega (arith, regions-bound t (functionRow t n), a .within)) (omega (arith, e .1 .within)))
+    (arith, word-of t ok (regions t (functionRow t n)) (endOf t (functionRow t n)) (omega (arith, regions-bound t (functionRow t n), a .within)) (omega (arith, e .1 .within)))
 
 -- ---- row i of function n, where the parts f ∷ fs are open
 module _ (t : Table) (ok : Proper t) (n i : ℕ) (f : Open) (fs : List Open) (m : InFunction t n i f fs) where
@@ -63,10 +57,10 @@ module _ (t : Table) (ok : Proper t) (n i : ℕ) (f : Open) (fs : List Open) (m 
   own-region = own-bound t ok i in-rows (m .open-is)
 
   pub own-value : valueIn t i (f ∷ fs) + 2 < 65536
-  own-value = value-word t ok (f .region) i region-low in-rows
+  own-value = omega (arith, word-of t ok (f .region) i region-low in-rows)
 
   opener-value : openerValue t (f ∷ fs) + 2 < 65536
-  opener-value = value-word t ok (regionOf fs) (f .opener) around-low (omega (arith, all-held .0 .before, m .within))
+  opener-value = omega (arith, word-of t ok (regionOf fs) (f .opener) around-low (omega (arith, all-held .0 .before, m .within)))
 
   -- the lines that follow
   pub line-two : (k : Kind) → kindAt t i ≡ k → 1 < lineCount k → LineIn (harden t) n (suc (lineOf t i + 0))
@@ -110,9 +104,8 @@ module _ (t : Table) (ok : Proper t) (n i : ℕ) (f : Open) (fs : List Open) (m 
       c = (subst (Chain (regions t i)) (m .open-is) (chain t i)) .0
 
       w : value t (l .next .region) (l .it .opener) + 2 < 65536
-      w =
-          value-word t ok (l .next .region) (l .it .opener) (omega (arith, l .next-below, l .not-above, region-low))
-          (omega (arith, l .holds .before, in-rows))
+      w = omega
+          (arith, word-of t ok (l .next .region) (l .it .opener) (omega (arith, l .next-below, l .not-above, region-low)) (omega (arith, l .holds .before, in-rows)))
 
   -- ---- rows that test
   pub test-fits : (b : Bool) (p : Part) (k : Kind) → kindAt t i ≡ k → isEnd k ≡ false → lineCount k ≡ 1 → shapeOf k ≡ pushes p → (b ≡ true → hasElse t i ≡ true)
@@ -125,8 +118,8 @@ module _ (t : Table) (ok : Proper t) (n i : ℕ) (f : Open) (fs : List Open) (m 
     else-bound t ok i (m .within) (u refl) (m .open-is),
     omega (arith, own-value),
     omega (arith, own-value),
-    base-word t ok i in-rows,
-    base-word t ok (elseOf t i) (omega (arith, l)),
+    word-base t ok i in-rows,
+    word-base t ok (elseOf t i) (omega (arith, l)),
     line-after k 0 e h c,
     first-in t ok (move-to t ok m (suc (elseOf t i)) l (a .open-after ∙ ap (λ x. record { part = a .part; opener = i; region = regions t (elseOf t i) } ∷ x) (m .open-is)) refl),
   )
@@ -143,7 +136,7 @@ module _ (t : Table) (ok : Proper t) (n i : ℕ) (f : Open) (fs : List Open) (m 
     own-region,
     omega (arith, own-value),
     omega (arith, own-value),
-    base-word t ok i in-rows,
+    word-base t ok i in-rows,
     omega (arith, own-value),
     line-after k 0 e h c,
     past-end i p f fs (m .within) (ap shapeOf e ∙ s) (m .open-is) refl,
@@ -155,7 +148,7 @@ module _ (t : Table) (ok : Proper t) (n i : ℕ) (f : Open) (fs : List Open) (m 
     own-region,
     omega (arith, own-value),
     omega (arith, own-value),
-    base-word t ok (functionRow t c) (omega (arith, a .within)),
+    word-base t ok (functionRow t c) (omega (arith, a .within)),
     subst (λ x. LineIn (harden t) x (lineOf t (suc (functionRow t c)))) (sym (callee t ok c l)) (first-in t ok (entry t ok c l)),
     ap (startOf (harden t)) (callee t ok c l) ∙ start-is t ok c l ∙ sym (line-suc t (functionRow t c) (a .kind-is) ∙ add-zero _),
     line-two Call e (omega arith),

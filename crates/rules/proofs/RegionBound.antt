@@ -115,7 +115,7 @@ functions-bound t ok (suc i) h = by (isFunction (kindAt t i)) (ok .rows i h .few
     by false e l = l
 
 -- ---- the loop around a break or a continue
-is-loop-body : (p : Part) → isLoopBody p ≡ true → p ≡ loopBody
+pub is-loop-body : (p : Part) → isLoopBody p ≡ true → p ≡ loopBody
 is-loop-body body e = cc
 is-loop-body thenPart e = cc
 is-loop-body elsePart e = cc

@@ -2,6 +2,7 @@
 -- Assumes nothing.
 use mathlib.Core.Logic.{_≢_}
 use mathlib.Core.Path.{_≡_, refl, ap, _∙_}
+use mathlib.Core.Bool.{true}
 use mathlib.Core.List.{List, [], _∷_}
 use Prim.Native.Nat.{ℕ, zero, suc, _≤_, _<_}
 use native.Mathlib.Nat.{le-refl}
@@ -11,6 +12,8 @@ use Rattle.rules.specs.declared.kind.Kind.{Kind}
 use Rattle.rules.specs.declared.kind.Kind.the-variants.{Function, Do, If, Else, Loop, End, Break, Continue, Call, Unknown}
 use Rattle.rules.specs.Row.{Table, kindAt}
 use Rattle.rules.specs.Scan.{Part, body, thenPart, elsePart, loopBody, Open, Shape, pushes, turns, closes, stays, shapeOf, turned, regionsAfter, openAfter, regions, openAt, bodyRegion}
+use Rattle.rules.specs.Links.{isOpening}
+use Rattle.rules.proofs.Logic.{clash}
 
 -- ---- the regions of the open parts fall, and all are below b
 abbrev pub Chain : ℕ → List Open → Type 0
@@ -136,3 +139,16 @@ pushes-origin Break p e = cc
 pushes-origin Continue p e = cc
 pushes-origin Call p e = cc
 pushes-origin Unknown p e = cc
+
+-- ---- a row that opens something pushes a part
+pub opening-pushes : (k : Kind) → isOpening k ≡ true → (p : Part) × (shapeOf k ≡ pushes p)
+opening-pushes Function e = (body, refl)
+opening-pushes Do e = clash e refl
+opening-pushes If e = (thenPart, refl)
+opening-pushes Else e = clash e refl
+opening-pushes Loop e = (loopBody, refl)
+opening-pushes End e = clash e refl
+opening-pushes Break e = clash e refl
+opening-pushes Continue e = clash e refl
+opening-pushes Call e = clash e refl
+opening-pushes Unknown e = clash e refl

@@ -16,6 +16,7 @@ use Rattle.rules.specs.ReadBack.{sourceBytes, isHardened}
 use Rattle.rules.specs.Reading.{OnlySource}
 use Rattle.rules.specs.Calls.{Writing, writing, shortOutput, notHardened, hardenCall, checkHardenedCall, readBackCall}
 use Rattle.rules.specs.TablePromise.{front, HardenPromise, CheckHardenedPromise, ReadBackPromise}
+use Rattle.rules.proofs.Accepted.{then-left}
 use Rattle.rules.proofs.Calls.{accepted-of, check-hardened, read-back-refused, read-back-accepted, read-back-number, write-fits}
 use Rattle.rules.proofs.Reading.{reads-back, source-hardened, ten-exactly, only-source}
 
@@ -31,10 +32,6 @@ front-of v answer out e =
     ap (λ x. front (writing x answer out)) e ∙ take-append-seam answer (drop (length answer) out)
 
 -- both of two are accepted
-first-of : (v w : Verdict) → andThen v w ≡ Accepted → v ≡ Accepted
-first-of Accepted w e = refl
-first-of (Refused r) w e = e
-
 -- ---- harden
 module _ (rows out : List ℕ) where
   hardening : Verdict
@@ -64,7 +61,7 @@ harden-promise rows out x w e =
       read-again = λ z held h.
           let ok = hardens rows out (sym (ap (λ y. y .wrote .number) e) ∙ z) in
           ap (λ ls. readBackCall ls held) (ap front e ∙ wrote-lines rows out ok)
-          ∙ read-whole rows held w (first-of (verdictOf rows) (shortOutput (hardenedBytes rows) out) ok) h;
+          ∙ read-whole rows held w (then-left (verdictOf rows) (shortOutput (hardenedBytes rows) out) ok) h;
     }
 
 -- ---- check_hardened

@@ -1,4 +1,5 @@
 // What a public call answers beside the buffers that it was lent.
+use crate::limits::VARIABLES;
 
 // A call that writes a table: the number of 01 and the length of the answer in bytes.
 #[repr(C)]
@@ -14,7 +15,7 @@ pub struct Ran {
     pub outcome: u8,
     pub steps: u16,
     pub traced: u16,
-    pub variables: [u16; 16],
+    pub variables: [u16; VARIABLES],
 }
 
 // A table's fault: the number of 01, and the row that it is about; for the end of the table, the number of rows.

@@ -17,13 +17,13 @@ use Rattle.rules.specs.Check.{isOutside, misplacedIn, verdictOf}
 use Rattle.rules.specs.Links.{isOpening}
 use Rattle.rules.specs.Source.{falseRow}
 use Rattle.rules.proofs.Logic.{clash}
-use Rattle.rules.proofs.Scan.{open-next}
+use Rattle.rules.proofs.Scan.{open-next, opening-pushes}
 use Rattle.rules.proofs.Value.{held}
 use Rattle.rules.proofs.Accepted.{Proper, proper, table-length}
 use Rattle.rules.proofs.Close.{end-is, closed-is, else-is}
 use Rattle.rules.proofs.Function.{Formed, formed, isBody, placed-in, callee-known, entry, some-function, function-zero}
 use Rattle.layout.specs.Spot.{Inside}
-use Rattle.layout.proofs.Around.{opening-pushes, pushes-opening, outer, opened-by, not-outermost, loop-at}
+use Rattle.layout.proofs.Around.{pushes-opening, outer, opened-by, not-outermost, loop-at}
 use Rattle.layout.proofs.Parts.{then-within}
 
 -- a part that is no body lies in another

@@ -8,8 +8,7 @@ use lib.ListN.{length, take, drop, take-append-drop}
 use lib.Seq.{length-take-le}
 use Rattle.rules.specs.declared.answer.Ran.{Ran}
 use Rattle.rules.specs.declared.refusal.Verdict.the-variants.{Accepted}
-use Rattle.rules.specs.declared.step.Step.{Step}
-use Rattle.rules.specs.declared.step.Step.the-variants.{Went, Finished, Alarm, TooManyOpen, Beyond}
+use Rattle.rules.specs.declared.step.Step.the-variants.{Went}
 use Rattle.rules.specs.Row.{Table, tableOf}
 use Rattle.rules.specs.Check.{verdictOf}
 use Rattle.rules.specs.Run.{on, ends, outcomeOf, run}
@@ -21,7 +20,7 @@ use Rattle.state.specs.declared.machine.Machine.{Machine}
 use Rattle.state.specs.declared.machine.Stopped.{Stopped}
 use Rattle.state.specs.Machine.{stoppedAt, registersAt, onward, firstRegisters, begunAt, ranOf}
 use Rattle.state.proofs.Begun.{begins}
-use Rattle.state.proofs.Ends.{IsEnd}
+use Rattle.state.proofs.Ends.{IsEnd, onward-end}
 use Rattle.source.specs.Goes.{Known}
 use Rattle.source.specs.Step.{CanStep, Parts, After, stepOf, partsOf}
 use Rattle.source.specs.Run.{partsIn, stoppedWith, partsAt, stateOf, turnOf, answerOf, runFrom, Going, Kept, Ended, ranWith}
@@ -29,13 +28,6 @@ use Rattle.source.proofs.Rows.{first-inside}
 use Rattle.source.proofs.Steps.{Steps, steps}
 
 -- ---- a run by what its first step answers
-onward-end : {A : Type 0} (o : Step) → IsEnd o → (f : ℕ → A) (z : A) → onward o f z ≡ z
-onward-end (Went k) n f z = absurd (n k refl)
-onward-end Finished n f z = refl
-onward-end Alarm n f z = refl
-onward-end (TooManyOpen k) n f z = refl
-onward-end (Beyond k) n f z = refl
-
 run-none : (t : Table) (b : ℕ) (p : Parts) → b ≤ 0 → runFrom t b p ≡ answerOf (record { step = Went (p .registers .at); parts = p })
 unfolding run
 run-none t zero p h = refl
@@ -53,8 +45,8 @@ run-went t p (suc b) h a e i z =
     ∙ ap (λ c. run (λ k s. sourceStep t s) (suc b - 1) c (stateOf (partsAt (a .parts) i 0))) (sym (add-one (p .registers .steps)))
 
 -- a step that ends a run is counted too
-abbrev countedHot : Parts → After → Registers
-countedHot p a = registersAt (a .parts .registers) (a .parts .registers .at) (p .registers .steps + 1)
+abbrev countedRegisters : Parts → After → Registers
+countedRegisters p a = registersAt (a .parts .registers) (a .parts .registers .at) (p .registers .steps + 1)
 
 abbrev counted : Parts → After → After
 counted p a = record { step = a .step; parts = partsAt (a .parts) (a .parts .registers .at) (p .registers .steps + 1) }
@@ -124,13 +116,13 @@ module _ {bs goes : List ℕ} (k : Known bs goes) {budget left : ℕ} {start p :
         }
 
     -- the same with the numbers made anew
-    pub run-on : (i : ℕ) → a .step ≡ Went i → (n : Registers) → n ≡ countedHot p a
+    pub run-on : (i : ℕ) → a .step ≡ Went i → (n : Registers) → n ≡ countedRegisters p a
         → Running bs budget start (left - 1) (partsOf n (a .parts .resumes) (a .parts .functions) (a .parts .vars) (a .parts .slots))
     run-on i z n q =
         subst (λ y. Running bs budget start (left - 1) (partsOf y (a .parts .resumes) (a .parts .functions) (a .parts .vars) (a .parts .slots)))
         (sym (q ∙ ap (λ k. registersAt (a .parts .registers) k (p .registers .steps + 1)) (step-is .stands i z))) (run-again i z)
 
-    pub run-ends : IsEnd (a .step) → (x : Stopped) → x ≡ stoppedAt (a .step) (a .parts .resumes) (a .parts .functions) (a .parts .vars) (countedHot p a)
+    pub run-ends : IsEnd (a .step) → (x : Stopped) → x ≡ stoppedAt (a .step) (a .parts .resumes) (a .parts .functions) (a .parts .vars) (countedRegisters p a)
         → Ended bs budget start (stoppedWith x (a .parts .slots))
     run-ends n x q =
         subst (λ y. Ended bs budget start (stoppedWith y (a .parts .slots))) (sym q)
@@ -144,7 +136,7 @@ module _ {bs goes : List ℕ} (k : Known bs goes) {budget left : ℕ} {start p :
           goes-on = λ more k g z. absurd (n k z);
         })
 
-    pub run-ends-with : IsEnd (a .step) → (n : Registers) → n ≡ countedHot p a → (x : Stopped)
+    pub run-ends-with : IsEnd (a .step) → (n : Registers) → n ≡ countedRegisters p a → (x : Stopped)
         → x ≡ stoppedAt (a .step) (a .parts .resumes) (a .parts .functions) (a .parts .vars) n
         → Ended bs budget start (stoppedWith x (a .parts .slots))
     run-ends-with e n m x q = run-ends e x (q ∙ ap (stoppedAt (a .step) (a .parts .resumes) (a .parts .functions) (a .parts .vars)) m)

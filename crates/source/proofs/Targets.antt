@@ -26,7 +26,7 @@ use Rattle.rules.proofs.Function.{formed, isBody}
 use Rattle.layout.specs.Scope.{Surveyed}
 use Rattle.layout.specs.Spot.{Inside, Opens, inBody, isLoop, OpenerIs, LoopIs, CalleeIs, Ends, Elses}
 use Rattle.layout.proofs.Scopes.{few-rows}
-use Rattle.layout.proofs.Around.{opening-pushes}
+use Rattle.rules.proofs.Scan.{opening-pushes}
 use Rattle.layout.proofs.Parts.{no-else, an-else, body-part, not-body, part-not-body, part-loop}
 use Rattle.source.specs.Goes.{endGoes, goesBy, goOf, Known}
 

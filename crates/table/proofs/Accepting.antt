@@ -8,18 +8,17 @@ use native.Mathlib.Decide.{decLt}
 use lib.Dec.{ltb}
 use lib.ListN.{length, getD}
 use borrow.Author.Tests.{ne-eqb, lt-ltb, le-ltb}
-use Rattle.rules.specs.declared.kind.Kind.{Kind}
-use Rattle.rules.specs.declared.kind.Kind.the-variants.{Function, Do, If, Else, Loop, End, Break, Continue, Call, Unknown}
+use Rattle.rules.specs.declared.kind.Kind.the-variants.{If}
 use Rattle.rules.specs.declared.refusal.Refusal.{Refusal}
 use Rattle.rules.specs.declared.refusal.Refusal.the-variants.{NoWholeRows, TooManyRows}
 use Rattle.rules.specs.declared.refusal.Verdict.{Verdict}
 use Rattle.rules.specs.declared.refusal.Verdict.the-variants.{Accepted, Refused}
 use Rattle.rules.specs.Row.{Table, tableOf, kindAt}
-use Rattle.rules.specs.Scan.{Part, body, thenPart, loopBody, pushes, shapeOf, isElseOf, elseOf, endOf, functionCount}
+use Rattle.rules.specs.Scan.{isElseOf, elseOf, endOf, functionCount}
 use Rattle.rules.specs.Check.{tableVerdict, callsVerdict, verdictOf}
 use Rattle.rules.specs.Links.{isOpening, elseLink, Links, Checked}
-use Rattle.rules.proofs.Logic.{clash}
 use Rattle.rules.proofs.Search.{Found, hit, miss, found}
+use Rattle.rules.proofs.Scan.{opening-pushes}
 use Rattle.rules.proofs.Accepted.{Proper, proper, refused-not}
 use Rattle.rules.proofs.Close.{end-is}
 use Rattle.walk.specs.Standing.{Linked}
@@ -30,22 +29,10 @@ use Rattle.walk.proofs.Once.{else-below}
 use Rattle.walk.proofs.Verdicts.{none-open}
 
 -- ---- the links of an accepted table
-opened-by : (k : Kind) → isOpening k ≡ true → (p : Part) × (shapeOf k ≡ pushes p)
-opened-by Function e = (body, refl)
-opened-by Do e = clash e refl
-opened-by If e = (thenPart, refl)
-opened-by Else e = clash e refl
-opened-by Loop e = (loopBody, refl)
-opened-by End e = clash e refl
-opened-by Break e = clash e refl
-opened-by Continue e = clash e refl
-opened-by Call e = clash e refl
-opened-by Unknown e = clash e refl
-
 module _ (t : Table) {e l : List ℕ} (w : Linked t (length t) e l) where
   ends-link : Proper t → (i : ℕ) → i < length t → isOpening (kindAt t i) ≡ true → getD e i 0 ≡ endOf t i
   ends-link ok i h o =
-      let s = opened-by (kindAt t i) o in
+      let s = opening-pushes (kindAt t i) o in
       let x = end-is t i (s .0) ok h (s .1) in
       w .ended i (endOf t i) (x .inside) (x .ends)
 

@@ -23,7 +23,7 @@ use Rattle.rules.specs.Check.{misplacedIn, oneTooMany}
 use Rattle.rules.proofs.Logic.{clash}
 use Rattle.rules.proofs.Search.{first-is}
 use Rattle.rules.proofs.Scan.{open-next, regions-next}
-use Rattle.rules.proofs.Function.{functions-mono}
+use Rattle.rules.proofs.Function.{is-function, functions-mono}
 use Rattle.rows.specs.First.{firstKind}
 use Rattle.walk.specs.Standing.{Inside}
 use Rattle.table.specs.Outside.{Headed, Outside}
@@ -187,18 +187,6 @@ module _ {xs : List ℕ} {base n : ℕ} {e l a : List ℕ} (long : 5 < length xs
       })
 
 -- what the test of the kind says
-is-function : (k : Kind) → isFunction k ≡ true → k ≡ Function
-is-function Function e = refl
-is-function Do e = cc
-is-function If e = cc
-is-function Else e = cc
-is-function Loop e = cc
-is-function End e = cc
-is-function Break e = cc
-is-function Continue e = cc
-is-function Call e = cc
-is-function Unknown e = cc
-
 pub function-at : (xs : List ℕ) (k : Kind) (f : Bool) → k ≡ firstKind xs → f ≡ isFunction k → f ≡ true → firstKind xs ≡ Function
 function-at xs k f p q m = sym p ∙ is-function k (sym q ∙ m)
 

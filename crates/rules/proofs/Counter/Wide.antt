@@ -23,7 +23,8 @@ use Rattle.rules.proofs.Parts.{holding, body-below}
 use Rattle.rules.proofs.Counter.Counters.{counterOf, counters, at-region}
 use Rattle.rules.proofs.Counter.Unique.{unique}
 use Rattle.rules.proofs.Guard.{checksAt, checksFor, phaseOf, Guards}
-use Rattle.rules.proofs.Form.Where.{Between, not-same, not-over-do, From, at-guard, before-do, Stands}
+use Rattle.rules.proofs.Between.{Between, not-same, not-over-do}
+use Rattle.rules.proofs.Form.Where.{From, at-guard, before-do, Stands}
 
 -- the guard that the run stands before, or will after its do, is not across a guard
 pub own-guard : (t : Table) (i j k k′ ph e ph′ d : ℕ) → j < length t → i ≡ j → e ≡ d → k ≡ lineOf t i + ph → k′ ≡ lineOf t j + ph′ → From t i ph e → ph′ ≡ phaseOf (kindAt t j) d → Between (harden t) k k′ → ⊥

@@ -34,7 +34,8 @@ use Rattle.rules.proofs.Form.Relation.{Back, waiting, lineBacks, hard, 
 use Rattle.rules.proofs.Guard.{Sort, a-do, a-guard, sort}
 use Rattle.rules.proofs.Form.Struck.{landedAt, Caught, at-once, one-later}
 use Rattle.rules.proofs.Form.Strict.{Strict}
-use Rattle.rules.proofs.Form.Where.{Between, up, down, between, Stands, stands}
+use Rattle.rules.proofs.Between.{Between, up, down, between}
+use Rattle.rules.proofs.Form.Where.{Stands, stands}
 
 -- ---- a guard whose check fails
 check-fails : {H : Type 0} (F : Form H) (ls : List Line) (ℓ : Line) (n k : ℕ) (c : H) (rest : List (Frame H)) (l : H) (vs tr : List ℕ) → isGuard ℓ ≡ true

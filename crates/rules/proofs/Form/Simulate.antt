@@ -25,7 +25,7 @@ use Rattle.rules.specs.Match.{isQuiet, quietAt}
 use Rattle.rules.proofs.Logic.{clash}
 use Rattle.rules.proofs.Accepted.{Proper}
 use Rattle.rules.proofs.Value.{Silent, a-function, fresh-value}
-use Rattle.rules.proofs.Harden.{line-at}
+use Rattle.rules.proofs.Harden.{line-at, some-line}
 use Rattle.rules.proofs.Function.{InFunction, entry, formed-here, placed-in, not-silent, not-unknown, function-zero, row-zero, some-function}
 use Rattle.rules.proofs.Place.{before-finish}
 use Rattle.rules.proofs.Form.Settles.{Settles, bodyPart}
@@ -78,18 +78,6 @@ first-loud t i f fs Break = refl
 first-loud t i f fs Continue = refl
 first-loud t i f fs Call = refl
 first-loud t i f fs Unknown = refl
-
-pub some-line : (k : Kind) → (Silent k → ⊥) → 0 < lineCount k
-some-line Function s = absurd (s a-function)
-some-line Do s = omega arith
-some-line If s = omega arith
-some-line Else s = omega arith
-some-line Loop s = omega arith
-some-line End s = omega arith
-some-line Break s = omega arith
-some-line Continue s = omega arith
-some-line Call s = omega arith
-some-line Unknown s = absurd (s Rattle.rules.proofs.Value.no-kind)
 
 quiet-at : (t : Table) → Proper t → {H : Type 0} {F : Form H} (S : Settles t F) → {n i : ℕ} {f : Open} {fs : List Open} → InFunction t n i f fs → (k ph : ℕ) → k ≡ lineOf t i + ph → ph < lineCount (kindAt t i)
     → (c : H) (rest : List (Frame H)) (l : H) (vs tr : List ℕ) → quietAt (harden t) (hard n k c rest l vs tr) ≡ isQuiet (lineAt (rowLines t i (f ∷ fs) (kindAt t i)) ph)

@@ -13,7 +13,8 @@ use Rattle.rules.specs.Function.{startOf, finishOf}
 use Rattle.rules.specs.Form.{Form}
 use Rattle.rules.proofs.Function.{InFunction}
 use Rattle.rules.proofs.Form.Settles.{Settles}
-use Rattle.rules.proofs.Form.Where.{Between, Stands}
+use Rattle.rules.proofs.Between.{Between}
+use Rattle.rules.proofs.Form.Where.{Stands}
 
 -- The run stands before line k of function n, so that it keeps `S .at k (f ∷ fs) w`.
 pub record Strict {H : Type 0} {t : Table} {F : Form H} (S : Settles t F) : Type 0 where
