@@ -33,7 +33,7 @@ pub struct Ran {
     pub variables: Variables,
 }
 
-/// 0, or the number 1 to 7 that turns the table away.
+/// 0, or the number 1 to 7 or 11 that turns the table away.
 pub fn check(rows: &[u8]) -> u8 {
     match table::parse(rows) {
         Ok(_) => 0,
@@ -41,7 +41,7 @@ pub fn check(rows: &[u8]) -> u8 {
     }
 }
 
-/// Writes the hardened lines of a table: 1 to 7, then 8.
+/// Writes the hardened lines of a table: 1 to 7 or 11, then 8.
 pub fn harden(rows: &[u8], out: &mut [u8]) -> Written {
     let lines = table::parse(rows).map(|table| line::to_bytes(&hardening::lines(&table)));
     write(lines, out)
@@ -74,7 +74,7 @@ fn turned_away(refusal: Refusal, variables: &Variables) -> Ran {
     Ran { number: refusal.number(), outcome: 0, steps: 0, traced: 0, variables }
 }
 
-/// Runs a source table: 1 to 7, then 9.
+/// Runs a source table: 1 to 7 or 11, then 9.
 pub fn run_source(rows: &[u8], variables: &Variables, budget: u16, slots: &mut [u16]) -> Ran {
     let table = match table::parse(rows) {
         Ok(table) => table,

@@ -4,15 +4,22 @@
 use crate::harden;
 use crate::limits;
 use crate::line::{self, Line, LINE_BYTES};
-use crate::make;
+use crate::make::{self, bytes_of};
 use crate::random::Random;
-use crate::row;
+use crate::row::{self, ROW_BYTES};
+use crate::switch_limits;
 use crate::table::{self, Limits};
 
 /// The hardened bytes of an accepted table.
 pub fn hardened(rows: &[u8]) -> Vec<u8> {
     let table = table::parse(rows).expect("an accepted table");
     line::to_bytes(&harden::lines(&table))
+}
+
+/// The bytes that the hardened bytes of an accepted table are read back as: its
+/// rows, a switch written as its chain.
+pub fn read_back_length(rows: &[u8]) -> usize {
+    ROW_BYTES * table::parse(rows).expect("an accepted table").rows
 }
 
 /// What the lines of a table would be if 01 had larger limits.
@@ -32,6 +39,8 @@ pub fn beyond_limits() -> Vec<Vec<u8>> {
         limits::regions(65, row::IF),
         limits::regions_with_else(65),
         limits::rows(1025),
+        switch_limits::one_switch(17),
+        bytes_of(&switch_limits::chain(1025)),
     ];
     tables.iter().map(|rows| hardened_beyond_limits(rows)).collect()
 }

@@ -6,7 +6,7 @@ use crate::random::Random;
 use crate::row::{self, Row, ROW_BYTES};
 use crate::scene::{
     any_parts, bad_call, between_functions, cut_end, open_regions, parts_without_loop, right_row,
-    scene, small_functions, small_rows, wrong_row, Part,
+    scene, small_functions, small_rows, wrong_row, Part, OF_SWITCH,
 };
 
 pub fn outside(rng: &mut Random) -> Faulty {
@@ -28,13 +28,14 @@ pub fn nested_function(rng: &mut Random) -> Faulty {
     (bytes_of(&scene(rng, &parts, &rows)), 4)
 }
 
-/// In the body, in a loop body, or in an else part.
+/// In the body, in a loop body, in an else part, or in a part of a switch.
 pub fn stray_else(rng: &mut Random) -> Faulty {
     let mut parts = any_parts(rng, 5);
-    match rng.below(3) {
+    match rng.below(4) {
         0 => parts.clear(),
         1 => parts.push(Part::Loop),
-        _ => parts.push(Part::Else),
+        2 => parts.push(Part::Else),
+        _ => parts.push(rng.pick(OF_SWITCH)),
     }
     (bytes_of(&scene(rng, &parts, &[Row::plain(row::ELSE)])), 4)
 }

@@ -22,7 +22,7 @@ impl Wrong {
     }
 }
 
-/// The first wrong field of a row whose kind is one of 01's.
+/// The first wrong field of a row whose kind is one of 01's or a switch's.
 pub fn first_wrong(row: Row) -> Option<Wrong> {
     let values = [u16::from(row.op), u16::from(row.p), u16::from(row.q), row.n];
     let fields = ["op", "p", "q", "n"].into_iter().zip(values).zip(most(row));
@@ -40,7 +40,8 @@ fn most(row: Row) -> [u16; 4] {
         (row::DO, _) => [3, VARIABLE, VARIABLE, 0],
         (row::IF | row::LOOP, 0 | 1) => [2, VARIABLE, 0, ANY],
         (row::IF | row::LOOP, _) => [2, VARIABLE, VARIABLE, 0],
-        (row::CALL, _) => [0, 0, 0, ANY],
+        (row::CALL | row::CASE, _) => [0, 0, 0, ANY],
+        (row::SWITCH, _) => [0, VARIABLE, 0, 0],
         _ => [0, 0, 0, 0],
     }
 }

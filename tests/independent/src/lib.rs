@@ -1,14 +1,18 @@
-//! Document 01 a second time, written from the document alone, to test another
-//! implementation against. See README.md.
+//! Document 01, with the switch of 02, a second time, written from the documents
+//! alone, to test another implementation against. See README.md.
 
+pub mod around;
 pub mod calls;
+pub mod chain;
 pub mod damage;
 pub mod explain;
 pub mod fault;
 pub mod faults;
+pub mod faults_bands;
 pub mod faults_limits;
 pub mod faults_places;
 pub mod faults_rows;
+pub mod faults_switch;
 pub mod field;
 pub mod harden;
 pub mod hardened_run;
@@ -18,6 +22,7 @@ pub mod line;
 pub mod machine;
 pub mod make;
 pub mod malformed_texts;
+pub mod parse;
 pub mod printed;
 pub mod program;
 pub mod programs;
@@ -38,10 +43,14 @@ pub mod run_trace_cases;
 pub mod run_word_cases;
 pub mod run_words;
 pub mod scene;
+pub mod shape;
 pub mod source_run;
+pub mod switch_limits;
+pub mod switch_places;
 pub mod table;
 pub mod text;
 pub mod texts;
 pub mod usage;
+pub mod written;
 
 pub use calls::{check, harden, read_back, run_hardened, run_source, Ran, Written};

@@ -4,6 +4,7 @@
 
 use crate::make::bytes_of;
 use crate::row::{self, Row};
+use crate::switch_limits;
 
 /// The input of 01's "A table and its listing".
 pub fn worked_listing() -> Vec<u8> {
@@ -61,7 +62,7 @@ fn piece(number: u16) -> Vec<Row> {
 }
 
 /// A do row that depends on a number.
-fn some_do(i: usize) -> Row {
+pub fn some_do(i: usize) -> Row {
     let byte = |i: usize| u8::try_from(i % 16).expect("below 16");
     match i % 4 {
         0 => Row { kind: row::DO, op: 0, p: byte(i / 4), q: 0, n: 65_535 - (i as u16) },
@@ -155,9 +156,15 @@ pub fn endless(dos: usize) -> Vec<u8> {
     bytes_of(&rows)
 }
 
-/// Every limit table that `check` and `harden` meet, with the number that 01
+/// Every limit table that `check` and `harden` meet, with the number that 01 or 02
 /// gives it.
 pub fn all() -> Vec<(Vec<u8>, u8)> {
+    let mut tables = of_01();
+    tables.extend(switch_limits::all());
+    tables
+}
+
+fn of_01() -> Vec<(Vec<u8>, u8)> {
     let mixed = [row::IF, row::LOOP];
     vec![
         (functions(32), 0),

@@ -2,47 +2,8 @@
 
 use crate::random::Random;
 use crate::row::{self, Row};
+use crate::shape::{Shape, BANDS, BRANCHY, CALLING, HOLLOW, HOLLOW_BANDS, LOOPY, MIXED, SWITCHY};
 use crate::table::LIMITS;
-
-/// How often each statement is chosen.
-#[derive(Clone, Copy, Debug)]
-pub struct Weights {
-    pub dos: usize,
-    pub ifs: usize,
-    pub elses: usize,
-    pub loops: usize,
-    pub breaks: usize,
-    pub continues: usize,
-    pub calls: usize,
-}
-
-/// What a random table looks like.
-#[derive(Clone, Copy, Debug)]
-pub struct Shape {
-    /// rows of the table; at least two for each function
-    pub rows: usize,
-    pub functions: usize,
-    /// ifs and loops open, at most
-    pub depth: usize,
-    /// in percent: how often a part takes nearly all the room there is
-    pub eager: usize,
-    pub weights: Weights,
-}
-
-/// A few of everything.
-pub const MIXED: Weights =
-    Weights { dos: 6, ifs: 2, elses: 2, loops: 2, breaks: 1, continues: 1, calls: 2 };
-/// Dos only: opens no region.
-pub const PLAIN: Weights =
-    Weights { dos: 1, ifs: 0, elses: 0, loops: 0, breaks: 0, continues: 0, calls: 0 };
-const BRANCHY: Weights =
-    Weights { dos: 1, ifs: 4, elses: 5, loops: 2, breaks: 1, continues: 1, calls: 1 };
-const LOOPY: Weights =
-    Weights { dos: 3, ifs: 1, elses: 1, loops: 5, breaks: 3, continues: 3, calls: 0 };
-const CALLING: Weights =
-    Weights { dos: 3, ifs: 1, elses: 1, loops: 1, breaks: 1, continues: 1, calls: 8 };
-const HOLLOW: Weights =
-    Weights { dos: 0, ifs: 3, elses: 4, loops: 3, breaks: 1, continues: 1, calls: 0 };
 
 /// The bytes of rows.
 pub fn bytes_of(rows: &[Row]) -> Vec<u8> {
@@ -69,7 +30,7 @@ fn deep(rng: &mut Random) -> Vec<u8> {
         functions: rng.between(1, 2),
         depth: rng.pick(&[9, 15, 16, 16, 16]),
         eager: 97,
-        weights: rng.pick(&[BRANCHY, HOLLOW]),
+        weights: rng.pick(&[BRANCHY, HOLLOW, HOLLOW_BANDS]),
     };
     table(rng, shape)
 }
@@ -81,12 +42,13 @@ fn many_regions(rng: &mut Random) -> Vec<u8> {
         functions: 1,
         depth: rng.pick(&[2, 5, 16]),
         eager: 20,
-        weights: rng.pick(&[BRANCHY, HOLLOW]),
+        weights: rng.pick(&[BRANCHY, HOLLOW, BANDS]),
     };
     table(rng, shape)
 }
 
-/// A random accepted table of so many rows (at least 2).
+/// A random accepted table of so many rows (at least 2); about a third of them
+/// have a switch.
 pub fn table_of(rng: &mut Random, rows: usize) -> Vec<u8> {
     let most = (rows / 2).min(LIMITS.functions);
     let functions = match rng.below(20) {
@@ -99,7 +61,18 @@ pub fn table_of(rng: &mut Random, rows: usize) -> Vec<u8> {
         functions,
         depth: rng.pick(&[1, 2, 4, 16, 16, 16]),
         eager: rng.pick(&[0, 0, 30, 90]),
-        weights: rng.pick(&[MIXED, MIXED, BRANCHY, LOOPY, CALLING, HOLLOW]),
+        weights: rng.pick(&[
+            MIXED,
+            MIXED,
+            BRANCHY,
+            LOOPY,
+            CALLING,
+            HOLLOW,
+            SWITCHY,
+            SWITCHY,
+            BANDS,
+            HOLLOW_BANDS,
+        ]),
     };
     table(rng, shape)
 }
@@ -124,12 +97,14 @@ pub struct Maker<'a> {
     shape: Shape,
     /// opened so far in this function
     regions: usize,
+    /// rows that the chain of ifs may have beyond those as given
+    spare: usize,
 }
 
 /// Where a block stands.
 #[derive(Clone, Copy, Debug)]
 pub struct Spot {
-    /// ifs and loops open
+    /// ifs and loops open, cases among them
     pub open: usize,
     pub in_loop: bool,
 }
@@ -147,11 +122,13 @@ enum Choice {
     Break,
     Continue,
     Call,
+    Switch,
 }
 
 impl<'a> Maker<'a> {
     pub fn new(rng: &'a mut Random, shape: Shape) -> Maker<'a> {
-        Maker { rng, rows: Vec::new(), shape, regions: 0 }
+        let spare = LIMITS.rows.saturating_sub(shape.rows);
+        Maker { rng, rows: Vec::new(), shape, regions: 0, spare }
     }
 
     /// Some of the rows left, for one of several functions.
@@ -196,6 +173,7 @@ impl<'a> Maker<'a> {
             Choice::Break if spot.in_loop => self.plain(row::BREAK),
             Choice::Continue if spot.in_loop => self.plain(row::CONTINUE),
             Choice::Call => self.call_row(),
+            Choice::Switch if room >= 2 => self.switch(room - 2, spot),
             _ => self.do_row(),
         }
     }
@@ -210,6 +188,7 @@ impl<'a> Maker<'a> {
             (Choice::Break, w.breaks),
             (Choice::Continue, w.continues),
             (Choice::Call, w.calls),
+            (Choice::Switch, w.switches),
         ];
         let mut at = self.rng.below(table.iter().map(|(_, weight)| weight).sum());
         for (choice, weight) in table {
@@ -270,6 +249,60 @@ impl<'a> Maker<'a> {
         self.plain(row::END);
     }
 
+    /// A switch with as many of some cases as there is room for; often a default,
+    /// also alone; now and then nothing in it.
+    fn switch(&mut self, room: usize, spot: Spot) {
+        let wanted = self.rng.pick(&[0, 1, 1, 2, 2, 3, 4, 6, 16]);
+        let mut left = room;
+        let mut inside = spot;
+        let mut used = Vec::new();
+        self.open_switch();
+        while used.len() < wanted && left > 0 && self.may_open_case(inside) {
+            self.open_case(&mut used);
+            inside.open += 1;
+            let fair = (left - 1) / (wanted - used.len() + 1);
+            left -= 1 + self.part(fair, inside);
+        }
+        let may_open = used.is_empty() || self.regions < LIMITS.regions;
+        if left > 0 && may_open && self.rng.percent(60) {
+            self.open_default(&used);
+            self.part(left - 1, inside);
+        }
+        self.plain(row::END);
+    }
+
+    /// A part of at most so many rows; answers how many.
+    fn part(&mut self, room: usize, spot: Spot) -> usize {
+        let inner = self.inner(room);
+        self.block(inner, spot);
+        inner
+    }
+
+    /// Two more regions, and two rows that are not given, are enough for any case.
+    fn may_open_case(&self, spot: Spot) -> bool {
+        spot.open < self.shape.depth && self.regions + 2 <= LIMITS.regions && self.spare >= 2
+    }
+
+    pub fn open_switch(&mut self) {
+        let row = switch_row(self.rng);
+        self.rows.push(row);
+    }
+
+    /// A case with a number that the switch has not used.
+    pub fn open_case(&mut self, used: &mut Vec<u16>) {
+        self.regions += if used.is_empty() { 1 } else { 2 };
+        self.spare = self.spare.saturating_sub(2);
+        let n = unused(self.rng, used);
+        used.push(n);
+        self.rows.push(case_row(n));
+    }
+
+    /// A default behind these cases.
+    pub fn open_default(&mut self, used: &[u16]) {
+        self.regions += usize::from(!used.is_empty());
+        self.plain(row::DEFAULT);
+    }
+
     fn do_row(&mut self) {
         let row = do_row(self.rng);
         self.rows.push(row);
@@ -298,6 +331,25 @@ pub fn do_row(rng: &mut Random) -> Row {
 pub fn test_row(rng: &mut Random, kind: u8) -> Row {
     let op = rng.byte() % 3;
     operands(rng, kind, op, op < 2)
+}
+
+/// A switch on some variable.
+pub fn switch_row(rng: &mut Random) -> Row {
+    Row { p: variable(rng), ..Row::plain(row::SWITCH) }
+}
+
+pub fn case_row(n: u16) -> Row {
+    Row { n, ..Row::plain(row::CASE) }
+}
+
+/// A number that is none of these.
+pub fn unused(rng: &mut Random, used: &[u16]) -> u16 {
+    loop {
+        let n = rng.value();
+        if !used.contains(&n) {
+            return n;
+        }
+    }
 }
 
 /// p and n, or p and q.

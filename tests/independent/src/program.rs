@@ -1,10 +1,12 @@
 //! Random programs that are worth running: most of their loops end, most of
-//! their calls return, and some recurse up to the limit or past it.
+//! their calls return, some recurse up to the limit or past it, and their switches
+//! are taken one way or another.
 
 use crate::machine::Variables;
 use crate::make::{self, bytes_of};
 use crate::random::Random;
 use crate::row::{self, Row};
+use crate::table::LIMITS;
 
 /// A table and the first values of a run.
 #[derive(Clone, Debug)]
@@ -30,7 +32,7 @@ pub fn program(rng: &mut Random, size: usize) -> Program {
         return Program { rows, variables: wild(rng) };
     }
     let functions = rng.pick(&[1, 1, 2, 2, 3, 4]).min(size / 3).max(1);
-    let mut writer = Writer { rng, rows: Vec::new(), functions, number: 0 };
+    let mut writer = Writer { rng, rows: Vec::new(), functions, number: 0, regions: 0 };
     for number in 0..functions {
         writer.number = number;
         writer.function(size / functions);
@@ -66,6 +68,8 @@ struct Writer<'a> {
     functions: usize,
     /// the function being written
     number: usize,
+    /// the regions that it has, and those that its open ifs and switches will have
+    regions: usize,
 }
 
 /// Where a block stands.
@@ -73,7 +77,12 @@ struct Writer<'a> {
 struct Spot {
     open: u8,
     in_loop: bool,
+    /// counts the rounds of a loop around
+    counter: Option<u8>,
 }
+
+/// Directly in a function's body.
+const BODY: Spot = Spot { open: 0, in_loop: false, counter: None };
 
 impl Writer<'_> {
     fn put(&mut self, kind: u8, op: u8, p: u8, q: u8, n: u16) {
@@ -86,7 +95,8 @@ impl Writer<'_> {
 
     fn function(&mut self, size: usize) {
         self.plain(row::FUNCTION);
-        self.block(size.saturating_sub(2), Spot { open: 0, in_loop: false });
+        self.regions = 1;
+        self.block(size.saturating_sub(2), BODY);
         self.plain(row::END);
     }
 
@@ -100,8 +110,9 @@ impl Writer<'_> {
     }
 
     fn statement(&mut self, room: usize, spot: Spot) {
-        let may_open = room >= 3 && spot.open < DEEPEST;
-        match self.rng.below(20) {
+        let has_regions = self.regions + 2 <= LIMITS.regions;
+        let may_open = room >= 3 && spot.open < DEEPEST && has_regions;
+        match self.rng.below(22) {
             0..=2 if may_open => self.conditional(room, spot),
             3..=4 if may_open => self.with_else(room, spot),
             5..=7 if may_open && spot.open < COUNTER_VARIABLES => self.counted(room, spot),
@@ -111,6 +122,7 @@ impl Writer<'_> {
             12 if self.number + 1 < self.functions => self.forward_call(),
             13 if may_open => self.recursion(),
             14 if self.rng.percent(15) => self.any_call(),
+            15..=16 if may_open => self.switch(room, spot),
             _ => self.arithmetic(),
         }
     }
@@ -154,23 +166,84 @@ impl Writer<'_> {
         }
     }
 
-    fn inside(&mut self, room: usize, spot: Spot, in_loop: bool) {
+    /// Some rows in a part of an if or loop, one deeper than the spot.
+    fn inside(&mut self, room: usize, spot: Spot) {
         let room = self.rng.between(0, room);
-        self.block(room, Spot { open: spot.open + 1, in_loop });
+        self.block(room, Spot { open: spot.open + 1, ..spot });
     }
 
     fn conditional(&mut self, room: usize, spot: Spot) {
+        self.regions += 1;
         self.test(row::IF);
-        self.inside(room - 2, spot, spot.in_loop);
+        self.inside(room - 2, spot);
         self.plain(row::END);
     }
 
     fn with_else(&mut self, room: usize, spot: Spot) {
+        self.regions += 2;
         self.test(row::IF);
-        self.inside(room - 3, spot, spot.in_loop);
+        self.inside(room - 3, spot);
         self.plain(row::ELSE);
-        self.inside(room - 3, spot, spot.in_loop);
+        self.inside(room - 3, spot);
         self.plain(row::END);
+    }
+
+    /// A switch on a variable that holds a small number, or on the counter of the
+    /// loop around, so that its rounds take different ways.
+    fn switch(&mut self, room: usize, spot: Spot) {
+        let most = (room - 2).min((LIMITS.regions - self.regions) / 2).min(6);
+        let cases = self.rng.pick(&[0, 1, 2, 3, 3, 4, 4, 6]).min(most);
+        self.regions += 2 * cases;
+        let numbers = self.case_numbers(cases);
+        let p = match spot.counter {
+            Some(counter) if self.rng.percent(75) => counter,
+            _ => self.small_variable(&numbers),
+        };
+        self.put(row::SWITCH, 0, p, 0, 0);
+        let mut spot = spot;
+        for n in numbers {
+            self.put(row::CASE, 0, 0, 0, n);
+            spot.open += 1;
+            self.arm(room / (cases + 1), spot);
+        }
+        if self.rng.percent(60) {
+            self.plain(row::DEFAULT);
+            self.arm(room / (cases + 1), spot);
+        }
+        self.plain(row::END);
+    }
+
+    /// One of v0 to v7, as it is, or set just before, often to one of these numbers.
+    fn small_variable(&mut self, numbers: &[u16]) -> u8 {
+        let p = self.rng.byte() % 8;
+        match self.rng.below(10) {
+            0..=2 => {}
+            3..=4 => {
+                let n = self.rng.word() % 5;
+                self.put(row::DO, 0, p, 0, n);
+            }
+            _ => {
+                let n = if numbers.is_empty() { 0 } else { self.rng.pick(numbers) };
+                self.put(row::DO, 0, p, 0, n);
+            }
+        }
+        p
+    }
+
+    /// So many small numbers, all different, in some order.
+    fn case_numbers(&mut self, count: usize) -> Vec<u16> {
+        let mut left: Vec<u16> = (0..5).chain([255, 65_535]).collect();
+        (0..count).map(|_| left.remove(self.rng.below(left.len().min(4)))).collect()
+    }
+
+    /// The rows of a case or a default, whose own if is open already. In a loop it
+    /// may break or continue.
+    fn arm(&mut self, room: usize, spot: Spot) {
+        let room = self.rng.between(0, room);
+        self.block(room, spot);
+        if spot.in_loop && self.rng.percent(45) {
+            self.exit();
+        }
     }
 
     /// A loop of one to four rounds. It counts down at once, so that a continue
@@ -178,17 +251,19 @@ impl Writer<'_> {
     fn counted(&mut self, room: usize, spot: Spot) {
         let counter = FIRST_COUNTER + spot.open;
         let rounds = 1 + self.rng.word() % 4;
+        self.regions += 1;
         self.put(row::DO, 0, counter, 0, rounds);
         self.put(row::LOOP, 1, counter, 0, 0);
         self.put(row::DO, 3, counter, ONE, 0);
-        self.inside(room, spot, true);
+        self.inside(room, Spot { in_loop: true, counter: Some(counter), ..spot });
         self.plain(row::END);
     }
 
     /// A loop that may never end, or never begin.
     fn free_loop(&mut self, room: usize, spot: Spot) {
+        self.regions += 1;
         self.test(row::LOOP);
-        self.inside(room - 2, spot, true);
+        self.inside(room - 2, Spot { in_loop: true, ..spot });
         if self.rng.percent(60) {
             self.exit();
         }
@@ -197,6 +272,7 @@ impl Writer<'_> {
 
     /// A break or continue under a test.
     fn guarded_exit(&mut self) {
+        self.regions += 1;
         self.test(row::IF);
         self.exit();
         self.plain(row::END);
@@ -224,6 +300,7 @@ impl Writer<'_> {
 
     /// A call of any function while there is fuel.
     fn recursion(&mut self) {
+        self.regions += 1;
         self.put(row::IF, 1, FUEL, 0, 0);
         self.put(row::DO, 3, FUEL, ONE, 0);
         self.any_call();

@@ -4,7 +4,8 @@
 //! A candidate is read from the order of the line kinds and from where the
 //! leaves, outs and calls go; nothing else of a line is trusted. The candidate
 //! is then checked as any table is, hardened, and compared in all its bytes. If
-//! some table gives the bytes, the candidate is that table.
+//! some table of 01's rows gives the bytes, the candidate is that table. "Reading
+//! back gives the ifs": a chained if is an if, and no row of a switch is guessed.
 
 use crate::harden;
 use crate::line::{self, Line, LINE_BYTES};
@@ -12,7 +13,8 @@ use crate::refusal::Refusal;
 use crate::row::{self, Row};
 use crate::table::{self, LIMITS};
 
-/// No row stands for more than two lines.
+/// No row of 01 stands for more than two lines, and a table has no more of them
+/// than so many, its switches written as ifs.
 pub const MOST_LINES: usize = 2 * LIMITS.rows;
 
 /// The source table whose hardened table these bytes are.

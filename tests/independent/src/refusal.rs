@@ -1,11 +1,11 @@
-//! The numbers of 01, "What turns a call away".
+//! The numbers of 01, "What turns a call away", and those that 02 adds.
 
-/// A cause that turns a call away. Its discriminant is 01's number.
+/// A cause that turns a call away. Its discriminant is the number.
 #[derive(Clone, Copy, Debug, PartialEq, Eq)]
 pub enum Refusal {
     /// "bytes are no whole rows, or none"
     NoWholeRows = 1,
-    /// "over 1,024 rows"
+    /// "over 1,024 rows", as given or as the chain of ifs that they stand for
     TooManyRows = 2,
     /// "kind, op, p, q or an unused field wrong"
     WrongField = 3,
@@ -24,6 +24,8 @@ pub enum Refusal {
     BuffersShort = 9,
     /// "hardened bytes that no source table gives"
     NotHardened = 10,
+    /// 02: "when a second case of a switch has a number already used there"
+    CaseTwice = 11,
 }
 
 impl Refusal {

@@ -1,8 +1,10 @@
-//! Tables that meet 3, for each kind of row and each of its fields, and 6, for
-//! each limit (docs/PROGRAMS.md, "explain"). No chance in here.
+//! Tables that meet 3, for each kind of row and each of its fields, 6, for each
+//! limit, and 4 and 11, for each place around a switch (docs/PROGRAMS.md,
+//! "explain"). No chance in here.
 
 use crate::make::bytes_of;
 use crate::row::{self, Row};
+use crate::switch_places;
 use crate::texts::{self, Text};
 
 /// All of them.
@@ -11,6 +13,9 @@ pub fn all() -> Vec<Text> {
     texts.extend(in_other_places());
     for (name, rows) in limit_tables() {
         texts.push(texts::of_rows(format!("near-{name}"), &bytes_of(&rows)));
+    }
+    for (name, rows) in switch_places::all() {
+        texts.push(texts::of_rows(format!("switch-{name}"), &bytes_of(&rows)));
     }
     texts
 }
@@ -34,8 +39,8 @@ fn rows_to_try() -> Vec<Row> {
     rows
 }
 
-/// Kind bytes that 01 does not list.
-const UNKNOWN: &[u8] = &[0, 10, 11, 15, 16, 0x20, 0x21, 0x28, 0x7f, 0x80, 0x81, 0x89, 0xff];
+/// Kind bytes that 01 and 02 do not list.
+const UNKNOWN: &[u8] = &[0, 13, 14, 15, 16, 0x20, 0x21, 0x28, 0x7f, 0x80, 0x81, 0x89, 0xff];
 
 fn unknown(kind: &u8) -> [Row; 2] {
     let plain = Row::plain(*kind);
@@ -45,7 +50,7 @@ fn unknown(kind: &u8) -> [Row; 2] {
 /// A row of each kind, and of a do and of a test with each op, whose fields are
 /// right.
 fn bases() -> Vec<Row> {
-    let mut bases: Vec<Row> = (row::FUNCTION..=row::CALL).map(Row::plain).collect();
+    let mut bases: Vec<Row> = (row::FUNCTION..=row::DEFAULT).map(Row::plain).collect();
     bases.extend((1..=3).map(|op| Row { op, ..Row::plain(row::DO) }));
     for kind in [row::IF, row::LOOP] {
         bases.extend((1..=2).map(|op| Row { op, ..Row::plain(kind) }));
@@ -77,7 +82,7 @@ fn around(base: Row) -> Vec<Row> {
 }
 
 fn opens(row: Row) -> bool {
-    [row::IF, row::LOOP].contains(&row.kind)
+    [row::IF, row::LOOP, row::SWITCH].contains(&row.kind)
 }
 
 fn some_test(kind: u8) -> Row {
@@ -93,7 +98,10 @@ fn in_other_places() -> Vec<Text> {
         ("if", Row { kind: row::IF, op: 2, p: 15, q: 16, n: 0 }),
         ("end", Row { n: 256, ..end }),
         ("call", Row { p: 1, n: 500, ..Row::plain(row::CALL) }),
-        ("unknown", Row::plain(10)),
+        ("unknown", Row::plain(13)),
+        ("switch", Row { p: 16, ..Row::plain(row::SWITCH) }),
+        ("case", Row { p: 1, n: 500, ..Row::plain(row::CASE) }),
+        ("default", Row { n: 1, ..Row::plain(row::DEFAULT) }),
     ];
     let mut texts = Vec::new();
     for (name, row) in wrong {

@@ -8,9 +8,10 @@ use crate::damage;
 use crate::faults;
 use crate::faults_limits;
 use crate::limits;
-use crate::make;
+use crate::make::{self, bytes_of};
 use crate::protocol::{self, Test};
 use crate::random::Random;
+use crate::switch_places;
 use crate::table;
 
 /// No line has so many characters.
@@ -40,7 +41,7 @@ pub fn tests(seed: u64, count: usize) -> Vec<Test> {
 }
 
 /// The worked listing of 01, the limit tables, outputs exact, one byte short and
-/// longer.
+/// longer; every row in every place around a switch.
 pub fn fixed() -> Vec<Test> {
     let listing = limits::worked_listing();
     let mut tests = vec![protocol::check(&listing)];
@@ -59,6 +60,8 @@ pub fn fixed() -> Vec<Test> {
             tests.push(protocol::harden(64, &rows));
         }
     }
+    let places = switch_places::all();
+    tests.extend(places.iter().map(|(_, rows)| protocol::check(&bytes_of(rows))));
     tests
 }
 
@@ -88,11 +91,11 @@ fn random_table(rng: &mut Random) -> Vec<u8> {
     }
 }
 
-/// A table that is wrong on purpose; of those with over 1,024 rows only few.
+/// A table that is wrong on purpose; of those with many hundred rows only few.
 fn faulty(rng: &mut Random) -> Vec<u8> {
     loop {
         let (rows, _) = faults::any(rng);
-        if rows.len() < 6 * 1024 || rng.percent(25) {
+        if rows.len() < 6 * 300 || rng.percent(25) {
             return rows;
         }
     }

@@ -3,10 +3,12 @@
 use crate::faults;
 use crate::faults_limits;
 use crate::limits;
-use crate::make;
+use crate::make::{self, bytes_of};
 use crate::protocol::{self, Test};
 use crate::random::Random;
-use crate::row::{self, ROW_BYTES};
+use crate::row::ROW_BYTES;
+use crate::switch_limits;
+use crate::switch_places;
 use crate::table::LIMITS;
 
 /// The fixed tests, then `count` random ones.
@@ -17,20 +19,29 @@ pub fn tests(seed: u64, count: usize) -> Vec<Test> {
     tests
 }
 
-/// The worked listing, each of its beginnings, and the limit tables.
+/// The worked listing, each of its beginnings, and the limit tables; the beginnings
+/// of a table with switches, and every row in every place around a switch.
 pub fn fixed() -> Vec<Test> {
     let listing = limits::worked_listing();
     let mut tests: Vec<Test> =
         (0..=listing.len()).map(|end| protocol::fault(&listing[..end])).collect();
     tests.extend(limits::all().iter().map(|(rows, _)| protocol::fault(rows)));
+    let bands = switch_limits::bands();
+    let whole_rows = (0..=bands.len()).step_by(ROW_BYTES);
+    tests.extend(whole_rows.map(|end| protocol::fault(&bands[..end])));
+    let places = switch_places::all();
+    tests.extend(places.iter().map(|(_, rows)| protocol::fault(&bytes_of(rows))));
     tests
 }
 
-/// A table; of those with over 1,024 rows only few.
+/// A table; of those with over 1,024 rows, as given or as their chain, not many.
 pub fn table(rng: &mut Random) -> Vec<u8> {
     loop {
         let rows = any(rng);
-        if rows.len() <= LIMITS.rows * ROW_BYTES || rng.percent(15) {
+        let count = rows.len() / ROW_BYTES;
+        let is_few = count <= 400;
+        let is_some = count <= LIMITS.rows && rng.percent(30);
+        if is_few || is_some || rng.percent(15) {
             return rows;
         }
     }
@@ -58,7 +69,7 @@ fn spoilt_again(rng: &mut Random) -> Vec<u8> {
     if rng.percent(50) {
         rows.drain(from..from + ROW_BYTES);
     } else {
-        let kinds = [row::FUNCTION, row::ELSE, row::END, row::BREAK, row::CONTINUE];
+        let kinds = [1, 4, 6, 7, 8, 10, 11, 12];
         rows[from..from + ROW_BYTES].fill(0);
         rows[from] = rng.pick(&kinds);
     }

@@ -7,6 +7,7 @@ use crate::protocol::{self, Test};
 use crate::random::Random;
 use crate::replay::LINE_LIMIT;
 use crate::row::ROW_BYTES;
+use crate::switch_limits;
 
 /// The fixed tests, one change of each byte of 01's listing, then `count` random
 /// ones.
@@ -35,9 +36,10 @@ pub fn fixed() -> Vec<Test> {
     for (rows, number) in limits::all() {
         if number == 0 {
             let lines = damage::hardened(&rows);
-            tests.push(protocol::read(rows.len(), &lines));
+            let exact = damage::read_back_length(&rows);
+            tests.push(protocol::read(exact, &lines));
             if lines.len() < 10_000 {
-                tests.push(protocol::read(rows.len() - 1, &lines));
+                tests.push(protocol::read(exact - 1, &lines));
             }
         }
     }
@@ -86,15 +88,17 @@ fn random_test(rng: &mut Random) -> Test {
             damage::any(rng, &once)
         }
     };
-    let length = out_length(rng, rows.len());
+    let length = out_length(rng, damage::read_back_length(&rows));
     protocol::read(length, &bytes)
 }
 
-/// The listing's table now and then, otherwise any, mostly small.
+/// The listing's table or a worked switch now and then, otherwise any, mostly small.
 fn some_table(rng: &mut Random) -> Vec<u8> {
     match rng.below(20) {
-        0..=2 => limits::worked_listing(),
-        3..=8 => {
+        0..=1 => limits::worked_listing(),
+        2 => switch_limits::worked_switch(),
+        3 => switch_limits::bands(),
+        4..=8 => {
             let rows = rng.between(2, 12);
             make::table_of(rng, rows)
         }

@@ -12,6 +12,7 @@ use crate::program::{self, Program};
 use crate::protocol::{self, Struck, Test};
 use crate::random::Random;
 use crate::replay::LINE_LIMIT;
+use crate::switch_limits;
 
 /// The fixed tests, then `count` random ones.
 pub fn tests(seed: u64, count: usize) -> Vec<Test> {
@@ -57,11 +58,13 @@ fn simple(budget: u16, k: u16, place: u16) -> Struck {
     Struck { budget, k, place, slots: usize::from(budget), words: COUNTER_WORDS }
 }
 
-/// 01's cases, every step and place of the listing, the limits of runs.
+/// 01's cases, every step and place of the listing, the limits of runs; runs of
+/// switches.
 pub fn fixed() -> Vec<Test> {
     let mut tests = cases();
     let listing = Program { rows: limits::worked_listing(), variables: case_values() };
     tests.extend(every_step_and_place(&listing));
+    tests.extend(switches());
     tests.extend(recursion());
     tests.extend(buffers());
     tests.extend(budgets());
@@ -93,6 +96,39 @@ fn cases() -> Vec<Test> {
     tests.push(protocol::hardened(simple(20, NO_JUMP, 0), &values, &[]));
     tests.push(protocol::hardened(simple(20, NO_JUMP, 0), &values, &damage::hardened(&pair)));
     tests
+}
+
+/// The worked switch each way, with every step and place; a loop over a switch with
+/// every budget; a switch of 16 cases at each of them; the deepest of defaults.
+fn switches() -> Vec<Test> {
+    let with = |v0: u16| {
+        let mut variables = [0; 16];
+        (variables[0], variables[15]) = (v0, 1);
+        variables
+    };
+    let rows = switch_limits::worked_switch();
+    let programs = [10, 50, 200].map(|v0| Program { rows: rows.clone(), variables: with(v0) });
+    let mut tests: Vec<Test> = programs.iter().flat_map(every_step_and_place).collect();
+    let bands = switch_limits::bands();
+    for budget in 0..70 {
+        tests.extend(both(budget, &with(0), &bands));
+    }
+    for v0 in 0..17 {
+        tests.extend(both(99, &with(v0), &switch_limits::one_switch(16)));
+    }
+    tests.extend(both(99, &with(0), &switch_limits::nested_defaults(340)));
+    for (rows, _) in switch_limits::all().iter().filter(|(_, number)| *number != 0) {
+        tests.push(protocol::source(9, 9, &with(3), rows));
+    }
+    tests
+}
+
+/// A table's run in both forms.
+fn both(budget: u16, variables: &Variables, rows: &[u8]) -> [Test; 2] {
+    [
+        protocol::source(budget, usize::from(budget), variables, rows),
+        protocol::hardened(simple(budget, NO_JUMP, 0), variables, &damage::hardened(rows)),
+    ]
 }
 
 /// 16 functions open, and a 17th.
@@ -238,7 +274,7 @@ fn random_test(rng: &mut Random) -> Test {
     let budget = some_budget(rng);
     if rng.percent(25) {
         let slots = some_slots(rng, budget);
-        let rows = if rng.percent(12) { small_fault(rng) } else { program.rows };
+        let rows = if rng.percent(25) { small_fault(rng) } else { program.rows };
         return protocol::source(budget, slots, &program.variables, &rows);
     }
     let lines = damage::hardened(&program.rows);

@@ -1,4 +1,5 @@
-//! One row of a source table (01, "The source table").
+//! One row of a source table (01, "The source table"; the rows of a switch are
+//! those of 02, No. 1).
 
 /// "A row has 6 bytes".
 pub const ROW_BYTES: usize = 6;
@@ -13,7 +14,7 @@ pub const IF: u8 = 0x03;
 pub const ELSE: u8 = 0x04;
 /// "loop (while)"
 pub const LOOP: u8 = 0x05;
-/// "end of function, if or loop"
+/// "end of function, if or loop"; it closes a switch too
 pub const END: u8 = 0x06;
 /// "break ... of the innermost loop"
 pub const BREAK: u8 = 0x07;
@@ -21,6 +22,12 @@ pub const BREAK: u8 = 0x07;
 pub const CONTINUE: u8 = 0x08;
 /// "call"
 pub const CALL: u8 = 0x09;
+/// "switch on vp"
+pub const SWITCH: u8 = 0x0a;
+/// "case n"
+pub const CASE: u8 = 0x0b;
+/// "default, last"
+pub const DEFAULT: u8 = 0x0c;
 
 /// "There are sixteen 16-bit variables": p and q "are at most 15".
 const LAST_VARIABLE: u8 = 15;
@@ -64,8 +71,9 @@ impl Row {
         match self.kind {
             DO => self.do_fields(),
             IF | LOOP => self.test_fields(),
-            CALL => self.op == 0 && self.p == 0 && self.q == 0,
-            FUNCTION | ELSE | END | BREAK | CONTINUE => self == Row::plain(self.kind),
+            CALL | CASE => self.op == 0 && self.p == 0 && self.q == 0,
+            SWITCH => self.op == 0 && self.uses_p_and_n() && self.n == 0,
+            FUNCTION | ELSE | END | BREAK | CONTINUE | DEFAULT => self == Row::plain(self.kind),
             _ => false,
         }
     }

@@ -11,6 +11,7 @@ use crate::faults_limits;
 use crate::limits;
 use crate::line::LINE_BYTES;
 use crate::machine::{Variables, NO_JUMP};
+use crate::make::bytes_of;
 use crate::malformed_texts;
 use crate::program;
 use crate::random::Random;
@@ -19,6 +20,7 @@ use crate::row::ROW_BYTES;
 use crate::run_text;
 use crate::run_trace_cases;
 use crate::run_word_cases;
+use crate::switch_limits;
 use crate::text;
 
 /// The words behind the program's name, and its standard input.
@@ -48,6 +50,7 @@ pub fn cases(seed: u64, count: usize) -> Vec<Case> {
     let mut rng = Random::new(seed);
     let mut cases = listing();
     cases.extend(limit_tables());
+    cases.extend(switches());
     cases.extend(turned_away());
     cases.extend(unreadable());
     cases.extend(run_word_cases::all());
@@ -116,7 +119,35 @@ fn limit_tables() -> Vec<Case> {
     cases
 }
 
-/// Each number from 1 to 7, and 10.
+/// The worked switch each way and a loop over a switch, shown and struck; 16 cases;
+/// defaults in each other, which are no step.
+fn switches() -> Vec<Case> {
+    let mut cases = Vec::new();
+    let worked = switch_limits::worked_switch();
+    let lines = damage::hardened(&worked);
+    for value in [0, 10, 11, 50, 200, 65_535] {
+        cases.push(source(&format!("v0={value} show"), &worked));
+        cases.push(hardened(&format!("v0={value} show"), &lines));
+        for place in 0..14 {
+            cases.push(hardened(&format!("v0={value} show jump=1:{place}"), &lines));
+        }
+    }
+    let bands = switch_limits::bands();
+    for words in ["v15=1 show", "v15=1", "v15=2 show", "show budget=40", "v0=4 v15=1 trace"] {
+        cases.push(source(words, &bands));
+        cases.push(hardened(words, &damage::hardened(&bands)));
+    }
+    let many = switch_limits::one_switch(16);
+    for value in [0, 1, 15, 16] {
+        cases.push(source(&format!("show v0={value}"), &many));
+        cases.push(hardened(&format!("show v0={value}"), &damage::hardened(&many)));
+    }
+    cases.push(source("show", &switch_limits::nested_defaults(340)));
+    cases.push(source("show", &bytes_of(&switch_limits::chain(1024))));
+    cases
+}
+
+/// Each number from 1 to 7, 10 and 11.
 fn turned_away() -> Vec<Case> {
     let mut cases = vec![source("", &[]), hardened("show", &[])];
     for (rows, number) in limits::all() {

@@ -64,7 +64,7 @@ fn words_of_4() {
 
 /// The digits of a row that meets 3, and the words.
 const FIELDS: &[(&str, &str)] = &[
-    ("0a0000000000", "unknown kind"),
+    ("0d0000000000", "unknown kind"),
     ("000000000000", "unknown kind"),
     ("ffffffffffff", "unknown kind"),
     // a do: op 0 uses p and n, op 1 to 3 p and q
@@ -93,7 +93,17 @@ const FIELDS: &[(&str, &str)] = &[
     ("09010000ffff", "op is 1, not 0"),
     ("09000100ffff", "p is 1, not 0"),
     ("09000010ffff", "q is 16, not 0"),
+    // a switch uses p, a case n
+    ("0a0100000000", "op is 1, not 0"),
+    ("0a0010000000", "p is 16, not 0 to 15"),
+    ("0a000f010000", "q is 1, not 0"),
+    ("0a000f000100", "n is 1, not 0"),
+    ("0b020000ffff", "op is 2, not 0"),
+    ("0b000100ffff", "p is 1, not 0"),
+    ("0b000001ffff", "q is 1, not 0"),
     // the others use nothing
+    ("0c0000000100", "n is 1, not 0"),
+    ("0c0001000000", "p is 1, not 0"),
     ("010100000000", "op is 1, not 0"),
     ("040001000000", "p is 1, not 0"),
     ("060000010000", "q is 1, not 0"),
@@ -121,7 +131,7 @@ fn a_wrong_row_has_a_wrong_field() {
         let mut row = scene::right_row(&mut rng);
         assert_eq!(field::first_wrong(row), None, "{row:?}");
         scene::spoil_byte(&mut rng, &mut row);
-        if (row::FUNCTION..=row::CALL).contains(&row.kind) {
+        if (row::FUNCTION..=row::DEFAULT).contains(&row.kind) {
             assert_eq!(field::first_wrong(row).is_none(), row.fields_right(), "{row:?}");
             wrong += usize::from(!row.fields_right());
         }

@@ -4,7 +4,7 @@
 use std::collections::BTreeMap;
 
 use independent::protocol::{self, Test};
-use independent::{replay, replay_read, replay_run};
+use independent::{replay, replay_fault, replay_read, replay_run};
 
 fn size(tests: &[Test]) -> (usize, usize) {
     let sum = |pick: fn(&Test) -> usize| tests.iter().map(|test| pick(test) + 1).sum();
@@ -57,8 +57,12 @@ fn moderate_sizes() {
 #[test]
 fn every_number_comes() {
     let found = first_words(&replay::tests(1, 600), 1);
-    for number in 0..=8 {
+    for number in (0..=8).chain([11]) {
         assert!(found[&number.to_string()] >= 4, "{found:?}");
+    }
+    let found = first_words(&replay_fault::tests(1, 600), 1);
+    for number in [0, 1, 2, 3, 4, 5, 6, 7, 11] {
+        assert!(found[&number.to_string()] >= 10, "{found:?}");
     }
     let found = first_words(&replay_read::tests(1, 600), 1);
     for number in ["0", "8", "10"] {
@@ -69,13 +73,35 @@ fn every_number_comes() {
         assert!(found[outcome] >= 10, "{found:?}");
     }
     let found = first_words(&replay_run::tests(1, 6000), 1);
-    for number in ["0", "1", "3", "4", "5", "6", "7", "9", "10"] {
+    for number in ["0", "1", "2", "3", "4", "5", "6", "7", "9", "10", "11"] {
         assert!(found[number] >= 3, "{found:?}");
     }
 }
 
+/// The rows in a test that asks for rows begin behind the last space.
+fn asks_with_a_switch(tests: &[Test]) -> usize {
+    let has_switch = |rows: &str| (0..rows.len() / 12).any(|at| rows[12 * at..].starts_with("0a"));
+    tests.iter().filter(|test| has_switch(test.ask.rsplit(' ').next().unwrap())).count()
+}
+
 #[test]
-fn the_lines_spell_what_the_brief_says() {
+fn a_third_of_the_tables_has_a_switch() {
+    for make in [replay::tests, replay_fault::tests] {
+        let tests = make(9, 3000);
+        let random = &tests[tests.len() - 3000..];
+        let count = asks_with_a_switch(random);
+        assert!((750..2000).contains(&count), "{count}");
+    }
+    let sources: Vec<Test> = replay_run::tests(9, 6000)
+        .into_iter()
+        .filter(|test| test.ask.starts_with("source"))
+        .collect();
+    let count = asks_with_a_switch(&sources);
+    assert!(4 * count > sources.len() && 4 * count < 3 * sources.len(), "{count}");
+}
+
+#[test]
+fn the_lines_spell_what_the_readme_says() {
     let empty = protocol::check(&[]);
     assert_eq!((empty.ask.as_str(), empty.answer.as_str()), ("check -", "1"));
     let pair = [1, 0, 0, 0, 0, 0, 6, 0, 0, 0, 0, 0];

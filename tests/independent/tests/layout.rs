@@ -1,5 +1,7 @@
 //! Regions and values of random tables, against what 01 says of them.
 
+mod flat_chain;
+
 use independent::layout::{Layout, Region};
 use independent::random::Random;
 use independent::table::{self, Table};
@@ -49,7 +51,7 @@ fn sizes_bases_and_values_by_their_definitions() {
     for rows in some_tables() {
         let table = table::parse(&rows).unwrap();
         let layout = Layout::of(&table);
-        let kinds = openers(&rows);
+        let kinds = openers(&flat_chain::chain(&rows));
         let mut next = 1;
         let mut number = 0;
         for opener in (0..kinds.len()).filter(|at| matches!(kinds[*at].0, 1 | 3 | 4 | 5)) {
@@ -96,11 +98,11 @@ fn values_are_disjoint() {
     }
 }
 
-/// A row has two lines (do, call), one, or none (01).
+/// A row has two lines (do, call), one, or none (01); a switch's are its chain's.
 #[test]
 fn as_many_lines_as_the_rows_ask_for() {
     for rows in some_tables() {
-        let count: usize = rows
+        let count: usize = flat_chain::chain(&rows)
             .chunks(6)
             .map(|row| match row[0] {
                 1 => 0,

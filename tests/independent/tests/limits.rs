@@ -1,4 +1,6 @@
-//! 01, "To run": the limit cases.
+//! 01, "To run": the limit cases, and those of a switch.
+
+mod flat_chain;
 
 use independent::limits;
 use independent::{check, damage, harden, read_back, run_hardened, run_source, Ran};
@@ -36,7 +38,7 @@ fn output_exact_and_one_byte_short() {
         let written = harden(&rows, &mut out);
         assert_eq!((written.number, written.length), (8, 0));
         assert!(out.iter().all(|b| *b == 1));
-        read_back_exact_and_short(&rows, &lines);
+        read_back_exact_and_short(&flat_chain::chain(&rows), &lines);
     }
 }
 

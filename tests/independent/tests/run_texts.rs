@@ -4,7 +4,7 @@ mod listing;
 
 use independent::printed::Printed;
 use independent::run_text;
-use independent::{limits, text};
+use independent::{limits, switch_limits, text};
 use listing::{LINES, ROWS};
 
 /// What is printed for these words, with nothing on standard error.
@@ -38,6 +38,27 @@ trace 1 3 3
 variables 0 1 0 0 0 0 0 0 0 0 0 0 0 0 0 0
 ";
     assert_eq!(out("source show budget=20 v1=1", ROWS), expected);
+}
+
+/// A switch has the steps and rows of its chain, listed by hand: the second case.
+#[test]
+fn a_switch_step_by_step() {
+    let rows = text::lines(&switch_limits::worked_switch(), 6);
+    let expected = "\
+step 0 function 0 row 1 if
+step 1 function 0 row 4 if
+step 2 function 0 row 5 do
+step 3 function 0 row 6 else
+step 4 function 0 row 9 end
+step 5 function 0 row 10 end
+outcome 1 finished
+steps 6
+trace 5
+variables 50 2 0 0 0 0 0 0 0 0 0 0 0 0 0 0
+";
+    assert_eq!(out("source show v0=50", &rows), expected);
+    let chain = text::read_back(hardened(&rows).as_bytes()).unwrap().out;
+    assert_eq!(out("source show v0=50", &chain), expected);
 }
 
 /// Cases (C) to (F), listed by hand.
