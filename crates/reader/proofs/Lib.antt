@@ -1,5 +1,4 @@
 pub mod Numbering
-pub mod Stores
 pub mod LineRows
 pub mod Passes
 pub mod Compares

@@ -15,14 +15,15 @@ use Rattle.rules.specs.Line.{Line, retLine, lineWidth, linesIn, lineAt, isRet}
 use Rattle.rules.specs.Function.{functionAt}
 use Rattle.rules.specs.ReadBack.{leavesTo, rowFor, begins, functionRowIf}
 use Rattle.rules.proofs.Logic.{clash}
+use Rattle.rows.specs.declared.row.Row.{Row}
+use Rattle.rows.specs.Row.{six, bareRow, Added}
+use Rattle.rows.proofs.Stores.{added-none}
 use Rattle.line.specs.declared.Line as Declared
 use Rattle.line.specs.declared.kind.LineKind as Lk
 use Rattle.line.specs.Read.{lineKindAt, structAt, asLine, endsFunction}
 use Rattle.line.proofs.Decode.{length-lines, line-is, ends-ret}
-use Rattle.reader.specs.declared.row.Row.{Row}
-use Rattle.reader.specs.Row.{six, bareRow, copiedRow, callRow, Added}
+use Rattle.reader.specs.Row.{copiedRow, callRow}
 use Rattle.reader.specs.Candidate.{isLeave, testKind, leaveKind, outKind, Here}
-use Rattle.reader.proofs.Stores.{added-none}
 
 byte-of : (b : Bool) (x y : Kind) → cond b (kindByte x) (kindByte y) ≡ kindByte (cond b x y)
 byte-of true x y = refl

@@ -9,15 +9,16 @@ use Rattle.rules.specs.Row.{Table, rowBytes, tableBytes}
 use Rattle.rules.specs.Line.{Line, doLine, tickLine, testLine, leaveLine, outLine, callLine, backLine, retLine, lineWidth, linesIn, lineAt, isRet}
 use Rattle.rules.specs.ReadBack.{rowFor, begins, functionRowIf, unreadTo, unread, sourceBytes}
 use Rattle.rules.proofs.Logic.{append-nil, clash}
+use Rattle.rows.specs.declared.row.Row as Row
+use Rattle.rows.specs.Row.{Added, six}
+use Rattle.rows.proofs.Stores.{added-none, added-both, added-length, added-front}
 use Rattle.line.specs.declared.kind.LineKind.the-variants.{Tick}
 use Rattle.line.specs.Read.{lineKindAt, structAt, asLine, endsFunction}
 use Rattle.line.proofs.Decode.{length-lines, line-is}
 use Rattle.reader.specs.Functions.{Short}
-use Rattle.reader.specs.declared.row.Row as Row
-use Rattle.reader.specs.Row.{Added, six, copiedRow}
+use Rattle.reader.specs.Row.{copiedRow}
 use Rattle.reader.specs.Candidate.{Here, Reading, Pair, DosRead, Fronted}
 use Rattle.reader.proofs.LineRows.{do-row, begins-next, no-function-row}
-use Rattle.reader.proofs.Stores.{added-none, added-both, added-length, added-front}
 
 -- ---- bytes of rows
 bytes-append : (s t : Table) → tableBytes (s ++ t) ≡ tableBytes s ++ tableBytes t

@@ -9,13 +9,13 @@ use Rattle.rules.specs.Line.{lineWidth, linesIn, lineAt}
 use Rattle.rules.specs.Limits.{maxRows}
 use Rattle.rules.specs.Row.{rowWidth, tableBytes}
 use Rattle.rules.specs.ReadBack.{leavesTo, begins, unreadTo, sourceBytes}
+use Rattle.rows.specs.Row.{Added}
 use Rattle.line.specs.declared.kind.LineKind.{LineKind}
 use Rattle.line.specs.declared.kind.LineKind.the-variants.{Do, Tick, Test, Leave, Out, Call, Back, Ret}
 use Rattle.line.specs.Read.{lineKindAt, structAt}
 use Rattle.reader.specs.declared.candidate.Candidate.{Candidate}
 use Rattle.reader.specs.declared.candidate.Candidate.the-variants.{TooLong, Bytes}
 use Rattle.reader.specs.Functions.{Short}
-use Rattle.reader.specs.Row.{Added}
 
 abbrev pub isLeave : LineKind → Bool
 isLeave Do = false

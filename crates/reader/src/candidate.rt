@@ -7,13 +7,14 @@ ghost use Rattle.rules.specs.Row.{tableBytes};
 ghost use Rattle.rules.specs.Line.{lineWidth, linesIn, lineAt};
 ghost use Rattle.rules.specs.Function.{functionAt};
 ghost use Rattle.rules.specs.ReadBack.{leavesTo, begins, functionRowIf, rowFor};
+ghost use Rattle.rows.specs.Row.{Added};
 ghost use Rattle.line.specs.Read.{structAt};
 ghost use Rattle.reader.specs.Functions.{Short, Numbered};
-ghost use Rattle.reader.specs.Row.{Added};
 ghost use Rattle.reader.specs.Candidate.{isLeave, testKind, leaveKind, outKind, Here, DosRead, CandidateIs};
 use crate::dos::dos;
 use crate::functions;
-use crate::row::Row;
+use crate::row::call;
+use crate::row::copied;
 use line::Line;
 use line::kind::LineKind;
 use line::read;
@@ -26,6 +27,7 @@ use rows::kind::END;
 use rows::kind::FUNCTION;
 use rows::kind::IF;
 use rows::kind::LOOP;
+use rows::row::Row;
 use rules::bytes::word;
 use rules::limits::LINES;
 use rules::limits::ROWS;
@@ -159,12 +161,12 @@ fn stand(lines: &[u8], owners: &[u16; LINES + 1], line: u16, rows: &mut [u8], at
     ensures { λ r. ⌜ Added (tableBytes (rowFor (linesIn (now (lines .entry))) line (lineAt (linesIn (now (lines .entry))) line))) (now (rows .entry)) (now (rows .exit)) at r ⌝ }
 {
     match read::kind_at(lines, line) {
-        LineKind::Do => Row::copied(DO, lines, line).write(rows, at),
+        LineKind::Do => copied(DO, lines, line).write(rows, at),
         LineKind::Tick => at,
-        LineKind::Test => Row::copied(test_kind(lines, line), lines, line).write(rows, at),
+        LineKind::Test => copied(test_kind(lines, line), lines, line).write(rows, at),
         LineKind::Leave => Row::bare(leave_kind(lines, line)).write(rows, at),
         LineKind::Out => Row::bare(out_kind(lines, line)).write(rows, at),
-        LineKind::Call => Row::call(CALL, callee(lines, owners, line)).write(rows, at),
+        LineKind::Call => call(CALL, callee(lines, owners, line)).write(rows, at),
         LineKind::Back => at,
         LineKind::Ret => Row::bare(END).write(rows, at),
     }

@@ -7,7 +7,7 @@ ghost use Rattle.rules.specs.Limits.{maxLines};
 ghost use Rattle.reader.specs.Functions.{Short};
 ghost use Rattle.reader.specs.Candidate.{Pair, DosRead};
 use crate::candidate::LARGEST;
-use crate::row::Row;
+use crate::row::copied;
 use line::Line;
 use line::kind::LineKind;
 use line::read;
@@ -40,7 +40,7 @@ pub fn dos(lines: &[u8], line: u16, rows: &mut [u8], at: usize) -> u16
     let mut to = at;
     while to <= LARGEST {
         if is_pair(lines, next) {
-            to = Row::copied(DO, lines, next).write(rows, to);
+            to = copied(DO, lines, next).write(rows, to);
             next += 2;
         } else {
             return next;

@@ -10,6 +10,7 @@ use Rattle.rules.specs.declared.kind.Kind.{Kind}
 use Rattle.rules.specs.declared.kind.Kind.the-variants.{Unknown}
 use Rattle.rules.specs.Row.{kindOf, rowIn, fieldsFit}
 use Rattle.rules.specs.Check.{isCall}
+use Rattle.rules.specs.Given.{usesSwitch}
 use Rattle.rows.specs.First.{fields, properKind, firstKind, callsBeyond}
 
 -- ---- the kind of a byte
@@ -24,6 +25,11 @@ pub fits-row : (xs : List ℕ) (k : Kind) {n : ℕ} {f : Bool} → n ≡ getD xs
     → f ≡ fieldsFit k (fields (getD xs 1 0) (getD xs 2 0) (getD xs 3 0) n) → f ≡ fieldsFit k (rowIn xs 0 .operands)
 unfolding rowIn
 fits-row xs k w q = rw (← w) q
+
+pub switch-row : (xs : List ℕ) (n : ℕ) (f : Bool) → n ≡ getD xs 4 0 + 256 * getD xs 5 0
+    → f ≡ usesSwitch (fields (getD xs 1 0) (getD xs 2 0) (getD xs 3 0) n) → f ≡ usesSwitch (rowIn xs 0 .operands)
+unfolding rowIn
+switch-row xs n f w q = rw (← w) q
 
 module _ (xs : List ℕ) {k : Kind} {f : Bool} (p : k ≡ rowIn xs 0 .kind) (q : f ≡ fieldsFit k (rowIn xs 0 .operands)) where
   fits-is : fieldsFit (rowIn xs 0 .kind) (rowIn xs 0 .operands) ≡ f

@@ -1,5 +1,6 @@
 // The row that some bytes begin with: its kind, whether its fields fit, what it calls.
 use crate::fits::fields_fit;
+use crate::fits::uses_switch;
 use crate::kind::is_call;
 use crate::kind::kind_of;
 use rules::kind::Kind;
@@ -7,6 +8,7 @@ ghost use mathlib.Core.Path.{_≡_};
 ghost use Prim.Native.Nat.{_+_, _*_, _<_};
 ghost use lib.ListN.{length};
 ghost use Rattle.rules.specs.Row.{rowIn, fieldsFit};
+ghost use Rattle.rules.specs.Given.{usesSwitch};
 ghost use Rattle.rows.specs.First.{firstKind, callsBeyond};
 
 // The number that two bytes spell, the low byte first.
@@ -30,6 +32,14 @@ pub fn fits(kind: Kind, rows: &[u8]) -> bool
     ensures { λ r. ⌜ r ≡ fieldsFit kind (rowIn (now (rows .entry)) 0 .operands) ⌝ }
 {
     fields_fit(kind, rows[1], rows[2], rows[3], word(rows[4], rows[5]))
+}
+
+// The fields of the row that the bytes begin with are as a switch uses them.
+pub fn fits_switch(rows: &[u8]) -> bool
+    requires { ⌜ 5 < length (now rows) ⌝ }
+    ensures { λ r. ⌜ r ≡ usesSwitch (rowIn (now (rows .entry)) 0 .operands) ⌝ }
+{
+    uses_switch(rows[1], rows[2], rows[3], word(rows[4], rows[5]))
 }
 
 // The kind of the row that the bytes begin with, or Unknown where a field is wrong.

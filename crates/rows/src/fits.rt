@@ -4,6 +4,7 @@ use rules::limits::VARIABLES;
 ghost use mathlib.Core.Path.{_≡_};
 ghost use mathlib.Core.Bool.{_&&_};
 ghost use Rattle.rules.specs.Row.{fieldsFit, isUnused, isVariable, usesNone, usesNumber, usesVariable, usesFunction, doUses, testUses};
+ghost use Rattle.rules.specs.Given.{usesSwitch};
 ghost use Rattle.rows.specs.First.{fields};
 
 fn unused(x: u8) -> bool
@@ -52,6 +53,16 @@ fn uses_function(op: u8, p: u8, q: u8, n: usize) -> bool
     ensures { λ r. ⌜ r ≡ usesFunction (fields op p q n) ⌝ }
 {
     both(both(unused(op), unused(p)), unused(q))
+}
+
+// The fields of a switch (02, No. 1).
+pub fn uses_switch(op: u8, p: u8, q: u8, n: usize) -> bool
+    ensures { λ r. ⌜ r ≡ usesSwitch (fields op p q n) ⌝ }
+{
+    both(
+        both(both(unused(op), variable(p)), unused(q)),
+        unused_word(n),
+    )
 }
 
 // The fields of a do.

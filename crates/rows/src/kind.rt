@@ -24,6 +24,13 @@ pub const CONTINUE: u8 = 0x08;
 
 pub const CALL: u8 = 0x09;
 
+// Those of a switch's own rows (02, No. 1), which are no kinds of 01.
+pub const SWITCH: u8 = 0x0a;
+
+pub const CASE: u8 = 0x0b;
+
+pub const DEFAULT: u8 = 0x0c;
+
 // The kind that a row's first byte says.
 pub fn kind_of(byte: u8) -> Kind
     ensures { λ r. ⌜ r ≡ kindOf byte ⌝ }

@@ -6,8 +6,8 @@ use Rattle.reader.proofs.candidate.open.Statement.{statement}
 use Rattle.reader.proofs.candidate.open.Tie as tie
 use Rattle.reader.proofs.candidate.open.Reads as reads
 use Rattle.reader.proofs.candidate.open.Lts as lts
-use Rattle.reader.proofs.row.Row.bare.Reads as bare-reads
-use Rattle.reader.proofs.row.Row.write.Reads as write-reads
+use Rattle.rows.proofs.row.Row.bare.Reads as bare-reads
+use Rattle.rows.proofs.row.Row.write.Reads as write-reads
 
 bare-requires : tie.Need-bare-requires
 bare-requires c κs = search needs

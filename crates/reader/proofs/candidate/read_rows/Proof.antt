@@ -4,7 +4,7 @@ use native.Mathlib.Omega.{arith}
 use Rattle.rules.specs.Row.{tableBytes}
 use Rattle.rules.specs.ReadBack.{functionRowIf}
 use Rattle.reader.specs.Candidate.{Reading}
-use Rattle.reader.proofs.Stores.{added-length}
+use Rattle.rows.proofs.Stores.{added-length}
 use Rattle.reader.proofs.Passes.{opened-low, dos-none, reading-next, readings}
 use borrow.Author.Needs.{needs}
 use Rattle.reader.proofs.candidate.read_rows.Statement.{statement}

@@ -1,4 +1,5 @@
-use Rattle.reader.specs.Row.{copiedRow, bareRow}
+use Rattle.rows.specs.Row.{bareRow}
+use Rattle.reader.specs.Row.{copiedRow}
 use mathlib.Core.Path.{ap, sym, _∙_}
 use denote.Ref.{now}
 use Rattle.reader.proofs.LineRows.{do-row, tick-row, test-row, leave-row, out-row, call-row, back-row, ret-row}
@@ -12,10 +13,10 @@ use Rattle.reader.proofs.candidate.callee.Reads as callee-reads
 use Rattle.reader.proofs.candidate.leave_kind.Reads as leave-kind-reads
 use Rattle.reader.proofs.candidate.out_kind.Reads as out-kind-reads
 use Rattle.reader.proofs.candidate.test_kind.Reads as test-kind-reads
-use Rattle.reader.proofs.row.Row.bare.Reads as bare-reads
-use Rattle.reader.proofs.row.Row.call.Reads as call-reads
-use Rattle.reader.proofs.row.Row.copied.Reads as copied-reads
-use Rattle.reader.proofs.row.Row.write.Reads as write-reads
+use Rattle.rows.proofs.row.Row.bare.Reads as bare-reads
+use Rattle.reader.proofs.row.call.Reads as call-reads
+use Rattle.reader.proofs.row.copied.Reads as copied-reads
+use Rattle.rows.proofs.row.Row.write.Reads as write-reads
 
 kind-at-requires : tie.Need-kind-at-requires
 kind-at-requires c κs = search needs

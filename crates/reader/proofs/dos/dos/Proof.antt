@@ -7,8 +7,8 @@ use Rattle.reader.proofs.dos.dos.Tie as tie
 use Rattle.reader.proofs.dos.dos.Reads as reads
 use Rattle.reader.proofs.dos.dos.Lts as lts
 use Rattle.reader.proofs.dos.is_pair.Reads as is-pair-reads
-use Rattle.reader.proofs.row.Row.copied.Reads as copied-reads
-use Rattle.reader.proofs.row.Row.write.Reads as write-reads
+use Rattle.reader.proofs.row.copied.Reads as copied-reads
+use Rattle.rows.proofs.row.Row.write.Reads as write-reads
 
 abbrev Inv-loop : tie.InvT-loop
 Inv-loop lines line rows₀ at next₀ to₀ rows next to = DosTo lines rows₀ rows at line next to

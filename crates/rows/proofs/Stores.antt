@@ -6,9 +6,8 @@ use native.Mathlib.Nat.{add-zero}
 use native.Mathlib.Omega.{arith}
 use lib.ListN.{length, set, take, drop, length-append}
 use lib.Seq.{sets, length-sets, sets-eq, take-at}
-use Rattle.rules.specs.Bytes.{low, high}
-use Rattle.reader.specs.declared.row.Row.{Row}
-use Rattle.reader.specs.Row.{six, callRow, Added}
+use Rattle.rows.specs.declared.row.Row.{Row}
+use Rattle.rows.specs.Row.{six, Added}
 
 -- six stores are one row
 pub stores : (k : ℕ) (m : List ℕ) (r : Row)
@@ -46,6 +45,3 @@ pub added-front : (xs : List ℕ) {rows rows′ : List ℕ} {to : ℕ} → Added
 added-front xs {rows} {rows′} {to} a h =
     let q : length xs ≡ to = omega (arith, a .to-is) in
     ap (take to) (a .rows-are ∙ sets-eq xs rows 0 (omega arith)) ∙ take-at xs (drop (0 + length xs) rows) to q
-
-pub call-is : (kind n x y : ℕ) → x ≡ low n → y ≡ high n → _≡_ {A = Row} (record { kind = kind; op = 0; p = 0; q = 0; low = x; high = y }) (callRow kind n)
-call-is kind n x y p q = rw (p, q)

@@ -2,12 +2,12 @@ use mathlib.Core.Path.{refl}
 use native.Mathlib.Omega.{arith}
 use denote.Ref.{now}
 use lib.ListN.{length-set}
-use Rattle.reader.proofs.Stores.{stores}
+use Rattle.rows.proofs.Stores.{stores}
 use borrow.Author.Needs.{needs}
-use Rattle.reader.proofs.row.Row.write.Statement.{statement}
-use Rattle.reader.proofs.row.Row.write.Tie as tie
-use Rattle.reader.proofs.row.Row.write.Reads as reads
-use Rattle.reader.proofs.row.Row.write.Lts as lts
+use Rattle.rows.proofs.row.Row.write.Statement.{statement}
+use Rattle.rows.proofs.row.Row.write.Tie as tie
+use Rattle.rows.proofs.row.Row.write.Reads as reads
+use Rattle.rows.proofs.row.Row.write.Lts as lts
 
 slice-write-rows : tie.Need-slice-write-rows
 slice-write-rows c = search needs
