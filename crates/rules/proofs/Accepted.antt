@@ -70,7 +70,7 @@ row-causes false false true d e = refused-not e
 row-causes false false false true e = refused-not e
 row-causes false false false false e = (refl, refl, refl, refl)
 
-proper-row : (t : Table) (i : ℕ) → rowVerdict t i ≡ Accepted → ProperRow t i
+pub proper-row : (t : Table) (i : ℕ) → rowVerdict t i ≡ Accepted → ProperRow t i
 unfolding rowVerdict
 proper-row t i e =
     let c = row-causes (wrongField t i) (misplaced t i) (tooManyFunctions t i) (tooManyParts t i) e in

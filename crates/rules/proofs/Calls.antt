@@ -9,15 +9,18 @@ use lib.Dec.{ltb}
 use lib.ListN.{length}
 use borrow.Author.Tests.{lt-ltb, le-ltb}
 use Rattle.rules.specs.declared.refusal.Refusal.{Refusal}
-use Rattle.rules.specs.declared.refusal.Refusal.the-variants.{NoWholeRows, TooManyRows, WrongField, Misplaced, TooManyFunctions, TooManyParts, NoSuchFunction, ShortOutput, ShortRoom, NotHardened}
+use Rattle.rules.specs.declared.refusal.Refusal.the-variants.{NoWholeRows, TooManyRows, WrongField, Misplaced, TooManyFunctions, TooManyParts, NoSuchFunction, ShortOutput, ShortRoom, NotHardened, RepeatedCase}
 use Rattle.rules.specs.declared.refusal.Verdict.{Verdict}
 use Rattle.rules.specs.declared.refusal.Verdict.the-variants.{Accepted, Refused}
 use Rattle.rules.specs.Refusal.{numberOf, refuseIf, andThen}
-use Rattle.rules.specs.Check.{verdictOf}
+use Rattle.rules.specs.Switch.{chainBytes}
+use Rattle.rules.specs.Given.{givenVerdict}
+use Rattle.rules.specs.Chained.{StandsFor}
 use Rattle.rules.specs.Harden.{hardenedBytes}
 use Rattle.rules.specs.ReadBack.{sourceBytes, isHardened}
 use Rattle.rules.specs.Row.{tableOf}
 use Rattle.rules.specs.Line.{linesIn}
+use Rattle.rules.specs.Run.{Answer}
 use Rattle.rules.specs.Source.{sourceRun}
 use Rattle.rules.specs.Hardened.{strikeBy, hardenedRun}
 use Rattle.rules.specs.Calls.{over, writing, shortOutput, hardenCall, checkHardenedCall, readBackCall, Running, running, shortTrace, runSourceCall, shortCounters, countersAfter, hardenedVerdict, runHardenedCall}
@@ -34,20 +37,25 @@ no-zero NoSuchFunction e = omega arith
 no-zero ShortOutput e = omega arith
 no-zero ShortRoom e = omega arith
 no-zero NotHardened e = omega arith
+no-zero RepeatedCase e = omega arith
 
 pub accepted-of : (v : Verdict) → numberOf v ≡ 0 → v ≡ Accepted
 accepted-of Accepted e = refl
 accepted-of (Refused r) e = absurd (no-zero r e)
 
-pub harden-refused : (rows out : List ℕ) (r : Refusal) → verdictOf rows ≡ Refused r
+pub harden-refused : (rows out : List ℕ) (r : Refusal) → givenVerdict rows ≡ Refused r
     → hardenCall rows out ≡ record { wrote = record { number = numberOf (Refused r); length = 0 }; out = out }
 unfolding hardenCall writing
-harden-refused rows out r e = ap (λ v. writing (andThen v (shortOutput (hardenedBytes rows) out)) (hardenedBytes rows) out) e
+harden-refused rows out r e =
+    ap (λ v. writing (andThen v (shortOutput (hardenedBytes (chainBytes rows)) out)) (hardenedBytes (chainBytes rows)) out) e
 
-pub harden-accepted : (rows out : List ℕ) → verdictOf rows ≡ Accepted
-    → hardenCall rows out ≡ writing (shortOutput (hardenedBytes rows) out) (hardenedBytes rows) out
+-- by the chain, which is the table itself where it has no switch
+pub harden-accepted : (rows chain out : List ℕ) → StandsFor rows chain
+    → hardenCall rows out ≡ writing (shortOutput (hardenedBytes chain) out) (hardenedBytes chain) out
 unfolding hardenCall
-harden-accepted rows out e = ap (λ v. writing (andThen v (shortOutput (hardenedBytes rows) out)) (hardenedBytes rows) out) e
+harden-accepted rows chain out s =
+    ap (λ v. writing (andThen v (shortOutput (hardenedBytes (chainBytes rows)) out)) (hardenedBytes (chainBytes rows)) out) (s .accepted)
+    ∙ ap (λ c. writing (shortOutput (hardenedBytes c) out) (hardenedBytes c) out) (s .chain-is)
 
 pub check-hardened : (lines : List ℕ) (b : Bool) → isHardened lines ≡ b → checkHardenedCall lines ≡ cond b 0 10
 check-hardened lines true e = ap (λ b. numberOf (refuseIf (not b) NotHardened)) e
@@ -95,25 +103,32 @@ abbrev pub refusedRunning : Refusal → (vars slots : List ℕ) → Running
 refusedRunning r vs slots =
     record { ran = record { number = numberOf (Refused r); outcome = 0; steps = 0; traced = 0; variables = vs }; trace = slots }
 
-pub run-source-refused : (rows vs : List ℕ) (b : ℕ) (slots : List ℕ) (r : Refusal) → verdictOf rows ≡ Refused r
-    → runSourceCall rows vs b slots ≡ refusedRunning r vs slots
-unfolding runSourceCall running
-run-source-refused rows vs b slots r e =
-    ap (λ v. running (andThen v (refuseIf (shortTrace b slots) ShortRoom)) (sourceRun (tableOf rows) b vs) vs slots) e
-
-pub run-source-short : (rows vs : List ℕ) (b : ℕ) (slots : List ℕ) → verdictOf rows ≡ Accepted → length slots < b
-    → runSourceCall rows vs b slots ≡ refusedRunning ShortRoom vs slots
-unfolding runSourceCall running
-run-source-short rows vs b slots e h =
-    ap (λ v. running (andThen v (refuseIf (shortTrace b slots) ShortRoom)) (sourceRun (tableOf rows) b vs) vs slots) e
-    ∙ ap (λ x. running (refuseIf x ShortRoom) (sourceRun (tableOf rows) b vs) vs slots) (lt-ltb (length slots) b h)
-
-pub run-source-accepted : (rows vs : List ℕ) (b : ℕ) (slots : List ℕ) → verdictOf rows ≡ Accepted → b ≤ length slots
-    → runSourceCall rows vs b slots ≡ running Accepted (sourceRun (tableOf rows) b vs) vs slots
+-- a source run, by what the table gets and by its chain
+run-source-by : (rows vs : List ℕ) (b : ℕ) (slots : List ℕ) {v : Verdict} → givenVerdict rows ≡ v
+    → runSourceCall rows vs b slots ≡ running (andThen v (refuseIf (shortTrace b slots) ShortRoom)) (sourceRun (tableOf (chainBytes rows)) b vs) vs slots
 unfolding runSourceCall
-run-source-accepted rows vs b slots e h =
-    ap (λ v. running (andThen v (refuseIf (shortTrace b slots) ShortRoom)) (sourceRun (tableOf rows) b vs) vs slots) e
-    ∙ ap (λ x. running (refuseIf x ShortRoom) (sourceRun (tableOf rows) b vs) vs slots) (le-ltb (length slots) b h)
+run-source-by rows vs b slots e =
+    ap (λ v. running (andThen v (refuseIf (shortTrace b slots) ShortRoom)) (sourceRun (tableOf (chainBytes rows)) b vs) vs slots) e
+
+pub run-source-refused : (rows vs : List ℕ) (b : ℕ) (slots : List ℕ) (r : Refusal) → givenVerdict rows ≡ Refused r
+    → runSourceCall rows vs b slots ≡ refusedRunning r vs slots
+unfolding running
+run-source-refused rows vs b slots r e = run-source-by rows vs b slots e
+
+pub run-source-stands : (rows chain vs : List ℕ) (b : ℕ) (slots : List ℕ) → StandsFor rows chain
+    → runSourceCall rows vs b slots ≡ running (refuseIf (shortTrace b slots) ShortRoom) (sourceRun (tableOf chain) b vs) vs slots
+run-source-stands rows chain vs b slots s =
+    run-source-by rows vs b slots (s .accepted)
+    ∙ ap (λ c. running (refuseIf (shortTrace b slots) ShortRoom) (sourceRun (tableOf c) b vs) vs slots) (s .chain-is)
+
+-- the slots are fewer than the budget, or enough
+module _ {C : Type 0} (a : Answer C) (vs : List ℕ) (b : ℕ) (slots : List ℕ) where
+  pub room-short : length slots < b → running (refuseIf (shortTrace b slots) ShortRoom) a vs slots ≡ refusedRunning ShortRoom vs slots
+  unfolding running
+  room-short h = ap (λ x. running (refuseIf x ShortRoom) a vs slots) (lt-ltb (length slots) b h)
+
+  pub room-enough : b ≤ length slots → running (refuseIf (shortTrace b slots) ShortRoom) a vs slots ≡ running Accepted a vs slots
+  room-enough h = ap (λ x. running (refuseIf x ShortRoom) a vs slots) (le-ltb (length slots) b h)
 
 module _ (lines vs : List ℕ) (b k p : ℕ) (slots words : List ℕ) where
   -- by what the lines, the slots and the words get

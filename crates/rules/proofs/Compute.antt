@@ -3,6 +3,8 @@ use Rattle.rules.specs.Bytes.{same, first}
 use Rattle.rules.specs.Row.{kindOf, kindByte, rowIn, rowsFrom, tableOf, rowBytes, tableBytes, fieldsFit}
 use Rattle.rules.specs.Scan.{regions, openAt, endOf, elseOf, functions, functionRow}
 use Rattle.rules.specs.Check.{misplacedIn, oneTooMany, rowVerdict, rowsVerdict, callsVerdict, tableVerdict, verdictOf}
+use Rattle.rules.specs.Switch.{givenAs, givenFrom, givenOf, thingsAt, chainTo, chainBytes}
+use Rattle.rules.specs.Given.{givenFits, strays, repeats, spanVerdict, givenRowVerdict, givenRowsVerdict, givenTableVerdict, givenVerdict}
 use Rattle.rules.specs.Value.{taken, base, value}
 use Rattle.rules.specs.Line.{lineBytes, linesBytes, lineIn, linesFrom, linesIn}
 use Rattle.rules.specs.Harden.{lineOf, testOf, endValue, rowLines, hardenTo, hardenedBytes}
@@ -16,5 +18,5 @@ use Rattle.rules.specs.Calls.{writing, hardenCall, readBackCall, running
 use Rattle.rules.specs.Listing.{digits, listed, words}
 
 unfoldable pub compute : Unit {0}
-unfolding digits listed words same first kindOf kindByte rowIn rowsFrom tableOf rowBytes tableBytes fieldsFit regions openAt endOf elseOf functions functionRow misplacedIn oneTooMany rowVerdict rowsVerdict callsVerdict tableVerdict verdictOf taken base value lineBytes linesBytes lineIn linesFrom linesIn lineOf testOf endValue rowLines hardenTo hardenedBytes functionAt startOf rowFor unreadTo sourceBytes isHardened doneOn holdsOn outcomeOf run falseRow rowStep sourceStep turnBy stepOf writing hardenCall readBackCall running runSourceCall zeros countersAfter hardenedVerdict runHardenedCall
+unfolding givenAs givenFrom givenOf thingsAt chainTo chainBytes givenFits strays repeats spanVerdict givenRowVerdict givenRowsVerdict givenTableVerdict givenVerdict digits listed words same first kindOf kindByte rowIn rowsFrom tableOf rowBytes tableBytes fieldsFit regions openAt endOf elseOf functions functionRow misplacedIn oneTooMany rowVerdict rowsVerdict callsVerdict tableVerdict verdictOf taken base value lineBytes linesBytes lineIn linesFrom linesIn lineOf testOf endValue rowLines hardenTo hardenedBytes functionAt startOf rowFor unreadTo sourceBytes isHardened doneOn holdsOn outcomeOf run falseRow rowStep sourceStep turnBy stepOf writing hardenCall readBackCall running runSourceCall zeros countersAfter hardenedVerdict runHardenedCall
 compute = tt

@@ -36,10 +36,10 @@ same-is (x ∷ xs) (y ∷ ys) e =
 word : (n : ℕ) → n % 256 + 256 * (n / 256) ≡ n
 word n = omega arith
 
-word-low : (a b : ℕ) → a < 256 → (a + 256 * b) % 256 ≡ a
+pub word-low : (a b : ℕ) → a < 256 → (a + 256 * b) % 256 ≡ a
 word-low a b h = omega arith
 
-word-high : (a b : ℕ) → a < 256 → (a + 256 * b) / 256 ≡ b
+pub word-high : (a b : ℕ) → a < 256 → (a + 256 * b) / 256 ≡ b
 word-high a b h = omega arith
 
 -- ---- kinds
@@ -66,7 +66,7 @@ spells-or b c k e q s = by (eqb b c) refl
     by true h = λ n. q ∙ sym (eqb-true b c h)
     by false h = s
 
-kind-byte : (b : ℕ) → Spells b (kindOf b)
+pub kind-byte : (b : ℕ) → Spells b (kindOf b)
 unfolding kindOf kindByte
 kind-byte b =
     spells-or b 1 Function _ refl
@@ -97,7 +97,7 @@ row-length : (r : Row) → length (rowBytes r) ≡ rowWidth
 unfolding rowBytes
 row-length r = refl
 
-table-bytes-length : (t : Table) → length (tableBytes t) ≡ rowWidth * length t
+pub table-bytes-length : (t : Table) → length (tableBytes t) ≡ rowWidth * length t
 unfolding tableBytes
 table-bytes-length [] = refl
 table-bytes-length (r ∷ t) = length-append (rowBytes r) (tableBytes t) ∙ omega (arith, row-length r, table-bytes-length t)

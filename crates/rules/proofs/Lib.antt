@@ -28,6 +28,8 @@ pub mod Encode
 pub mod ReadRow
 pub mod ReadBack
 pub mod Reading
+-- ---- switches
+pub mod Switch
 -- ---- the theorem and what the calls promise
 pub mod Calls
 pub mod TablePromise

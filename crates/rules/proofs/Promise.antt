@@ -11,12 +11,12 @@ use Rattle.rules.specs.Bytes.{AreBytes}
 use Rattle.rules.specs.Row.{tableOf}
 use Rattle.rules.specs.Line.{linesIn}
 use Rattle.rules.specs.ReadBack.{sourceBytes, isHardened}
-use Rattle.rules.specs.Reading.{TenExactly}
+use Rattle.rules.specs.Chained.{TenExactly}
 use Rattle.rules.specs.Hardened.{counterForm}
 use Rattle.rules.specs.Calls.{HardenedRunning, hardenedVerdict, runHardenedCall}
 use Rattle.rules.specs.Promise.{HardenedPromise}
 use Rattle.rules.proofs.Calls.{no-zero, run-hardened-refused, run-hardened-number}
-use Rattle.rules.proofs.Reading.{ten-exactly}
+use Rattle.rules.proofs.Switch.Reading.{ten-exactly}
 use Rattle.rules.proofs.Form.Promise.{promised}
 use Rattle.rules.proofs.Demand3.{demand-3}
 

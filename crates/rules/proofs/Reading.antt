@@ -1,7 +1,6 @@
 -- Reading back: the hardened bytes of an accepted table are read back to its own bytes, and "is a hardened table" holds of exactly
 -- the bytes that some source table hardens to.
 use mathlib.Core.Path.{_≡_, refl, sym, ap, _∙_, subst}
-use mathlib.Core.Logic.{_≢_}
 use mathlib.Core.Bool.{Bool, true, false, cond, _&&_}
 use mathlib.Core.List.{List, [], _∷_, _++_}
 use Prim.Native.Nat.{ℕ, zero, suc, _+_, _*_, _≤_, _<_}
@@ -21,7 +20,7 @@ use Rattle.rules.specs.Check.{verdictOf}
 use Rattle.rules.specs.Line.{Line, doLine, tickLine, testLine, leaveLine, outLine, callLine, backLine, retLine, lineWidth, lineIn, linesFrom, linesIn, lineAt}
 use Rattle.rules.specs.Harden.{lineCount, lineOf, testOf, rowLines, harden, hardenedBytes}
 use Rattle.rules.specs.ReadBack.{unread, sourceBytes, isHardened}
-use Rattle.rules.specs.Reading.{ReadsBack, Recognises, OneSource, TenExactly, OnlySource}
+use Rattle.rules.specs.Reading.{ReadsBack, Recognises, OneSource}
 use Rattle.rules.proofs.Logic.{and-left, and-right, and-both, clash}
 use Rattle.rules.proofs.Accepted.{Proper, accepted-is, proper-bytes, proper}
 use Rattle.rules.proofs.Harden.{line-at}
@@ -69,7 +68,7 @@ numberIn (callLine r e a b go) = 0
 numberIn (backLine r e a b) = 0
 numberIn (retLine e a) = 0
 
-abbrev IsWord : ℕ → Type 0
+abbrev pub IsWord : ℕ → Type 0
 IsWord n = n < 65536
 
 word-or : (b : Bool) (l m : Line) → IsWord (numberIn l) → IsWord (numberIn m) → IsWord (numberIn (cond b l m))
@@ -134,10 +133,10 @@ module _ (t : Table) (ok : Proper t) (words : (j : ℕ) → IsWord (numberIn (li
   row-word Unknown e = absurd (not-unknown t ok i l e)
 
 -- ---- the fields of a row that fits are bytes
-record Small (o : Operands) : Type 0 where
-  op-small : o .op < 256
-  p-small : o .p < 256
-  q-small : o .q < 256
+pub record Small (o : Operands) : Type 0 where
+  pub op-small : o .op < 256
+  pub p-small : o .p < 256
+  pub q-small : o .q < 256
 
 small-none : (o : Operands) → usesFunction o ≡ true → Small o
 small-none o e =
@@ -169,7 +168,7 @@ small-test : (o : Operands) (b : Bool) → ltb (o .op) 2 ≡ b → cond b (usesN
 small-test o true h e = small-number o (omega (arith, ltb-true (o .op) 2 h)) e
 small-test o false h e = small-variable o (omega (arith, eqb-true (o .op) 2 (and-left _ _ e))) (and-right (eqb (o .op) 2) _ e)
 
-small : (k : Kind) (o : Operands) → fieldsFit k o ≡ true → Small o
+pub small : (k : Kind) (o : Operands) → fieldsFit k o ≡ true → Small o
 unfolding fieldsFit
 small Function o e = small-none o (and-left _ _ e)
 small Do o e = small-do o (eqb (o .op) 0) refl e
@@ -213,7 +212,7 @@ row-bytes r bs s n w =
     (more-bytes _ _ (s .op-small)
     (more-bytes _ _ (s .p-small) (more-bytes _ _ (s .q-small) (more-bytes _ _ (omega arith) (more-bytes _ _ (omega arith) w)))))
 
-table-are-bytes : (t : Table) → ((i : ℕ) → i < length t → Small (operandsAt t i) × IsWord (operandsAt t i .n)) → AreBytes (tableBytes t)
+pub table-are-bytes : (t : Table) → ((i : ℕ) → i < length t → Small (operandsAt t i) × IsWord (operandsAt t i .n)) → AreBytes (tableBytes t)
 unfolding tableBytes
 table-are-bytes [] h = no-bytes
 table-are-bytes (r ∷ t) h =
@@ -242,20 +241,3 @@ recognises lines w = (
   },
   λ g. source-hardened (g .rows) lines (ap sourceBytes (sym (g .hardens)) ∙ reads-back (g .rows) (g .are-bytes) (g .accepted)) (g .accepted) (g .hardens),
 )
-
--- ---- the number of a call that judges lines
-pub ten-exactly : (lines : List ℕ) (number : ℕ) → AreBytes lines → (isHardened lines ≡ true → number ≢ 10) → (isHardened lines ≡ false → number ≡ 10)
-    → TenExactly lines number
-ten-exactly lines number w other ten = by (isHardened lines) refl
-  where
-    by : (b : Bool) → isHardened lines ≡ b → TenExactly lines number
-    by true h = record { none = λ e g. other h e; some = λ n. recognises lines w .0 h }
-    by false h = record { none = λ e g. clash (sym h ∙ recognises lines w .1 g) refl; some = λ n. absurd (n (ten h)) }
-
-pub only-source : (lines : List ℕ) → isHardened lines ≡ true → OnlySource lines (sourceBytes lines)
-only-source lines h =
-    record {
-      accepted = (hardened-source lines h) .0;
-      hardens = (hardened-source lines h) .1;
-      only = λ other. sym (reads-back (other .rows) (other .are-bytes) (other .accepted)) ∙ ap sourceBytes (other .hardens);
-    }

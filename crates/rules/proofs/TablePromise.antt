@@ -10,15 +10,18 @@ use Rattle.rules.specs.declared.refusal.Verdict.{Verdict}
 use Rattle.rules.specs.declared.refusal.Verdict.the-variants.{Accepted, Refused}
 use Rattle.rules.specs.Bytes.{AreBytes}
 use Rattle.rules.specs.Refusal.{numberOf, andThen}
-use Rattle.rules.specs.Check.{verdictOf}
+use Rattle.rules.specs.Switch.{chainBytes}
+use Rattle.rules.specs.Given.{givenVerdict}
 use Rattle.rules.specs.Harden.{hardenedBytes}
 use Rattle.rules.specs.ReadBack.{sourceBytes, isHardened}
-use Rattle.rules.specs.Reading.{OnlySource}
+use Rattle.rules.specs.Chained.{OnlySource}
 use Rattle.rules.specs.Calls.{Writing, writing, shortOutput, notHardened, hardenCall, checkHardenedCall, readBackCall}
 use Rattle.rules.specs.TablePromise.{front, HardenPromise, CheckHardenedPromise, ReadBackPromise}
 use Rattle.rules.proofs.Accepted.{then-left}
 use Rattle.rules.proofs.Calls.{accepted-of, check-hardened, read-back-refused, read-back-accepted, read-back-number, write-fits}
-use Rattle.rules.proofs.Reading.{reads-back, source-hardened, ten-exactly, only-source}
+use Rattle.rules.proofs.Reading.{source-hardened}
+use Rattle.rules.proofs.Switch.Chain.{chain-accepted}
+use Rattle.rules.proofs.Switch.Reading.{reads-chain, ten-exactly, only-source}
 
 -- ---- what a call that writes a table says, by its verdict
 number-of : (v : Verdict) (answer out : List ℕ) → (writing v answer out) .wrote .number ≡ numberOf v
@@ -31,27 +34,27 @@ unfolding writing
 front-of v answer out e =
     ap (λ x. front (writing x answer out)) e ∙ take-append-seam answer (drop (length answer) out)
 
--- both of two are accepted
 -- ---- harden
 module _ (rows out : List ℕ) where
   hardening : Verdict
-  hardening = andThen (verdictOf rows) (shortOutput (hardenedBytes rows) out)
+  hardening = andThen (givenVerdict rows) (shortOutput (hardenedBytes (chainBytes rows)) out)
 
   hardens : (hardenCall rows out) .wrote .number ≡ 0 → hardening ≡ Accepted
   unfolding hardenCall hardening
-  hardens z = accepted-of hardening (sym (number-of hardening (hardenedBytes rows) out) ∙ z)
+  hardens z = accepted-of hardening (sym (number-of hardening (hardenedBytes (chainBytes rows)) out) ∙ z)
 
-  wrote-lines : hardening ≡ Accepted → front (hardenCall rows out) ≡ hardenedBytes rows
+  wrote-lines : hardening ≡ Accepted → front (hardenCall rows out) ≡ hardenedBytes (chainBytes rows)
   unfolding hardenCall hardening
-  wrote-lines e = front-of hardening (hardenedBytes rows) out e
+  wrote-lines e = front-of hardening (hardenedBytes (chainBytes rows)) out e
 
-read-whole : (rows held : List ℕ) → AreBytes rows → verdictOf rows ≡ Accepted → length rows ≤ length held
-    → readBackCall (hardenedBytes rows) held ≡ writing Accepted rows held
+read-whole : (rows held : List ℕ) → AreBytes rows → givenVerdict rows ≡ Accepted → length (chainBytes rows) ≤ length held
+    → readBackCall (hardenedBytes (chainBytes rows)) held ≡ writing Accepted (chainBytes rows) held
 unfolding writing
 read-whole rows held w v h =
-    let s = reads-back rows w v in
-    read-back-accepted (hardenedBytes rows) held (source-hardened rows (hardenedBytes rows) s v refl)
-    ∙ ap (λ x. writing (shortOutput x held) x held) s ∙ write-fits rows held h
+    let s = reads-chain rows w v in
+    let lines = hardenedBytes (chainBytes rows) in
+    read-back-accepted lines held (source-hardened (chainBytes rows) lines s (chain-accepted rows v) refl)
+    ∙ ap (λ x. writing (shortOutput x held) x held) s ∙ write-fits (chainBytes rows) held h
 
 pub harden-promise : (rows out : List ℕ) (x : Writing) → AreBytes rows → x ≡ hardenCall rows out → HardenPromise rows out x
 unfolding hardening
@@ -61,7 +64,7 @@ harden-promise rows out x w e =
       read-again = λ z held h.
           let ok = hardens rows out (sym (ap (λ y. y .wrote .number) e) ∙ z) in
           ap (λ ls. readBackCall ls held) (ap front e ∙ wrote-lines rows out ok)
-          ∙ read-whole rows held w (then-left (verdictOf rows) (shortOutput (hardenedBytes rows) out) ok) h;
+          ∙ read-whole rows held w (then-left (givenVerdict rows) (shortOutput (hardenedBytes (chainBytes rows)) out) ok) h;
     }
 
 -- ---- check_hardened

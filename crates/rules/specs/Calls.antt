@@ -13,7 +13,8 @@ use Rattle.rules.specs.declared.refusal.Verdict.the-variants.{Accepted, 
 use Rattle.rules.specs.Limits.{counterWords}
 use Rattle.rules.specs.Row.{tableOf}
 use Rattle.rules.specs.Refusal.{numberOf, refuseIf, andThen}
-use Rattle.rules.specs.Check.{verdictOf}
+use Rattle.rules.specs.Switch.{chainBytes}
+use Rattle.rules.specs.Given.{givenVerdict}
 use Rattle.rules.specs.Harden.{hardenedBytes}
 use Rattle.rules.specs.Line.{linesIn}
 use Rattle.rules.specs.ReadBack.{sourceBytes, isHardened}
@@ -27,7 +28,7 @@ over answer held = answer ++ drop (length answer) held
 
 -- check: the number that a source table gets
 abbrev pub checkCall : (rows : List ℕ) → ℕ
-checkCall rows = numberOf (verdictOf rows)
+checkCall rows = numberOf (givenVerdict rows)
 
 -- what a call that writes a table gives back
 pub record Writing : Type 0 where
@@ -43,11 +44,11 @@ writing (Refused r) answer out = record { wrote = record { number = numberOf (Re
 abbrev pub shortOutput : (answer out : List ℕ) → Verdict
 shortOutput answer out = refuseIf (ltb (length out) (length answer)) ShortOutput
 
--- harden: 1 to 7, then 8
+-- harden: 1 to 7 and 11, then 8. "A switch is hardened as the chain of ifs in elses that it stands for" (02, No. 1)
 unfoldable pub hardenCall : (rows out : List ℕ) → Writing
 hardenCall rows out =
-    let answer = hardenedBytes rows in
-    writing (andThen (verdictOf rows) (shortOutput answer out)) answer out
+    let answer = hardenedBytes (chainBytes rows) in
+    writing (andThen (givenVerdict rows) (shortOutput answer out)) answer out
 
 -- 10, "hardened bytes that no source table gives"
 abbrev pub notHardened : (lines : List ℕ) → Verdict
@@ -92,10 +93,11 @@ running (Refused r) a vs slots =
 abbrev pub shortTrace : (budget : ℕ) → (slots : List ℕ) → Bool
 shortTrace b slots = ltb (length slots) b
 
--- run a source table: "A run refused with 1 to 7 returns as with 9"
+-- run a source table: "A run refused with 1 to 7 returns as with 9"; "Row numbers, steps, trace and limits are those of the chain" (02,
+-- No. 1)
 unfoldable pub runSourceCall : (rows vars : List ℕ) → (budget : ℕ) → (slots : List ℕ) → Running
 runSourceCall rows vs b slots =
-    running (andThen (verdictOf rows) (refuseIf (shortTrace b slots) ShortRoom)) (sourceRun (tableOf rows) b vs) vs slots
+    running (andThen (givenVerdict rows) (refuseIf (shortTrace b slots) ShortRoom)) (sourceRun (tableOf (chainBytes rows)) b vs) vs slots
 
 -- 9, "or in a hardened run fewer than 1,024 counter words"
 abbrev pub shortCounters : (words : List ℕ) → Bool

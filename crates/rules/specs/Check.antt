@@ -123,7 +123,7 @@ tableVerdict t =
     andThen (rowsVerdict t (length t))
     (andThen (refuseIf (leftOpen t) Misplaced) (callsVerdict t (length t)))
 
--- "Tests 1 and 2 come first": what any list of bytes gets as a source table
+-- "Tests 1 and 2 come first": what any list of bytes gets by 01 alone; specs/Given.antt has switches
 unfoldable pub verdictOf : List ℕ → Verdict
 verdictOf bs =
     andThen (refuseIf (noWholeRows bs) NoWholeRows)

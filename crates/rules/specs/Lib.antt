@@ -4,6 +4,8 @@ pub mod Row
 pub mod Scan
 pub mod Refusal
 pub mod Check
+pub mod Switch
+pub mod Given
 pub mod Value
 pub mod Line
 pub mod Harden
@@ -26,9 +28,11 @@ pub mod Checks
 pub mod Match
 pub mod Demands
 pub mod Reading
+pub mod Chained
 pub mod TablePromise
 pub mod RunPromise
 pub mod Promise
 pub mod Bounds
 pub mod Links
 pub mod Fault
+pub mod SwitchCases

@@ -6,7 +6,7 @@ use mathlib.Core.List.{List}
 use Rattle.rules.specs.Row.{tableOf}
 use Rattle.rules.specs.Line.{linesIn}
 use Rattle.rules.specs.ReadBack.{sourceBytes}
-use Rattle.rules.specs.Reading.{TenExactly}
+use Rattle.rules.specs.Chained.{TenExactly}
 use Rattle.rules.specs.Hardened.{counterForm}
 use Rattle.rules.specs.Calls.{HardenedRunning, runHardenedCall}
 use Rattle.rules.specs.RunPromise.{RunPromise}

@@ -1,6 +1,7 @@
--- Demand 2 of reading back, as types. proofs/Reading.antt proves them.
+-- Demand 2 of reading back for the tables of 01, as types. proofs/Reading.antt proves them; specs/Chained.antt has it for tables with
+-- switches.
 use Prim.Native.Nat.{ℕ}
-use mathlib.Core.Logic.{_↔_, _≢_}
+use mathlib.Core.Logic.{_↔_}
 use mathlib.Core.Path.{_≡_}
 use mathlib.Core.Bool.{true}
 use mathlib.Core.List.{List}
@@ -14,8 +15,8 @@ use Rattle.rules.specs.ReadBack.{sourceBytes, isHardened}
 abbrev pub ReadsBack : Type 0
 ReadsBack = (rows : List ℕ) → AreBytes rows → verdictOf rows ≡ Accepted → sourceBytes (hardenedBytes rows) ≡ rows
 
--- a source table that hardens to these bytes
-pub record Given (lines : List ℕ) : Type 0 where
+-- a source table without switches that hardens to these bytes
+pub record PlainSource (lines : List ℕ) : Type 0 where
   pub rows : List ℕ
   pub are-bytes : AreBytes rows
   pub accepted : verdictOf rows ≡ Accepted
@@ -23,21 +24,10 @@ pub record Given (lines : List ℕ) : Type 0 where
 
 -- "Is a hardened table" holds of exactly the bytes that some source table hardens to.
 abbrev pub Recognises : Type 0
-Recognises = (lines : List ℕ) → AreBytes lines → (isHardened lines ≡ true) ↔ Given lines
+Recognises = (lines : List ℕ) → AreBytes lines → (isHardened lines ≡ true) ↔ PlainSource lines
 
 -- Two source tables with the same hardened table are the same.
 abbrev pub OneSource : Type 0
 OneSource =
     (rows others : List ℕ) → AreBytes rows → AreBytes others → verdictOf rows ≡ Accepted → verdictOf others ≡ Accepted
     → hardenedBytes rows ≡ hardenedBytes others → rows ≡ others
-
--- "the reader refuses exactly what no source table hardens to": a call's number is 10 there, and nowhere else
-pub record TenExactly (lines : List ℕ) (number : ℕ) : Type 0 where
-  pub none : number ≡ 10 → Given lines → ⊥
-  pub some : number ≢ 10 → Given lines
-
--- these rows are the one source table that hardens to the lines
-pub record OnlySource (lines rows : List ℕ) : Type 0 where
-  pub accepted : verdictOf rows ≡ Accepted
-  pub hardens : hardenedBytes rows ≡ lines
-  pub only : (other : Given lines) → other .rows ≡ rows

@@ -45,7 +45,7 @@ pub record Refusals : Type 0 where
   pub too-long : checkCall (replicate 6150 0) ≡ 2
   -- 3: a kind, an op, a p, a q, an unused field
   pub kind-zero : number (0 ∷ []) ≡ 3
-  pub kind-ten : number (function ∷ 0x0a0000000000 ∷ end ∷ []) ≡ 3
+  pub kind-thirteen : number (function ∷ 0x0d0000000000 ∷ end ∷ []) ≡ 3
   pub do-op : number (function ∷ 0x020400000000 ∷ end ∷ []) ≡ 3
   pub test-op : number (function ∷ 0x030300000000 ∷ end ∷ end ∷ []) ≡ 3
   pub p-over : number (function ∷ 0x020010000000 ∷ end ∷ []) ≡ 3
@@ -55,7 +55,7 @@ pub record Refusals : Type 0 where
   pub end-field : number (function ∷ 0x060000000001 ∷ []) ≡ 3
   -- 3 before 4 at a row, and the earlier row first
   pub field-first : number (0x020400000000 ∷ []) ≡ 3
-  pub row-first : number (end ∷ 0x0a0000000000 ∷ []) ≡ 4
+  pub row-first : number (end ∷ 0x0d0000000000 ∷ []) ≡ 4
   -- 4: outside, function in function, else without open then part, break outside a loop, left open
   pub outside : number (end ∷ []) ≡ 4
   pub function-inside : number (function ∷ function ∷ end ∷ end ∷ []) ≡ 4

@@ -18,6 +18,7 @@ pub fn of_refusal(r: Refusal) -> u8
         Refusal::ShortOutput => 8,
         Refusal::ShortRoom => 9,
         Refusal::NotHardened => 10,
+        Refusal::RepeatedCase => 11,
     }
 }
 

@@ -1,4 +1,4 @@
-// What turns a call away (01, the table of that name). specs/Refusal.antt lists the number of each.
+// What turns a call away (01, the table of that name; 02, No. 1). specs/Refusal.antt lists the number of each.
 pub enum Refusal {
     NoWholeRows,
     TooManyRows,
@@ -10,6 +10,7 @@ pub enum Refusal {
     ShortOutput,
     ShortRoom,
     NotHardened,
+    RepeatedCase,
 }
 
 pub enum Verdict {
