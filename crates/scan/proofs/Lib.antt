@@ -1,0 +1,4 @@
+pub mod Limits
+pub mod Parts
+pub mod Rows
+pub mod Steps
