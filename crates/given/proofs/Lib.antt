@@ -1,0 +1,10 @@
+pub mod Sorts
+pub mod Numbers
+pub mod Through
+pub mod Spans
+pub mod Marks
+pub mod Plans
+pub mod Rows
+pub mod Taken
+pub mod Dos
+pub mod Cases
