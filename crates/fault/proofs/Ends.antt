@@ -1,245 +1,290 @@
 -- The passes over a table and what they find, as laws. Assumes nothing.
-use mathlib.Core.Logic.{_⊎_, inl, inr}
 use mathlib.Core.Path.{_≡_, refl, sym, ap, _∙_, subst}
-use mathlib.Core.Bool.{Bool, true, false, not}
+use mathlib.Core.Bool.{Bool, true, false, cond, not, _&&_}
 use mathlib.Core.List.{List, [], _∷_}
-use Prim.Native.Nat.{ℕ, zero, suc, _+_, _*_, _/_, _%_, _-_, _≤_, _<_}
-use native.Mathlib.Nat.{eq-or-lt-of-le, not-suc-le-zero}
+use Prim.Native.Nat.{ℕ, _+_, _*_, _/_, _%_, _-_, _≤_, _<_}
 use native.Mathlib.Numerals.{add-one}
 use native.Mathlib.Omega.{arith}
-use lib.ListN.{length, take, drop, length-drop}
-use borrow.Author.Tests.{eq-eqb, ne-eqb, lt-ltb}
-use Rattle.rules.specs.declared.kind.Kind.{Kind}
-use Rattle.rules.specs.declared.answer.Fault.{Fault}
+use lib.Dec.{eqb, ltb, leb}
+use lib.ListN.{length, getD, take, drop}
+use borrow.Author.Tests.{eq-eqb, ne-eqb, eqb-true, eqb-false, ltb-true, ltb-false, lt-ltb, le-ltb}
 use Rattle.rules.specs.declared.refusal.Refusal.{Refusal}
-use Rattle.rules.specs.declared.refusal.Refusal.the-variants.{NoWholeRows, TooManyRows, WrongField, Misplaced, TooManyFunctions, TooManyParts, NoSuchFunction, ShortOutput, ShortRoom, NotHardened}
-use Rattle.rules.specs.declared.refusal.Verdict.{Verdict}
+use Rattle.rules.specs.declared.refusal.Refusal.the-variants.{NoWholeRows, TooManyRows, Misplaced, NoSuchFunction}
 use Rattle.rules.specs.declared.refusal.Verdict.the-variants.{Accepted, Refused}
-use Rattle.rules.specs.Row.{Table, rowWidth, rowIn, tableOf}
-use Rattle.rules.specs.Scan.{Open, regions, openAt, functions}
-use Rattle.rules.specs.Refusal.{isAccepted, refuseIf, andThen}
-use Rattle.rules.specs.Check.{wrongField, misplaced, tooManyFunctions, tooManyParts, noSuchFunction, rowVerdict, rowsVerdict, callsVerdict, verdictOf}
-use Rattle.rules.specs.Fault.{isFaulty, faultyRow, callingRow, faultRow, stopRow, faultCall}
-use Rattle.rules.proofs.Logic.{clash}
+use Rattle.rules.specs.Limits.{maxRows, maxConstructs}
+use Rattle.rules.specs.Row.{Row, rowWidth, rowIn, kindOf, tableBytes}
+use Rattle.rules.specs.Scan.{openAt, regions, functions, functionCount}
+use Rattle.rules.specs.Refusal.{isAccepted}
+use Rattle.rules.specs.Check.{isCall, rowsVerdict, callsVerdict}
+use Rattle.rules.specs.Switch.{asIs, switchRow, caseRow, defaultRow, givenAs, givenOf, givenAt, Thing, thingsAt, chainTo, chainOf}
+use Rattle.rules.specs.Given.{isAny, givenRowVerdict, givenRowsVerdict, givenTableVerdict, givenVerdict}
+use Rattle.rules.specs.Fault.{rowOf, callsBeyond, callingRow, faultRow}
+use Rattle.rules.proofs.Logic.{Order, less, same, more, order}
 use Rattle.rules.proofs.Search.{first-is}
-use Rattle.rules.proofs.Accepted.{then-left, then-right, proper-calls, table-length}
-use Rattle.rows.specs.First.{firstKind, callsBeyond}
-use Rattle.rows.proofs.Rows.{rest-all, cut-end}
-use Rattle.walk.proofs.Verdicts.{table-refused, left-open, none-open}
-use Rattle.table.proofs.Whole.{CallsTo, calls-start, calls-on, calls-done, calls-beyond, beyond-is}
-use Rattle.table.proofs.Accepting.{verdict-of}
-use Rattle.fault.specs.declared.open.Standing.{Standing}
-use Rattle.fault.specs.declared.open.Next.{Next}
-use Rattle.fault.specs.declared.open.Next.the-variants.{Faulty, On}
+use Rattle.rules.proofs.Switch.Chain.{given-length, chain-table}
+use Rattle.rules.proofs.Switch.Rows.{table-refused, faulty-first, row-cause, row-of-cause, end-open, end-long, end-calls, calls-found, calls-all}
+use Rattle.rows.specs.First as rows
+use Rattle.rows.proofs.Rows.{rest-all}
+use Rattle.scan.specs.declared.open.Standing.{Standing}
+use Rattle.scan.specs.Standing.{none}
+use Rattle.scan.proofs.Parts.{bytes-none}
+use Rattle.given.specs.declared.row.After.{After}
+use Rattle.given.specs.declared.row.After.the-variants as after
+use Rattle.given.specs.declared.things.Things.{Things}
+use Rattle.given.specs.Through.{Written}
+use Rattle.given.specs.Reached.{Reached, Here, RowOk}
+use Rattle.given.proofs.Rows.{given-at}
+use Rattle.fault.specs.declared.Found.{Found}
+use Rattle.fault.specs.declared.Found.the-variants.{Faulty, Chain}
 use Rattle.fault.specs.declared.pass.Passed.{Passed}
 use Rattle.fault.specs.declared.pass.Passed.the-variants.{Stopped, Counted}
-use Rattle.fault.specs.Standing.{Parts, Stands, Sane, none}
-use Rattle.fault.specs.Next.{At, NextOk}
-use Rattle.fault.specs.Found.{faultAt, endOf, PassedOk, CallsLeft}
-use Rattle.fault.proofs.Parts.{bytes-none}
-
--- ---- no row before row n has a fault
-row-before : (t : Table) (n : ℕ) → rowsVerdict t n ≡ Accepted → (m : ℕ) → m < n → rowVerdict t m ≡ Accepted
-unfolding rowsVerdict
-row-before t zero e m h = absurd (not-suc-le-zero h)
-row-before t (suc n) e m h = by (eq-or-lt-of-le h) (λ l. row-before t n (then-left _ _ e) m l)
-  where
-    by : (suc m ≡ suc n) ⊎ (suc m < suc n) → (m < n → rowVerdict t m ≡ Accepted) → rowVerdict t m ≡ Accepted
-    by (inl q) ih =
-        let r : m ≡ n = omega arith in
-        ap (rowVerdict t) r ∙ then-right (rowsVerdict t n) _ e
-    by (inr l) ih = ih (omega arith)
-
-faulty-first : (t : Table) (i : ℕ) → rowsVerdict t i ≡ Accepted → i ≤ length t → (i < length t → isFaulty t i ≡ true) → faultyRow t ≡ i
-faulty-first t i g l f =
-    first-is (isFaulty t) (length t) 0 i (omega arith) (omega arith) (λ h. f (omega arith))
-    (λ m a b. ap (λ v. not (isAccepted v)) (row-before t i g m b))
-
-calling-first : (t : Table) (i : ℕ) → callsVerdict t i ≡ Accepted → i < length t → noSuchFunction t i ≡ true → callingRow t ≡ i
-calling-first t i g l f =
-    first-is (noSuchFunction t) (length t) 0 i (omega arith) (omega arith) (λ h. f) (λ m a b. proper-calls t i g m b)
-
--- ---- the causes of a row
-isRowCause : Refusal → Bool
-isRowCause NoWholeRows = false
-isRowCause TooManyRows = false
-isRowCause WrongField = true
-isRowCause Misplaced = true
-isRowCause TooManyFunctions = true
-isRowCause TooManyParts = true
-isRowCause NoSuchFunction = false
-isRowCause ShortOutput = false
-isRowCause ShortRoom = false
-isRowCause NotHardened = false
-
-byRow : Verdict → Bool
-byRow Accepted = true
-byRow (Refused c) = isRowCause c
-
-four-causes : (a b c d : Bool)
-    → byRow (andThen (refuseIf a WrongField) (andThen (refuseIf b Misplaced) (andThen (refuseIf c TooManyFunctions) (refuseIf d TooManyParts)))) ≡ true
-unfolding isRowCause byRow
-four-causes true b c d = refl
-four-causes false true c d = refl
-four-causes false false true d = refl
-four-causes false false false true = refl
-four-causes false false false false = refl
-
-row-cause : (t : Table) (i : ℕ) {c : Refusal} → rowVerdict t i ≡ Refused c → isRowCause c ≡ true
-unfolding rowVerdict byRow
-row-cause t i e = sym (ap byRow e) ∙ four-causes (wrongField t i) (misplaced t i) (tooManyFunctions t i) (tooManyParts t i)
-
-row-of : (c : Refusal) → isRowCause c ≡ true → (bs : List ℕ) → faultRow c bs ≡ faultyRow (tableOf bs)
-unfolding isRowCause faultRow
-row-of NoWholeRows e bs = clash e refl
-row-of TooManyRows e bs = clash e refl
-row-of WrongField e bs = refl
-row-of Misplaced e bs = refl
-row-of TooManyFunctions e bs = refl
-row-of TooManyParts e bs = refl
-row-of NoSuchFunction e bs = clash e refl
-row-of ShortOutput e bs = clash e refl
-row-of ShortRoom e bs = clash e refl
-row-of NotHardened e bs = clash e refl
+use Rattle.fault.specs.Found.{nothing, endOf, lastOf, StoppedAt, Chained, PassedOk, FoundOk}
 
 -- ---- the pass over the rows, up to row `at`
-pub record PassTo (bs : List ℕ) (at : ℕ) (s : Standing) (ps : List ℕ) : Type 0 where
-  pub le : 6 * at ≤ length bs
-  pub small : length bs ≤ 6144
-  pub sane : Sane s ps
-  pub stands : Stands bs at s ps
+pub record PassTo (bs out₀ : List ℕ) (at : ℕ) (s : Standing) (ps : List ℕ) (t : Things) (ms vs us out : List ℕ) : Type 0 where
+  pub le : rowWidth * at ≤ length bs
+  pub few : length bs ≤ rowWidth * maxRows
+  pub reached : Reached bs at s ps t ms vs us out
+  pub long : length out ≡ length out₀
 
-pub pass-start : {bs ps : List ℕ} {s : Standing} → length bs ≤ 6144 → length ps ≡ 17 → s ≡ none → PassTo bs 0 s ps
-unfolding rowsVerdict openAt regions functions
-pass-start {bs} {ps} h l q = rw q (record {
+pub pass-start : {bs ps ms vs us out : List ℕ} {s : Standing} {t : Things} → length bs ≤ rowWidth * maxRows → length ps ≡ maxConstructs + 1
+    → length ms ≡ maxRows → length vs ≡ maxRows → length us ≡ maxConstructs + 1 → s ≡ none → t ≡ nothing → PassTo bs out 0 s ps t ms vs us out
+unfolding rowsVerdict openAt regions functions givenRowsVerdict thingsAt chainTo tableBytes
+pass-start {bs} {ps} h l a b c q r = rw (q, r) (record {
   le = omega arith;
-  small = h;
-  sane = record {
-    long = l;
-    deep = omega arith;
-    loops-are = bytes-none ps;
-    loops-low = omega arith;
-    regions-low = omega arith;
-    functions-low = omega arith;
+  few = h;
+  reached = record {
+    good = refl;
+    chain = record { good = refl; parts = record { depth-is = refl; spelt = tt; rooted = tt; opened-are = tt }; count-is = refl };
+    chained-is = refl;
+    things = record { count-is = refl; cases-are = refl; spelt = tt };
+    written = λ z. refl;
+    long-is = λ z. absurd (let y : ⊥ = omega arith in y);
+    sane = record {
+      long = l;
+      deep = omega arith;
+      loops-are = bytes-none ps;
+      loops-low = omega arith;
+      regions-low = omega arith;
+      functions-low = omega arith;
+    };
+    marks-long = a;
+    vars-long = b;
+    words-long = c;
+    count-low = omega arith;
+    cases-low = omega arith;
+    chained-low = omega arith;
   };
-  stands = record { good = refl; parts = record { depth-is = refl; spelt = tt; rooted = tt; opened-are = tt }; count-is = refl };
+  long = refl;
 })
 
-module _ {bs : List ℕ} {at : ℕ} {s : Standing} {ps : List ℕ} (v : PassTo bs at s ps) where
-  module _ {k : Kind} {ps' : List ℕ} {r : Next} (h : 6 * at + 5 < length bs) (q : k ≡ firstKind (take (length bs - 6 * at) (drop (6 * at) bs)))
-      (ok : NextOk k s ps ps' r) where
-    at-row : At k bs at
-    at-row = record { within = h; kind-is = ap firstKind (sym (rest-all (6 * at) bs)) ∙ sym q }
+module _ {bs : List ℕ} {at : ℕ} {s : Standing} {ps : List ℕ} {t : Things} {ms vs us out out₀ : List ℕ} (v : PassTo bs out₀ at s ps t ms vs us out) where
+  pub pass-here : rowWidth * at + 5 < length bs → Here bs at
+  pass-here h = record { within = h; few = v .few }
 
-    row-here : at < length (tableOf bs)
-    row-here = omega (arith, table-length bs)
+  module _ (h : rowWidth * at + 5 < length bs) {ps' ms' vs' us' out' : List ℕ} {r : After} (ok : RowOk bs at ps' ms' vs' us' out' r) where
+    row-here : at < length (givenOf bs)
+    row-here = omega (arith, given-length bs)
 
-    pub pass-stopped : {c : Refusal} → r ≡ Faulty c → PassedOk bs (Stopped c at)
+    pub pass-stopped : {c : Refusal} → r ≡ after.Faulty c → PassedOk bs out' (Stopped c at)
     pass-stopped {c} m =
-        let o = rw m at ok in
-        let e : rowVerdict (tableOf bs) at ≡ Refused c = o .leads bs at at-row (v .stands) in
+        let e : givenRowVerdict (givenOf bs) (chainOf (givenOf bs)) at ≡ Refused c = (subst (RowOk bs at ps' ms' vs' us' out') m ok) .leads in
         record {
           leads = record {
-            refused = table-refused (tableOf bs) at (v .stands .good) row-here e;
-            row-is = row-of c (row-cause (tableOf bs) at e) bs
-                ∙ faulty-first (tableOf bs) at (v .stands .good) (omega (arith, row-here)) (λ l. ap (λ x. not (isAccepted x)) e);
+            refused = table-refused (givenOf bs) (chainOf (givenOf bs)) at (v .reached .good) row-here e;
+            row-is = row-of-cause c (row-cause (givenOf bs) (chainOf (givenOf bs)) at e) bs
+                ∙ faulty-first (givenOf bs) (chainOf (givenOf bs)) at (v .reached .good) (omega (arith, row-here)) (λ l. ap (λ x. not (isAccepted x)) e);
           };
         }
 
-    pub pass-on : {s' : Standing} → r ≡ On s' → PassTo bs (at + 1) s' ps'
-    pass-on {s'} m =
-        let o = rw m at ok in
+    pub pass-on : {s' : Standing} {t' : Things} → r ≡ after.On s' t' → length out' ≡ length out → PassTo bs out₀ (at + 1) s' ps' t' ms' vs' us' out'
+    pass-on {s'} {t'} m l =
         record {
           le = omega arith;
-          small = v .small;
-          sane = o .sane;
-          stands = subst (λ i. Stands bs i s' ps') (sym (add-one at)) (o .leads bs at at-row (v .stands));
+          few = v .few;
+          reached = subst (λ i. Reached bs i s' ps' t' ms' vs' us' out') (sym (add-one at)) ((subst (RowOk bs at ps' ms' vs' us' out') m ok) .leads);
+          long = l ∙ v .long;
         }
 
   -- the end of the table
-  at-end : length bs ≤ 6 * at + 5 → at ≡ length (tableOf bs)
-  at-end h = cut-end bs (drop (6 * at) bs) at refl (v .le) (omega (arith, length-drop (6 * at) bs))
+  module _ (h : length bs ≤ rowWidth * at + 5) where
+    at-end : at ≡ length (givenOf bs)
+    at-end = omega (arith, given-length bs, v .le)
 
-  ended : (fs : List Open) → openAt (tableOf bs) at ≡ fs → Parts fs (regions (tableOf bs) at) s ps → at ≡ length (tableOf bs) → PassedOk bs (endOf s at)
-  unfolding endOf isRowCause
-  ended [] q w z =
-      let g : rowsVerdict (tableOf bs) (length (tableOf bs)) ≡ Accepted = ap (rowsVerdict (tableOf bs)) (sym z) ∙ v .stands .good in
-      rw (eq-eqb (s .depth) 0 (sym (w .depth-is))) (record {
-        leads = record {
-          calls-left = none-open (tableOf bs) g (ap (openAt (tableOf bs)) (sym z) ∙ q);
-          count-is = sym (v .stands .count-is) ∙ ap (functions (tableOf bs)) z;
-        };
-      })
-  ended (f ∷ fs) q w z =
-      let g : rowsVerdict (tableOf bs) (length (tableOf bs)) ≡ Accepted = ap (rowsVerdict (tableOf bs)) (sym z) ∙ v .stands .good in
-      let n : s .depth ≡ 0 → ⊥ = (λ e. omega (arith, w .depth-is)) in
-      rw (ne-eqb (s .depth) 0 n) (record {
-        leads = record {
-          refused = left-open (tableOf bs) g (ap (openAt (tableOf bs)) (sym z) ∙ q);
-          row-is = row-of Misplaced misplaced-row bs ∙ faulty-first (tableOf bs) at (v .stands .good) (omega arith) (λ l. absurd (let x : ⊥ = omega arith in x));
-        };
-      })
-    where
-      misplaced-row : isRowCause Misplaced ≡ true
-      misplaced-row = refl
+    good-all : givenRowsVerdict (givenOf bs) (chainOf (givenOf bs)) (length (givenOf bs)) ≡ Accepted
+    good-all = ap (givenRowsVerdict (givenOf bs) (chainOf (givenOf bs))) (sym at-end) ∙ v .reached .good
 
-  pub pass-end : {r : Passed} → length bs ≤ 6 * at + 5 → r ≡ endOf s at → PassedOk bs r
-  pass-end h q = rw q (ended (openAt (tableOf bs) at) refl (v .stands .parts) (at-end h))
+    any-open : (ts : List Thing) → length ts ≡ t .count → (b : Bool) → eqb (t .count) 0 ≡ b → isAny ts ≡ not b
+    any-open [] q true e = refl
+    any-open [] q false e = absurd (eqb-false (t .count) 0 e (sym q))
+    any-open (x ∷ ts) q true e = absurd (let z : ⊥ = omega (arith, eqb-true (t .count) 0 e, q) in z)
+    any-open (x ∷ ts) q false e = refl
 
-pub ruleset passing = (pass-start, pass-stopped, pass-on, pass-end)
+    open-now : (b : Bool) → eqb (t .count) 0 ≡ b → isAny (thingsAt (givenOf bs) (length (givenOf bs))) ≡ not b
+    open-now b e = ap (λ i. isAny (thingsAt (givenOf bs) i)) (sym at-end) ∙ any-open (thingsAt (givenOf bs) at) (v .reached .things .count-is) b e
 
--- ---- what the call answers
-refused-is : (bs : List ℕ) {c : Refusal} {row : ℕ} {f : Fault} → verdictOf bs ≡ Refused c → faultRow c bs ≡ row → f ≡ faultAt c row → f ≡ faultCall bs
-unfolding faultCall stopRow
-refused-is bs e q p = rw (e, q) p
+    chained-all : t .chained ≡ length (chainOf (givenOf bs))
+    chained-all = sym (v .reached .chained-is) ∙ ap (λ i. length (chainTo (givenOf bs) i)) at-end
 
-accepted-is : (bs : List ℕ) (row : ℕ) → verdictOf bs ≡ Accepted → row ≡ length bs / rowWidth → record { number = 0; row = row } ≡ faultCall bs
-unfolding faultCall stopRow
-accepted-is bs row e q = rw (e, q)
-
-module _ {bs : List ℕ} {n at : ℕ} (left : CallsLeft bs n) (v : CallsTo bs at) where
-  pub left-done : length bs ≤ 6 * at + 5 → record { number = 0; row = at } ≡ faultCall bs
-  left-done h =
-      accepted-is bs at (left .whole ∙ left .sound .calls-left ∙ sym (calls-done v h))
-      (cut-end bs (drop (6 * at) bs) at refl (v .le) (omega (arith, length-drop (6 * at) bs)) ∙ table-length bs)
-
-  module _ {b : Bool} (h : 6 * at + 5 < length bs) (ok : b ≡ callsBeyond n (rowIn (take (length bs - 6 * at) (drop (6 * at) bs)) 0)) where
-    pub left-beyond : {f : Fault} → b ≡ true → f ≡ faultAt NoSuchFunction at → f ≡ faultCall bs
+    left-open : eqb (t .count) 0 ≡ false → StoppedAt bs Misplaced at
     unfolding faultRow
-    left-beyond m q =
-        refused-is bs (left .whole ∙ left .sound .calls-left ∙ sym (calls-beyond v h (left .sound .count-is) ok m))
-        (calling-first (tableOf bs) at (v .good) (omega (arith, table-length bs)) (beyond-is bs at n h (left .sound .count-is) ∙ sym ok ∙ m)) q
+    left-open e =
+        record {
+          refused = end-open (givenOf bs) (chainOf (givenOf bs)) good-all (open-now false e);
+          row-is = faulty-first (givenOf bs) (chainOf (givenOf bs)) at (v .reached .good) (omega (arith, at-end)) (λ l. absurd (let z : ⊥ = omega (arith, at-end) in z));
+        }
 
-    pub left-on : b ≡ false → CallsTo bs (at + 1)
-    left-on m = calls-on v h (left .sound .count-is) ok m
+    counted : eqb (t .count) 0 ≡ true → Chained bs (s .count) (t .chained) (t .long) out
+    counted e =
+        record {
+          good = good-all;
+          closed = open-now true e;
+          count-is = sym (v .reached .chain .count-is) ∙ ap (λ c. functions c (t .chained)) (chain-table bs) ∙ ap (functions (chainOf (givenOf bs))) chained-all;
+          rows-are = chained-all;
+          long-is = v .reached .long-is;
+          written = subst (λ i. Written (chainTo (givenOf bs) i) out) at-end (v .reached .written);
+        }
 
-pub ruleset leaving = (calls-start, left-done, left-beyond, left-on)
+    pub pass-end : {r : Passed} → r ≡ endOf s t at → PassedOk bs out r
+    pass-end {r} q = subst (PassedOk bs out) (sym q) (by (eqb (t .count) 0) refl)
+      where
+        by : (a : Bool) → eqb (t .count) 0 ≡ a → PassedOk bs out (cond a (Counted (s .count) (t .chained) (t .long)) (Stopped Misplaced at))
+        by true e = record { leads = counted e }
+        by false e = record { leads = left-open e }
 
-module _ (bs : List ℕ) {f : Fault} where
-  pub find-none : length bs ≡ 0 → f ≡ faultAt NoWholeRows 0 → f ≡ faultCall bs
-  unfolding verdictOf faultRow
-  find-none h q = refused-is bs {c = NoWholeRows} (rw h) (omega arith) q
+-- what the end answers, by how many things are open
+module _ (s : Standing) (t : Things) (at : ℕ) where
+  pub some-open : (t .count ≡ 0 → ⊥) → Stopped Misplaced at ≡ endOf s t at
+  some-open n = rw (ne-eqb (t .count) 0 n)
+
+  pub none-open : t .count ≡ 0 → Counted (s .count) (t .chained) (t .long) ≡ endOf s t at
+  none-open e = rw (eq-eqb (t .count) 0 e)
+
+-- ---- the calls
+-- no row before row `at` calls a function that isn't there
+pub record CallsTo (bs : List ℕ) (count at : ℕ) : Type 0 where
+  pub le : rowWidth * at ≤ length bs
+  pub none : (m : ℕ) → m < at → callsBeyond count (givenAt (givenOf bs) m) ≡ false
+
+pub calls-start : {bs : List ℕ} {count : ℕ} → CallsTo bs count 0
+calls-start = record { le = omega arith; none = λ m l. absurd (let z : ⊥ = omega arith in z) }
+
+beyond-as : (count b : ℕ) (r : Row) → r .kind ≡ kindOf b → callsBeyond count (givenAs b r) ≡ rows.callsBeyond count r
+unfolding givenAs callsBeyond rows.callsBeyond kindOf
+beyond-as count b r q = by (eqb b 0x0a) (eqb b 0x0b) (eqb b 0x0c) refl refl refl
+  where
+    other : (k : ℕ) → b ≡ k → rows.callsBeyond count r ≡ isCall (kindOf k) && leb count (r .operands .n)
+    other k e = ap (λ x. isCall x && leb count (r .operands .n)) (q ∙ ap kindOf e)
+
+    by : (x y z : Bool) → eqb b 0x0a ≡ x → eqb b 0x0b ≡ y → eqb b 0x0c ≡ z
+        → callsBeyond count (cond x (switchRow (r .operands)) (cond y (caseRow (r .operands)) (cond z (defaultRow (r .operands)) (asIs r)))) ≡ rows.callsBeyond count r
+    by true y z e f g = sym (other 0x0a (eqb-true b 0x0a e))
+    by false true z e f g = sym (other 0x0b (eqb-true b 0x0b f))
+    by false false true e f g = sym (other 0x0c (eqb-true b 0x0c g))
+    by false false false e f g = refl
+
+module _ {bs : List ℕ} {count at : ℕ} (v : CallsTo bs count at) where
+  module _ (h : rowWidth * at + 5 < length bs) {b : Bool} (ok : b ≡ rows.callsBeyond count (rowIn (take (length bs - rowWidth * at) (drop (rowWidth * at) bs)) 0)) where
+    row-calls : callsBeyond count (givenAt (givenOf bs) at) ≡ b
+    unfolding rowIn
+    row-calls =
+        let xs = drop (rowWidth * at) bs in
+        ap (callsBeyond count) (given-at bs at h) ∙ beyond-as count (getD xs 0 0) (rowIn xs 0) refl
+        ∙ ap (λ l. rows.callsBeyond count (rowIn l 0)) (sym (rest-all (rowWidth * at) bs)) ∙ sym ok
+
+    pub calls-here : b ≡ true → at ≡ callingRow (givenOf bs) count
+    calls-here e =
+        sym (first-is (λ i. callsBeyond count (givenAt (givenOf bs) i)) (length (givenOf bs)) 0 at (omega arith) (omega (arith, given-length bs)) (λ l. row-calls ∙ e)
+        (λ m a l. v .none m l))
+
+    pub calls-on : b ≡ false → CallsTo bs count (at + 1)
+    calls-on e = record { le = omega arith; none = λ m l. next m (order m at) (omega arith) }
+      where
+        next : (m : ℕ) → Order m at → m ≤ at → callsBeyond count (givenAt (givenOf bs) m) ≡ false
+        next m (less q) l = v .none m q
+        next m (same q) l = ap (λ i. callsBeyond count (givenAt (givenOf bs) i)) q ∙ row-calls ∙ e
+        next m (more q) l = absurd (let z : ⊥ = omega arith in z)
+
+  pub calls-done : length bs ≤ rowWidth * at + 5 → at ≡ callingRow (givenOf bs) count
+  calls-done h =
+      let q : at ≡ length (givenOf bs) = omega (arith, given-length bs, v .le) in
+      sym (first-is (λ i. callsBeyond count (givenAt (givenOf bs) i)) (length (givenOf bs)) 0 at (omega arith) (omega arith)
+      (λ l. absurd (let z : ⊥ = omega arith in z)) (λ m a l. v .none m l))
+
+-- ---- the whole
+module _ (bs out : List ℕ) where
+  pub find-none : length bs ≡ 0 → FoundOk bs out (Faulty NoWholeRows 0)
+  unfolding givenVerdict faultRow
+  find-none h = record { leads = record { refused = rw h; row-is = omega arith } }
 
   module _ (some : length bs ≡ 0 → ⊥) where
-    pub find-ragged : (length bs % 6 ≡ 0 → ⊥) → f ≡ faultAt NoWholeRows (length bs / 6) → f ≡ faultCall bs
-    unfolding verdictOf faultRow
-    find-ragged h q = refused-is bs {c = NoWholeRows} (rw (ne-eqb (length bs) 0 some, ne-eqb (length bs % 6) 0 h)) refl q
+    pub find-ragged : (length bs % rowWidth ≡ 0 → ⊥) → FoundOk bs out (Faulty NoWholeRows (length bs / rowWidth))
+    unfolding givenVerdict faultRow
+    find-ragged h = record { leads = record { refused = rw (ne-eqb (length bs) 0 some, ne-eqb (length bs % rowWidth) 0 h); row-is = refl } }
 
-    module _ (whole : length bs % 6 ≡ 0) where
-      pub find-long : 1024 < length bs / 6 → f ≡ faultAt TooManyRows 1024 → f ≡ faultCall bs
-      unfolding verdictOf faultRow
-      find-long h q = refused-is bs {c = TooManyRows} (rw (ne-eqb (length bs) 0 some, whole, lt-ltb 1024 (length bs / 6) h)) refl q
+    module _ (whole : length bs % rowWidth ≡ 0) where
+      pub find-long : maxRows < length bs / rowWidth → FoundOk bs out (Faulty TooManyRows maxRows)
+      unfolding givenVerdict faultRow
+      find-long h =
+          let e = lt-ltb maxRows (length bs / rowWidth) h in
+          record { leads = record { refused = rw (ne-eqb (length bs) 0 some, whole, e); row-is = ap (λ b. cond b maxRows (rowOf (givenOf bs) maxRows)) e } }
 
-      module _ (few : length bs / 6 ≤ 1024) {r : Passed} (ok : PassedOk bs r) where
-        pub find-stopped : {c : Refusal} {row : ℕ} → r ≡ Stopped c row → f ≡ faultAt c row → f ≡ faultCall bs
-        find-stopped m q =
-            let o = rw m at ok in
-            refused-is bs (verdict-of bs some whole few ∙ o .leads .refused) (o .leads .row-is) q
+      module _ (few : length bs / rowWidth ≤ maxRows) where
+        by-table : givenVerdict bs ≡ givenTableVerdict (givenOf bs) (chainOf (givenOf bs))
+        unfolding givenVerdict
+        by-table = rw (ne-eqb (length bs) 0 some, whole, le-ltb maxRows (length bs / rowWidth) few)
 
--- what `calls` asks
-pub find-left : {bs : List ℕ} {r : Passed} {n : ℕ} → (length bs ≡ 0 → ⊥) → length bs % 6 ≡ 0 → length bs / 6 ≤ 1024 → PassedOk bs r → r ≡ Counted n → CallsLeft bs n
-find-left {bs} some whole few ok m =
-    let o = rw m at ok in
-    record { whole = verdict-of bs some whole few; sound = o .leads }
+        module _ {r : Passed} (ok : PassedOk bs out r) where
+          pub find-stopped : {c : Refusal} {row : ℕ} → r ≡ Stopped c row → FoundOk bs out (Faulty c row)
+          find-stopped m =
+              let o = (subst (PassedOk bs out) m ok) .leads in
+              record { leads = record { refused = by-table ∙ o .refused; row-is = o .row-is } }
 
-pub ruleset finding = (find-none, find-ragged, find-long, find-stopped)
+          module _ {n chained long at : ℕ} (m : r ≡ Counted n chained long) (called : at ≡ callingRow (givenOf bs) n) where
+            counts : Chained bs n chained long out
+            counts = (subst (PassedOk bs out) m ok) .leads
+
+            called-is : at ≡ callingRow (givenOf bs) (functionCount (chainOf (givenOf bs)))
+            called-is = called ∙ ap (callingRow (givenOf bs)) (counts .count-is)
+
+            too-long : maxRows < chained → FoundOk bs out (Faulty TooManyRows long)
+            unfolding faultRow
+            too-long l =
+                record {
+                  leads = record {
+                    refused = by-table ∙ end-long (givenOf bs) (chainOf (givenOf bs)) (counts .good) (counts .closed) (omega (arith, counts .rows-are));
+                    row-is = ap (λ b. cond b maxRows (rowOf (givenOf bs) maxRows)) (le-ltb maxRows (length bs / rowWidth) few) ∙ counts .long-is l;
+                  };
+                }
+
+            calls-left : chained ≤ maxRows → givenVerdict bs ≡ callsVerdict (chainOf (givenOf bs)) (length (chainOf (givenOf bs)))
+            calls-left h = by-table ∙ end-calls (givenOf bs) (chainOf (givenOf bs)) (counts .good) (counts .closed) (omega (arith, counts .rows-are))
+
+            no-function : chained ≤ maxRows → at < length bs / rowWidth → FoundOk bs out (Faulty NoSuchFunction at)
+            unfolding faultRow
+            no-function h l =
+                record {
+                  leads = record {
+                    refused = calls-left h ∙ calls-found (givenOf bs) (omega (arith, called-is, given-length bs));
+                    row-is = sym called-is;
+                  };
+                }
+
+            has-chain : chained ≤ maxRows → length bs / rowWidth ≤ at → FoundOk bs out (Chain chained)
+            has-chain h l =
+                record {
+                  leads = record {
+                    accepted = calls-left h ∙ calls-all (givenOf bs) (omega (arith, called-is, given-length bs));
+                    rows-are = counts .rows-are;
+                    written = counts .written;
+                  };
+                }
+
+            pub find-last : {f : Found} → f ≡ lastOf chained long at (length bs / rowWidth) → FoundOk bs out f
+            find-last q = subst (FoundOk bs out) (sym q) (by (ltb maxRows chained) (ltb at (length bs / rowWidth)) refl refl)
+              where
+                by : (a b : Bool) → ltb maxRows chained ≡ a → ltb at (length bs / rowWidth) ≡ b
+                    → FoundOk bs out (cond a (Faulty TooManyRows long) (cond b (Faulty NoSuchFunction at) (Chain chained)))
+                by true b e f = too-long (ltb-true maxRows chained e)
+                by false true e f = no-function (ltb-false maxRows chained e) (ltb-true at (length bs / rowWidth) f)
+                by false false e f = has-chain (ltb-false maxRows chained e) (ltb-false at (length bs / rowWidth) f)

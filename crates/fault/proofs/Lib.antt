@@ -1,5 +1,1 @@
-pub mod Limits
-pub mod Parts
-pub mod Rows
-pub mod Steps
 pub mod Ends

@@ -1,60 +1,84 @@
-// Finding the fault of a source table: the number that `check` gives, and the row that it is about.
+// What a source table gets: the number and the row that it is about, or its chain.
 ghost use mathlib.Core.Path.{_≡_};
-ghost use Rattle.rules.specs.Fault.{faultCall};
-ghost use Rattle.fault.specs.Found.{faultAt, CallsLeft};
+ghost use mathlib.Core.Bool.{cond};
+ghost use Rattle.rules.specs.Switch.{givenOf};
+ghost use Rattle.rules.specs.Fault.{callingRow};
+ghost use Rattle.fault.specs.Found.{lastOf, FoundOk};
 
-pub mod open;
 pub mod pass;
 
 use pass::Passed;
 use rows::LAST;
 use rows::WIDTH;
 use rows::first::calls_beyond;
-use rules::answer::Fault;
 use rules::limits::ROWS;
-use rules::number;
 use rules::refusal::Refusal;
 
-fn found(r: Refusal, row: usize) -> Fault
-    ensures { λ f. ⌜ f ≡ faultAt r row ⌝ }
-{
-    Fault {
-        number: number::of_refusal(r),
-        row,
-    }
+// Why the table is turned away, and the row; or how many rows its chain has.
+pub enum Found {
+    Faulty(Refusal, usize),
+    Chain(usize),
 }
 
-// The calls of a table with `count` functions that has no other fault.
-fn calls(rows: &[u8], count: usize) -> Fault
-    requires { ⌜ CallsLeft (now rows) count ⌝ }
-    ensures { λ r. ⌜ r ≡ faultCall (now (rows .entry)) ⌝ }
+// The first row that calls a function beyond `count`; the number of rows where none does.
+fn calling(rows: &[u8], count: usize) -> usize
+    ensures { λ r. ⌜ r ≡ callingRow (givenOf (now (rows .entry))) count ⌝ }
 {
     let mut at = 0;
     while WIDTH * at + LAST < rows.len() {
         let from = WIDTH * at;
         if calls_beyond(&rows[from..], count) {
-            return found(Refusal::NoSuchFunction, at);
+            return at;
         }
         at = at + 1;
     }
-    Fault { number: 0, row: at }
+    at
 }
 
-// One pass over the rows and one over the calls, in constant memory.
-pub fn find(rows: &[u8]) -> Fault
-    ensures { λ r. ⌜ r ≡ faultCall (now (rows .entry)) ⌝ }
+// The answer to the first of two causes that holds.
+fn first_of(one: bool, a: Found, other: bool, b: Found, neither: Found) -> Found
+    ensures { λ r. ⌜ r ≡ cond one a (cond other b neither) ⌝ }
+{
+    if one {
+        return a;
+    }
+    if other {
+        return b;
+    }
+    neither
+}
+
+// The last causes: a chain of over 1,024 rows, and a call, in row `at` of so many, of a function that isn't there.
+fn last(chained: usize, long: usize, at: usize, count: usize) -> Found
+    ensures { λ r. ⌜ r ≡ lastOf chained long at count ⌝ }
+{
+    first_of(
+        chained > ROWS,
+        Found::Faulty(Refusal::TooManyRows, long),
+        at < count,
+        Found::Faulty(Refusal::NoSuchFunction, at),
+        Found::Chain(chained),
+    )
+}
+
+// One pass over the rows and one over the calls. An accepted table's chain stands at the front of `chain` afterwards, where it fits there.
+pub fn find(rows: &[u8], chain: &mut [u8]) -> Found
+    ensures { λ r. ⌜ FoundOk (now (rows .entry)) (now (chain .exit)) r ⌝ }
 {
     if rows.len() == 0 {
-        return found(Refusal::NoWholeRows, 0);
+        return Found::Faulty(Refusal::NoWholeRows, 0);
     }
     if rows.len() % WIDTH != 0 {
-        return found(Refusal::NoWholeRows, rows.len() / WIDTH);
+        return Found::Faulty(Refusal::NoWholeRows, rows.len() / WIDTH);
     }
     if rows.len() / WIDTH > ROWS {
-        return found(Refusal::TooManyRows, ROWS);
+        return Found::Faulty(Refusal::TooManyRows, ROWS);
     }
-    match pass::rows(rows) {
-        Passed::Stopped(r, row) => found(r, row),
-        Passed::Counted(n) => calls(rows, n),
+    match pass::rows(rows, chain) {
+        Passed::Stopped(r, row) => Found::Faulty(r, row),
+        Passed::Counted(n, chained, long) => {
+            let at = calling(rows, n);
+            last(chained, long, at, rows.len() / WIDTH)
+        }
     }
 }

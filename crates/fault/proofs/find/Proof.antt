@@ -1,26 +1,22 @@
 -- `fault::find` meets its contract. Assumes nothing.
+use Rattle.fault.proofs.Ends.{find-none, find-ragged, find-long, find-stopped, find-last}
 use borrow.Author.Needs.{needs}
-use Rattle.fault.proofs.Ends.{find-left, finding}
 use Rattle.fault.proofs.find.Statement.{statement}
 use Rattle.fault.proofs.find.Tie as tie
-
-found-requires : tie.Need-found-requires
-found-requires c κs = search needs
+use Rattle.fault.proofs.find.Reads as reads
+use Rattle.fault.proofs.find.Lts as lts
+use Rattle.fault.proofs.calling.Reads as calling-reads
+use Rattle.fault.proofs.last.Reads as last-reads
+use Rattle.fault.proofs.pass.rows.Reads as rows-reads
 
 returns : tie.Need-returns
-returns c = search (finding, needs)
-
-found-requires-2 : tie.Need-found-requires-2
-found-requires-2 c κs = search needs
+returns c = find-none _ _ (c .if1 .taken)
 
 returns-2 : tie.Need-returns-2
-returns-2 c = search (finding, needs)
-
-found-requires-3 : tie.Need-found-requires-3
-found-requires-3 c κs = search needs
+returns-2 c = find-ragged _ _ (c .before .if1 .left) (c .if2 .taken)
 
 returns-3 : tie.Need-returns-3
-returns-3 c = search (finding, needs)
+returns-3 c = find-long _ _ (c .before .before .if1 .left) (c .before .if2 .left) (c .if3 .taken)
 
 rows-requires : tie.Need-rows-requires
 rows-requires c κs = search needs
@@ -28,35 +24,40 @@ rows-requires c κs = search needs
 enum-known-r : tie.Need-enum-known-r
 enum-known-r c = search needs
 
-found-requires-4 : tie.Need-found-requires-4
-found-requires-4 c κs = search needs
-
 enum-known-n : tie.Need-enum-known-n
 enum-known-n c = search needs
 
-calls-requires : tie.Need-calls-requires
-calls-requires c κs = search (find-left, needs)
+calling-requires : tie.Need-calling-requires
+calling-requires c κs = search needs
+
+last-requires : tie.Need-last-requires
+last-requires c κs = search needs
+
+same-length : tie.Need-same-length
+same-length c = search needs
 
 returns-4 : tie.Need-returns-4
-returns-4 c = search (finding, needs)
+returns-4 c = find-stopped _ _ (c .before .before .before .before .before .before .before .before .before .if1 .left) (c .before .before .before .before .before .before .before .before .if2 .left) (c .before .before .before .before .before .before .before .if3 .left) (c .before .before .before .before .before .rows .ensures) (c .before .r .given .1)
+
+same-length-2 : tie.Need-same-length-2
+same-length-2 c = search needs
 
 returns-5 : tie.Need-returns-5
-returns-5 c = search needs
+returns-5 c = find-last _ _ (c .before .before .before .before .before .before .before .before .before .before .before .if1 .left) (c .before .before .before .before .before .before .before .before .before .before .if2 .left) (c .before .before .before .before .before .before .before .before .before .if3 .left) (c .before .before .before .before .before .before .before .rows .ensures) (c .before .before .before .n .given .1) (c .before .calling .ensures) (c .last .ensures)
 
 pub find-spec : {M : Type 1} → statement M
 find-spec =
     tie.close
     (tie.spec
-    found-requires
     returns
-    found-requires-2
     returns-2
-    found-requires-3
     returns-3
     rows-requires
     enum-known-r
-    found-requires-4
     enum-known-n
-    calls-requires
+    calling-requires
+    last-requires
+    same-length
     returns-4
+    same-length-2
     returns-5)

@@ -1,21 +1,22 @@
--- `fault::calls` meets its contract. Assumes nothing.
+-- `fault::calling` meets its contract. Assumes nothing.
+use Rattle.fault.proofs.Ends.{CallsTo, calls-start, calls-here, calls-on, calls-done}
+use native.Mathlib.Omega.{arith}
 use Prim.Native.Nat.{_*_, _-_}
 use lib.ListN.{length}
-use native.Mathlib.Omega.{arith}
-use Rattle.table.proofs.Whole.{CallsTo}
-use Rattle.fault.proofs.Ends.{leaving}
-use borrow.Author.Needs.{needs}
-use Rattle.fault.proofs.calls.Statement.{statement}
-use Rattle.fault.proofs.calls.Tie as tie
+use Rattle.fault.proofs.calling.Statement.{statement}
+use Rattle.fault.proofs.calling.Tie as tie
+use Rattle.fault.proofs.calling.Reads as reads
+use Rattle.fault.proofs.calling.Lts as lts
+use Rattle.rows.proofs.first.calls_beyond.Reads as calls-beyond-reads
 
 abbrev Inv-loop : tie.InvT-loop
-Inv-loop rows count at₀ at = CallsTo rows at
+Inv-loop rows count at₀ at = CallsTo rows count at
 
 abbrev μ-loop : tie.MeasureT-loop
 μ-loop rows count at₀ at = length rows - 6 * at
 
 loop-holds : tie.Need-loop-holds Inv-loop μ-loop
-loop-holds c = search (leaving, needs)
+loop-holds c = calls-start
 
 mul-loop : tie.Need-mul-loop Inv-loop μ-loop
 mul-loop c = omega arith
@@ -38,11 +39,8 @@ part-calls-beyond-end c = omega arith
 calls-beyond-requires : tie.Need-calls-beyond-requires Inv-loop μ-loop
 calls-beyond-requires c κs = omega arith
 
-found-requires : tie.Need-found-requires Inv-loop μ-loop
-found-requires c κs = search needs
-
 returns : tie.Need-returns Inv-loop μ-loop
-returns c = search (leaving, needs)
+returns c = calls-here (c .before .before .before .before .loop .inv) (c .before .before .before .loop-test .taken) (c .before .calls-beyond .ensures) (c .if1 .taken)
 
 add-at : tie.Need-add-at Inv-loop μ-loop
 add-at c = omega arith
@@ -51,13 +49,13 @@ loop-less : tie.Need-loop-less Inv-loop μ-loop
 loop-less c = omega arith
 
 loop-again : tie.Need-loop-again Inv-loop μ-loop
-loop-again c = search (leaving, needs)
+loop-again c = calls-on (c .before .before .before .before .loop .inv) (c .before .before .before .loop-test .taken) (c .before .calls-beyond .ensures) (c .if1 .left)
 
 returns-2 : tie.Need-returns-2 Inv-loop μ-loop
-returns-2 c = search (leaving, needs)
+returns-2 c = calls-done (c .before .loop .inv) (c .loop-test .left)
 
-pub calls-spec : {M : Type 1} → statement M
-calls-spec =
+pub calling-spec : {M : Type 1} → statement M
+calling-spec =
     tie.close
     (tie.spec
     Inv-loop
@@ -70,7 +68,6 @@ calls-spec =
     part-calls-beyond-start
     part-calls-beyond-end
     calls-beyond-requires
-    found-requires
     returns
     add-at
     loop-less
