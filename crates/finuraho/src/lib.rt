@@ -10,8 +10,10 @@ ghost use Rattle.finuraho.specs.Given.{writes, refusedWith, runs, harden
 
 pub mod export;
 mod run;
+mod switched;
 
-use reader::Found;
+use fault::Found;
+use rows::WIDTH;
 use rules::answer::Fault;
 use rules::answer::Ran;
 use rules::answer::Wrote;
@@ -27,15 +29,29 @@ pub fn check(rows: &[u8]) -> u8
     let mut ends = table::check::row_words();
     let mut elses = table::check::row_words();
     let mut heads = table::check::function_words();
-    let v = table::check::check(rows, &mut ends, &mut elses, &mut heads);
-    number::of_verdict(v)
+    match table::check::check(rows, &mut ends, &mut elses, &mut heads) {
+        Verdict::Accepted => 0,
+        Verdict::Refused(_) => {
+            let f = fault(rows);
+            f.number
+        }
+    }
 }
 
 // The same number, and the row that it is about: the number of rows where that is the end of the table, or where there is no fault.
 pub fn fault(rows: &[u8]) -> Fault
     ensures { λ r. ⌜ r ≡ faultCall (now (rows .entry)) ⌝ }
 {
-    fault::find(rows)
+    match fault::find(rows, &mut []) {
+        Found::Faulty(r, row) => Fault {
+            number: number::of_refusal(r),
+            row,
+        },
+        Found::Chain(_) => Fault {
+            number: 0,
+            row: rows.len() / WIDTH,
+        },
+    }
 }
 
 fn refused(r: Refusal) -> Wrote
@@ -55,7 +71,7 @@ pub fn harden(rows: &[u8], out: &mut [u8]) -> Wrote
     let mut elses = table::check::row_words();
     let mut heads = table::check::function_words();
     match table::check::check(rows, &mut ends, &mut elses, &mut heads) {
-        Verdict::Refused(r) => refused(r),
+        Verdict::Refused(_) => switched::harden(rows, &mut ends, &mut elses, &mut heads, out),
         Verdict::Accepted => hardener::harden_linked(rows, &ends, &elses, &heads, out),
     }
 }
@@ -90,8 +106,8 @@ pub fn read_back(lines: &[u8], out: &mut [u8]) -> Wrote
 {
     let mut rows = reader::row_bytes();
     match reader::read(lines, &mut rows) {
-        Found::NotHardened => refused(Refusal::NotHardened),
-        Found::Source(n) => give(&rows[..n], out),
+        reader::Found::NotHardened => refused(Refusal::NotHardened),
+        reader::Found::Source(n) => give(&rows[..n], out),
     }
 }
 
@@ -103,7 +119,15 @@ pub fn run_source(rows: &[u8], variables: [u16; VARIABLES], budget: u16, trace: 
     let mut elses = table::check::row_words();
     let mut heads = table::check::function_words();
     match table::check::check(rows, &mut ends, &mut elses, &mut heads) {
-        Verdict::Refused(r) => run::refused(r, variables),
+        Verdict::Refused(_) => switched::run_source(
+            rows,
+            &mut ends,
+            &mut elses,
+            &mut heads,
+            variables,
+            budget,
+            trace,
+        ),
         Verdict::Accepted => run::source_run(rows, &ends, &elses, &heads, variables, budget, trace),
     }
 }

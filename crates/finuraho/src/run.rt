@@ -6,8 +6,8 @@ ghost use Rattle.rules.specs.Row.{tableOf};
 ghost use Rattle.rules.specs.Check.{verdictOf};
 ghost use Rattle.rules.specs.ReadBack.{isHardened};
 ghost use Rattle.rules.specs.Links.{Links};
-ghost use Rattle.rules.specs.Calls.{runSourceCall, runHardenedCall};
-ghost use Rattle.finuraho.specs.Given.{refusedRunWith, runs, hardenedRuns};
+ghost use Rattle.rules.specs.Calls.{runHardenedCall};
+ghost use Rattle.finuraho.specs.Given.{refusedRunWith, runs, sourceRuns, hardenedRuns};
 use rules::answer::Ran;
 use rules::limits::COUNTERS;
 use rules::limits::FUNCTIONS;
@@ -42,7 +42,7 @@ pub fn source_run(
 ) -> Ran
     requires { ⌜ verdictOf (now rows) ≡ Accepted ⌝ }
     requires { ⌜ Links (tableOf (now rows)) (now ends) (now elses) (now heads) ⌝ }
-    ensures { λ r. ⌜ runs r (now (trace .exit)) ≡ runSourceCall (now (rows .entry)) variables budget (now (trace .entry)) ⌝ }
+    ensures { λ r. ⌜ runs r (now (trace .exit)) ≡ sourceRuns (now (rows .entry)) variables budget (now (trace .entry)) ⌝ }
 {
     if trace.len() < budget as usize {
         return refused(Refusal::ShortRoom, variables);

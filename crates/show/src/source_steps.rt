@@ -10,6 +10,9 @@ ghost use Rattle.source.specs.Goes.{Known};
 ghost use Rattle.source.specs.Run.{partsIn, stoppedWith, Going, answerOf, runFrom};
 use crate::limit;
 use crate::row_text;
+use chain::Linked;
+use chain::SIZE;
+use chain::link;
 use rules::limits::FUNCTIONS;
 use rules::limits::ROWS;
 use rules::limits::VARIABLES;
@@ -84,7 +87,37 @@ fn list_accepted(
     limit::list(s, at, text)
 }
 
-// Nothing is listed where the table is refused.
+// The steps of a table with a switch, whose rows are those of its chain. Nothing is listed where the table is refused.
+fn list_switched(
+    rows: &[u8],
+    ends: &mut [u16; ROWS],
+    elses: &mut [u16; ROWS],
+    heads: &mut [u16; FUNCTIONS],
+    variables: [u16; VARIABLES],
+    budget: u16,
+    trace: &mut [u16],
+    text: &mut [u8; 65536],
+) -> usize
+    requires { ⌜ budget ≤ length (now trace) ⌝ }
+{
+    let mut chain = [0u8; SIZE];
+    match link(rows, &mut chain, ends, elses, heads) {
+        Linked::Refused(_) => 0,
+        Linked::Bytes(n) => {
+            list_accepted(
+                &chain[..n],
+                ends,
+                elses,
+                heads,
+                variables,
+                budget,
+                trace,
+                text,
+            )
+        }
+    }
+}
+
 pub fn list(
     rows: &[u8],
     variables: [u16; VARIABLES],
@@ -98,7 +131,16 @@ pub fn list(
     let mut elses = [0u16; ROWS];
     let mut heads = [0u16; FUNCTIONS];
     match table::check::check(rows, &mut ends, &mut elses, &mut heads) {
-        Verdict::Refused(_) => 0,
+        Verdict::Refused(_) => list_switched(
+            rows,
+            &mut ends,
+            &mut elses,
+            &mut heads,
+            variables,
+            budget,
+            trace,
+            text,
+        ),
         Verdict::Accepted => {
             list_accepted(rows, &ends, &elses, &heads, variables, budget, trace, text)
         }

@@ -1,8 +1,9 @@
-use mathlib.Core.Path.{ap, sym, _∙_}
+-- `finuraho::run::source_run` meets its contract. Assumes nothing.
+use Rattle.rules.proofs.Calls.{room-short, room-enough}
 use native.Mathlib.Omega.{arith}
+use mathlib.Core.Path.{ap, sym, _∙_}
 use denote.Ref.{now}
 use Rattle.finuraho.specs.Given.{runs}
-use Rattle.rules.proofs.Calls.{run-source-short, run-source-accepted}
 use borrow.Author.Needs.{needs}
 use Rattle.finuraho.proofs.run.source_run.Statement.{statement}
 use Rattle.finuraho.proofs.run.source_run.Tie as tie
@@ -15,16 +16,16 @@ refused-requires : tie.Need-refused-requires
 refused-requires c κs = search needs
 
 returns : tie.Need-returns
-returns c = ap (λ x. runs x (now (c .before .before .before .before .args .trace))) (c .refused .ensures) ∙ sym (run-source-short (now (c .before .before .before .before .args .rows)) (c .before .before .before .before .args .variables) (c .before .before .before .before .args .budget) (now (c .before .before .before .before .args .trace)) (c .before .before .before .before .pre .0) (omega arith))
+returns c = ap (λ x. runs x (now (c .before .before .before .before .args .trace))) (c .refused .ensures) ∙ sym (room-short _ _ _ _ (omega arith))
 
 run-linked-requires : tie.Need-run-linked-requires
-run-linked-requires c κs = (c .before .before .before .before .pre .0, (c .before .before .before .before .pre .1, omega arith))
+run-linked-requires c κs = search needs
 
 same-length : tie.Need-same-length
 same-length c = search needs
 
 returns-2 : tie.Need-returns-2
-returns-2 c = c .before .before .run-linked .ensures ∙ sym (run-source-accepted (now (c .before .before .before .before .before .before .before .args .rows)) (c .before .before .before .before .before .before .before .args .variables) (c .before .before .before .before .before .before .before .args .budget) (now (c .before .before .before .before .before .before .before .args .trace)) (c .before .before .before .before .before .before .before .pre .0) (omega arith))
+returns-2 c = c .before .before .run-linked .ensures ∙ sym (room-enough _ _ _ _ (omega arith))
 
 pub source-run-spec : {M : Type 1} → statement M
 source-run-spec =

@@ -1,0 +1,60 @@
+-- What the calls give, by what the walkers or the pass over the rows as given found. Assumes nothing.
+use mathlib.Core.Path.{_≡_, sym, ap, _∙_, subst}
+use mathlib.Core.List.{List}
+use Prim.Native.Nat.{ℕ, _/_}
+use lib.ListN.{length}
+use Rattle.rules.specs.declared.answer.Fault.{Fault}
+use Rattle.rules.specs.declared.refusal.Refusal.{Refusal}
+use Rattle.rules.specs.declared.refusal.Verdict.{Verdict}
+use Rattle.rules.specs.declared.refusal.Verdict.the-variants.{Accepted, Refused}
+use Rattle.rules.specs.Bytes.{AreBytes}
+use Rattle.rules.specs.Row.{rowWidth}
+use Rattle.rules.specs.Refusal.{numberOf, refusalNumber}
+use Rattle.rules.specs.Check.{verdictOf}
+use Rattle.rules.specs.Given.{givenVerdict}
+use Rattle.rules.specs.Chained.{StandsFor}
+use Rattle.rules.specs.Links.{Checked}
+use Rattle.rules.specs.Calls.{checkCall}
+use Rattle.rules.specs.Fault.{stopRow, faultCall}
+use Rattle.rules.proofs.Switch.Plain.{plain-accepted}
+use Rattle.fault.specs.declared.Found.{Found}
+use Rattle.fault.specs.declared.Found.the-variants.{Faulty, Chain}
+use Rattle.fault.specs.Found.{FoundOk}
+use Rattle.chain.specs.declared.Linked.{Linked}
+use Rattle.chain.specs.declared.Linked.the-variants as linked
+use Rattle.chain.specs.Linked.{ChainLinked, LinkedOk}
+
+-- ---- the fault, and the number alone
+module _ (rows out : List ℕ) (x : Found) (ok : FoundOk rows out x) where
+  pub fault-found : (c : Refusal) (row n : ℕ) → x ≡ Faulty c row → n ≡ refusalNumber c → record { number = n; row = row } ≡ faultCall rows
+  unfolding faultCall stopRow
+  fault-found c row n m q =
+      let o = (subst (FoundOk rows out) m ok) .leads in
+      rw (o .refused, q, o .row-is)
+
+  pub fault-none : (n : ℕ) → x ≡ Chain n → record { number = 0; row = length rows / rowWidth } ≡ faultCall rows
+  unfolding faultCall stopRow
+  fault-none n m = let o = (subst (FoundOk rows out) m ok) .leads in rw (o .accepted)
+
+pub fault-number : (rows : List ℕ) (f : Fault) → f ≡ faultCall rows → f .number ≡ checkCall rows
+unfolding faultCall
+fault-number rows f e = ap (λ x. x .number) e
+
+-- ---- what the walkers accept is its own chain
+module _ {rows ends elses heads : List ℕ} {v : Verdict} (w : AreBytes rows) (checked : Checked rows v ends elses heads) (m : v ≡ Accepted) where
+  pub own-accepted : verdictOf rows ≡ Accepted
+  own-accepted = sym (checked .verdict-is) ∙ m
+
+  pub own-chain : StandsFor rows rows
+  own-chain = plain-accepted rows w own-accepted
+
+  pub own-number : 0 ≡ checkCall rows
+  own-number = ap numberOf (sym (own-chain .accepted))
+
+-- ---- what the pass found
+module _ {rows chain ends elses heads : List ℕ} {x : Linked} (ok : LinkedOk rows chain ends elses heads x) where
+  pub link-refused : {c : Refusal} → x ≡ linked.Refused c → givenVerdict rows ≡ Refused c
+  link-refused m = (subst (LinkedOk rows chain ends elses heads) m ok) .leads
+
+  pub link-chain : {n : ℕ} → x ≡ linked.Bytes n → ChainLinked rows chain ends elses heads n
+  link-chain m = (subst (LinkedOk rows chain ends elses heads) m ok) .leads

@@ -1,0 +1,57 @@
+-- `show::source_steps::list_switched` meets its contract. Assumes nothing.
+use native.Mathlib.Omega.{arith}
+use mathlib.Core.Path.{sym, subst}
+use lib.Seq.{length-take-le}
+use Rattle.chain.specs.Linked.{LinkedOk}
+use borrow.Author.Needs.{needs}
+use Rattle.show.proofs.source_steps.list_switched.Statement.{statement}
+use Rattle.show.proofs.source_steps.list_switched.Tie as tie
+use Rattle.show.proofs.source_steps.list_switched.Reads as reads
+use Rattle.show.proofs.source_steps.list_switched.Lts as lts
+use Rattle.chain.proofs.link.Reads as link-reads
+use Rattle.show.proofs.source_steps.list_accepted.Reads as list-accepted-reads
+
+slice-aggregate-link : tie.Need-slice-aggregate-link
+slice-aggregate-link c = search needs
+
+link-requires : tie.Need-link-requires
+link-requires c κs = search needs
+
+enum-told : tie.Need-enum-told
+enum-told c = search needs
+
+enum-known-n : tie.Need-enum-known-n
+enum-known-n c = search needs
+
+array-share-prefix-chain : tie.Need-array-share-prefix-chain
+array-share-prefix-chain c = omega (arith, ((subst (LinkedOk _ _ _ _ _) (c .before .n .given .1) (c .before .before .before .before .link .ensures)) .leads) .within)
+
+slice-aggregate-list-accepted : tie.Need-slice-aggregate-list-accepted
+slice-aggregate-list-accepted c = sym (length-take-le _ _ (omega (arith, ((subst (LinkedOk _ _ _ _ _) (c .before .before .n .given .1) (c .before .before .before .before .before .link .ensures)) .leads) .within)))
+
+list-accepted-requires : tie.Need-list-accepted-requires
+list-accepted-requires c κs = (((subst (LinkedOk _ _ _ _ _) (c .before .before .before .before .before .before .before .n .given .1) (c .before .before .before .before .before .before .before .before .before .before .link .ensures)) .leads) .accepted, (((subst (LinkedOk _ _ _ _ _) (c .before .before .before .before .before .before .before .n .given .1) (c .before .before .before .before .before .before .before .before .before .before .link .ensures)) .leads) .links, c .before .before .before .before .before .before .before .before .before .before .before .before .before .before .before .before .before .pre))
+
+returns : tie.Need-returns
+returns c = search needs
+
+same-length : tie.Need-same-length
+same-length c = search needs
+
+returns-2 : tie.Need-returns-2
+returns-2 c = search needs
+
+pub list-switched-spec : {M : Type 1} → statement M
+list-switched-spec =
+    tie.close
+    (tie.spec
+    slice-aggregate-link
+    link-requires
+    enum-told
+    enum-known-n
+    array-share-prefix-chain
+    slice-aggregate-list-accepted
+    list-accepted-requires
+    returns
+    same-length
+    returns-2)
