@@ -1,11 +1,13 @@
-// Which field of a row is wrong (01, "The source table"): each has a largest value, which is 0 for a field that the row does not use.
+// Which field of a row is wrong (01, "The source table"; 02, No. 1): each has a largest value, which is 0 for a field that the row does
+// not use.
 use crate::row::Row;
 use console::print;
 use rows::kind::DO;
 use rows::kind::IF;
 use rows::kind::LOOP;
+use rows::kind::SWITCH;
 
-// The first wrong field of op, p, q and n, what it is, and what it may be.
+// The first wrong field of op, p, q and n, what it is, and what it may be. A call's or a case's n is never wrong.
 pub fn put(r: Row, at: usize, text: &mut [u8; 65536]) -> usize {
     let op = largest_op(r.kind);
     if op < r.op {
@@ -42,7 +44,7 @@ fn largest_op(kind: u8) -> u8 {
 
 fn largest_p(kind: u8) -> u8 {
     match kind {
-        DO | IF | LOOP => 15,
+        DO | IF | LOOP | SWITCH => 15,
         _ => 0,
     }
 }
