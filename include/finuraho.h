@@ -1,8 +1,8 @@
 /* Finuraho: checks and hardens fee-card programs, reads hardened ones back, and runs both.
  *
- * The rules are document 01, "Counter-hardened statement tables for fee cards". What each call gives back, for all bytes, numbers
- * and buffers, is proved (crates/finuraho/src/export.rt) to be what crates/rules/specs/Calls.antt and Fault.antt say. That this
- * header fits the library is not proved: tests/header/run tests it.
+ * The rules are document 01, "Counter-hardened statement tables for fee cards", and No. 1 of document 02, switches. What each call
+ * gives back, for all bytes, numbers and buffers, is proved (crates/finuraho/src/export.rt) to be what crates/rules/specs/Calls.antt
+ * and Fault.antt say. That this header fits the library is not proved: tests/header/run tests it.
  *
  * `rt staticlib finuraho` makes target/staticlib/libfinuraho.a, the library to link: into programs for x86-64 Linux. Of the C library
  * it needs memcpy and memset. docs/FORMAT.md has rows, lines, limits and numbers on one page.
@@ -29,21 +29,22 @@ extern "C" {
 #endif
 
 /* The version of this header and of the library that it came with: 10,000 x major + 100 x minor + patch. */
-#define FINURAHO_VERSION 10000
-#define FINURAHO_VERSION_STRING "1.0.0"
+#define FINURAHO_VERSION 10100
+#define FINURAHO_VERSION_STRING "1.1.0"
 
 /* The number of a call: 0, or why it was turned away. After any number but 0 every lent buffer is as it was. */
 #define FINURAHO_ACCEPTED 0
 #define FINURAHO_NO_WHOLE_ROWS 1      /* the bytes are no whole rows, or there are none */
-#define FINURAHO_TOO_MANY_ROWS 2      /* over 1,024 rows */
+#define FINURAHO_TOO_MANY_ROWS 2      /* over 1,024 rows, as given or as the chain that they stand for */
 #define FINURAHO_WRONG_FIELD 3        /* a kind, op, p, q or an unused field is wrong */
 #define FINURAHO_MISPLACED 4          /* a row stands where it may not, or something is left open at the end */
 #define FINURAHO_TOO_MANY_FUNCTIONS 5 /* a 33rd function */
-#define FINURAHO_TOO_MANY_PARTS 6     /* a 17th open if or loop, or a 65th region in a function */
+#define FINURAHO_TOO_MANY_PARTS 6     /* a 17th open if or loop, each case of an open switch being an if, or a 65th region */
 #define FINURAHO_NO_SUCH_FUNCTION 7   /* a call of a function that is not there */
 #define FINURAHO_SHORT_OUTPUT 8       /* `out` is shorter than the answer */
 #define FINURAHO_SHORT_ROOM 9         /* fewer trace slots than the budget, or fewer than 1,024 counter words */
 #define FINURAHO_NOT_HARDENED 10      /* no source table hardens to these bytes */
+#define FINURAHO_REPEATED_CASE 11     /* a case with the number of another case of its switch */
 
 /* The outcome of an accepted run. The step that ends in an alarm or in too many open functions is counted. */
 #define FINURAHO_BUDGET_SPENT 0  /* exactly the budget was taken */
@@ -52,7 +53,8 @@ extern "C" {
 #define FINURAHO_TOO_MANY_OPEN 3 /* a call with 16 functions open; it is not made */
 #define FINURAHO_BEYOND 4        /* the jump's place is beyond the function's last; the step struck is not taken */
 
-/* Sizes. A row hardens to at most 2 lines, so 40 bytes for each row are room enough for its hardened table. */
+/* Sizes. A row hardens to at most 2 lines, so 40 bytes for each row are room enough for its hardened table; a case to at most 3, its
+ * else, its test and its end, so with switches it is 60 bytes for each row. 40,960 bytes are always enough. */
 #define FINURAHO_ROW_BYTES 6
 #define FINURAHO_LINE_BYTES 20
 #define FINURAHO_MAX_ROWS 1024
@@ -69,10 +71,18 @@ extern "C" {
 #define FINURAHO_ROW_IF 0x03
 #define FINURAHO_ROW_ELSE 0x04
 #define FINURAHO_ROW_LOOP 0x05
-#define FINURAHO_ROW_END 0x06      /* of a function, an if or a loop */
+#define FINURAHO_ROW_END 0x06      /* of a function, an if, a loop or a switch */
 #define FINURAHO_ROW_BREAK 0x07
 #define FINURAHO_ROW_CONTINUE 0x08
 #define FINURAHO_ROW_CALL 0x09     /* n is the function's number */
+#define FINURAHO_ROW_SWITCH 0x0a   /* on vp */
+#define FINURAHO_ROW_CASE 0x0b     /* n is the value of vp */
+#define FINURAHO_ROW_DEFAULT 0x0c  /* behind all cases */
+
+/* A switch stands for a chain of ifs in elses: its first case for the row of an if that tests vp = n, each later case for an else and
+ * such an if, a default behind a case for an else, a default alone for no row, and its end for as many ends as it has cases. An empty
+ * switch stands for no rows. Such a table is hardened and run as its chain: row numbers in a trace, steps, regions and limits are the
+ * chain's, and reading back gives the chain. Rows that finuraho_fault names are those given. */
 
 /* The op of a do. */
 #define FINURAHO_DO_NUMBER 0   /* vp = n */
@@ -97,17 +107,17 @@ extern "C" {
 
 /* The other limits of a table and of a run. */
 #define FINURAHO_MAX_FUNCTIONS 32  /* in a table */
-#define FINURAHO_MAX_CONSTRUCTS 16 /* ifs and loops open at one row */
+#define FINURAHO_MAX_CONSTRUCTS 16 /* ifs and loops open at one row, each case of an open switch being an if */
 #define FINURAHO_MAX_REGIONS 64    /* in a function, its body among them */
 #define FINURAHO_MAX_OPEN 16       /* functions open in a run, the first among them */
 
 /* The bytes of stack that each call takes at most, whatever it is given. They are measured (tests/stack/run) and not proved. */
 #define FINURAHO_STACK_CHECK 10000
-#define FINURAHO_STACK_FAULT 160
-#define FINURAHO_STACK_HARDEN 22000
+#define FINURAHO_STACK_FAULT 2600
+#define FINURAHO_STACK_HARDEN 28000
 #define FINURAHO_STACK_CHECK_HARDENED 32000
 #define FINURAHO_STACK_READ_BACK 32000
-#define FINURAHO_STACK_RUN_SOURCE 25500
+#define FINURAHO_STACK_RUN_SOURCE 26000
 #define FINURAHO_STACK_RUN_HARDENED 32800
 
 /* The step number that means no jump, whatever the place. */
@@ -121,8 +131,8 @@ typedef struct finuraho_wrote {
 
 /* The answer of the call that finds a table's fault. */
 typedef struct finuraho_found {
-    uint8_t number; /* 0, or why the table is turned away: 1 to 7, as the check gives it */
-    size_t row;     /* the row that the number is about, from 0 */
+    uint8_t number; /* 0, or why the table is turned away: 1 to 7 or 11, as the check gives it */
+    size_t row;     /* the row that the number is about, from 0, among those given */
 } finuraho_found;
 
 /* The answer of a run. Turned away: outcome, steps and traced are 0 and the variables are those given. */
@@ -136,14 +146,15 @@ typedef struct finuraho_ran {
 
 /* Checks a source table.
  * rows, rows_len: its bytes, 6 a row; only read.
- * Returns 0, or 1 to 7. */
+ * Returns 0, or 1 to 7 or 11. */
 uint8_t finuraho_check(const uint8_t *rows, size_t rows_len);
 
 /* Finds the fault of a source table.
  * rows, rows_len: its bytes, 6 a row; only read.
  * Returns the number of the check, and the row that it is about:
- *     1: the row that is not whole, 0 where there are no bytes; 2: 1024, the first row that is one too many;
- *     3, 5, 6, 7: the first such row; 4: the first such row, or the number of rows where something is left open at the end;
+ *     1: the row that is not whole, 0 where there are no bytes;
+ *     2: 1024, the first row that is one too many, or the first row with which the chain has over 1,024;
+ *     3, 5, 6, 7, 11: the first such row; 4: the first such row, or the number of rows where something is left open at the end;
  *     0: the number of rows, since there is no fault. */
 finuraho_found finuraho_fault(const uint8_t *rows, size_t rows_len);
 
@@ -151,7 +162,7 @@ finuraho_found finuraho_fault(const uint8_t *rows, size_t rows_len);
  * rows, rows_len: its bytes, 6 a row; only read.
  * out, out_len: room for the answer, in bytes; what it holds before does not matter. Accepted: the hardened table, 20 bytes a line,
  *     stands at its front, and the bytes beyond `length` are as they were. Turned away: all bytes are as they were.
- * Turned away with 1 to 7, or 8 where out_len is less than the answer's bytes; equal is enough. */
+ * Turned away with 1 to 7 or 11, or with 8 where out_len is less than the answer's bytes; equal is enough. */
 finuraho_wrote finuraho_harden(const uint8_t *rows, size_t rows_len, uint8_t *out, size_t out_len);
 
 /* Checks a hardened table.
@@ -161,8 +172,9 @@ uint8_t finuraho_check_hardened(const uint8_t *lines, size_t lines_len);
 
 /* Reads a hardened table back.
  * lines, lines_len: its bytes, 20 a line; only read.
- * out, out_len: room for the answer, in bytes; what it holds before does not matter. Accepted: the source table, 6 bytes a row,
- *     stands at its front, and the bytes beyond `length` are as they were. Turned away: all bytes are as they were.
+ * out, out_len: room for the answer, in bytes; what it holds before does not matter. Accepted: the source table, 6 bytes a row and
+ *     switches as their chains, stands at its front, and the bytes beyond `length` are as they were. Turned away: all bytes are as
+ *     they were.
  * Turned away with 10, or 8 where out_len is less than the answer's bytes; equal is enough. */
 finuraho_wrote finuraho_read_back(const uint8_t *lines, size_t lines_len, uint8_t *out, size_t out_len);
 
@@ -172,7 +184,7 @@ finuraho_wrote finuraho_read_back(const uint8_t *lines, size_t lines_len, uint8_
  * budget: the most steps that the run may take.
  * trace, trace_len: slots for the trace, in words; what they hold before does not matter. Accepted: the row numbers of the dos done,
  *     in order, stand at its front, and the slots beyond `traced` are as they were. Turned away: all slots are as they were.
- * Turned away with 1 to 7, or 9 where trace_len is less than the budget, whatever the run would need; equal is enough. */
+ * Turned away with 1 to 7 or 11, or with 9 where trace_len is less than the budget, whatever the run would need; equal is enough. */
 finuraho_ran finuraho_run_source(const uint8_t *rows, size_t rows_len, const uint16_t variables[FINURAHO_VARIABLES],
                                  uint16_t budget, uint16_t *trace, size_t trace_len);
 

@@ -1,4 +1,5 @@
-/* Document 01's example program, hardened and run: unstruck, struck by a jump that the counters catch, and by one that they cannot. */
+/* Document 01's example program, hardened and run: unstruck, struck by a jump that the counters catch, and by one that they cannot.
+ * Then a tariff by bands, written as a switch, hardened and run for three numbers of hives. */
 #include <finuraho.h>
 #include <stdio.h>
 #include <stdlib.h>
@@ -13,6 +14,20 @@ static const uint8_t ROWS[] = {
     FINURAHO_ROW_DO, FINURAHO_DO_SUBTRACT, 0, 1, 0, 0,    /* row 3: v0 = v0 - v1 */
     FINURAHO_ROW_END, 0, 0, 0, 0, 0,                      /* row 4: of the loop */
     FINURAHO_ROW_END, 0, 0, 0, 0, 0,                      /* row 5: of the function */
+};
+
+/* The fee v1 by the hives v0. */
+static const uint8_t BANDS[] = {
+    FINURAHO_ROW_FUNCTION, 0, 0, 0, 0, 0,
+    FINURAHO_ROW_SWITCH, 0, 0, 0, 0, 0,                   /* on v0 */
+    FINURAHO_ROW_CASE, 0, 0, 0, 10, 0,                    /* 10: */
+    FINURAHO_ROW_DO, FINURAHO_DO_NUMBER, 1, 0, 0x84, 3,   /* v1 = 900 */
+    FINURAHO_ROW_CASE, 0, 0, 0, 50, 0,                    /* 50: */
+    FINURAHO_ROW_DO, FINURAHO_DO_NUMBER, 1, 0, 0xbc, 2,   /* v1 = 700 */
+    FINURAHO_ROW_DEFAULT, 0, 0, 0, 0, 0,                  /* any other: */
+    FINURAHO_ROW_DO, FINURAHO_DO_NUMBER, 1, 0, 0x90, 1,   /* v1 = 400 */
+    FINURAHO_ROW_END, 0, 0, 0, 0, 0,                      /* of the switch */
+    FINURAHO_ROW_END, 0, 0, 0, 0, 0,                      /* of the function */
 };
 
 static const uint16_t VALUES[FINURAHO_VARIABLES] = {0, 1};
@@ -63,6 +78,28 @@ static void run_hardened(const char *what, const uint8_t *lines, size_t length, 
     print_run(what, ran, trace);
 }
 
+static void quote(const uint8_t *lines, size_t length, uint16_t hives)
+{
+    const uint16_t values[FINURAHO_VARIABLES] = {hives};
+    uint16_t trace[BUDGET];
+    uint16_t counters[FINURAHO_COUNTER_WORDS];
+    finuraho_ran ran = finuraho_run_hardened(lines, length, values, BUDGET, FINURAHO_NO_JUMP, 0, trace, BUDGET, counters,
+                                             FINURAHO_COUNTER_WORDS);
+    stop_if_refused(ran.number);
+    printf("%u hives: %s, %u steps, fee %u\n", hives, OUTCOMES[ran.outcome], ran.steps, ran.variables[1]);
+}
+
+static void quote_bands(void)
+{
+    /* A case hardens to at most 3 lines, any other row to at most 2. */
+    uint8_t lines[3 * FINURAHO_LINE_BYTES * (sizeof BANDS / FINURAHO_ROW_BYTES)];
+    finuraho_wrote wrote = finuraho_harden(BANDS, sizeof BANDS, lines, sizeof lines);
+    stop_if_refused(wrote.number);
+    quote(lines, wrote.length, 10);
+    quote(lines, wrote.length, 50);
+    quote(lines, wrote.length, 200);
+}
+
 int main(void)
 {
     uint8_t lines[2 * FINURAHO_LINE_BYTES * (sizeof ROWS / FINURAHO_ROW_BYTES)];
@@ -75,5 +112,6 @@ int main(void)
     run_hardened("jump before step 4 to place 6", lines, wrote.length, 4, 6);
     /* Over line 0 alone, a do: no guard lies between, so the run goes on as if nothing had happened, without row 1. */
     run_hardened("jump before step 0 to place 1", lines, wrote.length, 0, 1);
+    quote_bands();
     return 0;
 }

@@ -51,7 +51,7 @@ static void wrong_or_misplaced(void)
 {
     put_example();
     expect("half a row", finuraho_check(rows, length - 3), FINURAHO_NO_WHOLE_ROWS);
-    rows[0] = 0x0a;
+    rows[0] = 0x0d;
     expect("no such kind", finuraho_check(rows, length), FINURAHO_WRONG_FIELD);
     put_example();
     expect("a lone function row", finuraho_check(rows, FINURAHO_ROW_BYTES), FINURAHO_MISPLACED);
@@ -78,7 +78,7 @@ static void found_rows(void)
     expect_fault("fault, none", length, FINURAHO_ACCEPTED, 6);
     expect_fault("fault, half a row", length - 3, FINURAHO_NO_WHOLE_ROWS, 5);
     expect_fault("fault, left open", length - FINURAHO_ROW_BYTES, FINURAHO_MISPLACED, 5);
-    rows[3 * FINURAHO_ROW_BYTES] = 0x0a;
+    rows[3 * FINURAHO_ROW_BYTES] = 0x0d;
     expect_fault("fault, no such kind", length, FINURAHO_WRONG_FIELD, 3);
     put_example();
     put(FINURAHO_ROW_DO, 0, 0, 0, 0);
@@ -138,6 +138,40 @@ static void too_many_parts(void)
     expect_fault("fault, 65 regions", length, FINURAHO_TOO_MANY_PARTS, 2 * FINURAHO_MAX_REGIONS - 1);
 }
 
+/* One function with a switch on v0: so many cases, 0, 1 and on, so many dos in the last of them, and a default. */
+static void put_switch(int cases, int dos)
+{
+    int i;
+    length = 0;
+    put(FINURAHO_ROW_FUNCTION, 0, 0, 0, 0);
+    put(FINURAHO_ROW_SWITCH, 0, 0, 0, 0);
+    for (i = 0; i < cases; i++)
+        put(FINURAHO_ROW_CASE, 0, 0, 0, (uint16_t)i);
+    put_many(dos, FINURAHO_ROW_DO);
+    put(FINURAHO_ROW_DEFAULT, 0, 0, 0, 0);
+    put_many(2, FINURAHO_ROW_END);
+}
+
+/* With two cases the chain has one row more than is given. */
+static void wrong_switches(void)
+{
+    put_switch(2, 1);
+    rows[3 * FINURAHO_ROW_BYTES + 4] = 0;
+    expect("case 0 again", finuraho_check(rows, length), FINURAHO_REPEATED_CASE);
+    expect_fault("fault, case 0 again", length, FINURAHO_REPEATED_CASE, 3);
+    put_switch(FINURAHO_MAX_CONSTRUCTS, 0);
+    expect("16 cases", finuraho_check(rows, length), FINURAHO_ACCEPTED);
+    put_switch(FINURAHO_MAX_CONSTRUCTS + 1, 0);
+    expect("17 cases", finuraho_check(rows, length), FINURAHO_TOO_MANY_PARTS);
+    expect_fault("fault, 17 cases", length, FINURAHO_TOO_MANY_PARTS, FINURAHO_MAX_CONSTRUCTS + 2);
+    put_switch(2, FINURAHO_MAX_ROWS - 8);
+    expect("a chain of 1,024 rows", finuraho_check(rows, length), FINURAHO_ACCEPTED);
+    put_switch(2, FINURAHO_MAX_ROWS - 7);
+    expect("bytes of 1,024 rows with a switch", length, FINURAHO_MAX_SOURCE_BYTES);
+    expect("a chain of 1,025 rows", finuraho_check(rows, length), FINURAHO_TOO_MANY_ROWS);
+    expect_fault("fault, a chain of 1,025 rows", length, FINURAHO_TOO_MANY_ROWS, FINURAHO_MAX_ROWS - 1);
+}
+
 static finuraho_ran run(size_t lines_len, uint16_t budget, uint16_t step, uint16_t place)
 {
     finuraho_ran ran = finuraho_run_hardened(lines, lines_len, values, budget, step, place, trace, BUDGET, counters,
@@ -165,7 +199,7 @@ static void outcomes(void)
     expect("its step", run(lines_len, BUDGET, FINURAHO_NO_JUMP, 0).steps, FINURAHO_MAX_OPEN);
 }
 
-/* Every kind of row and every op: v0 = 3, v1 = v0 + v0 + v0 - v0; a loop whose if breaks, an if that calls. */
+/* Every kind of row but a switch's, and every op: v0 = 3, v1 = v0 + v0 + v0 - v0; a loop whose if breaks, an if that calls. */
 static void put_each_kind(void)
 {
     length = 0;
@@ -210,6 +244,30 @@ static void kinds(void)
     expect("each op, steps", ran.steps, 13);
     expect("each op, v0", ran.variables[0], 3);
     expect("each op, v1", ran.variables[1], 6);
+}
+
+/* The chain of two cases with a do in the second. */
+static const uint8_t CHAIN[] = {
+    FINURAHO_ROW_FUNCTION, FINURAHO_ROW_IF,  FINURAHO_ROW_ELSE, FINURAHO_ROW_IF,  FINURAHO_ROW_DO,
+    FINURAHO_ROW_ELSE,     FINURAHO_ROW_END, FINURAHO_ROW_END,  FINURAHO_ROW_END,
+};
+
+/* v0 is 0: the if, its else, the function's end. v0 is 1: both ifs, the do, the second if's else, the first if's end, the end. */
+static void switches(void)
+{
+    static const uint16_t second[FINURAHO_VARIABLES] = {1};
+    size_t row;
+    finuraho_ran ran;
+    put_switch(2, 1);
+    ran = finuraho_run_source(rows, length, values, BUDGET, trace, BUDGET);
+    expect("case 0, outcome", ran.outcome, FINURAHO_FINISHED);
+    expect("case 0, steps", ran.steps, 3);
+    ran = finuraho_run_source(rows, length, second, BUDGET, trace, BUDGET);
+    expect("case 1, steps", ran.steps, 6);
+    expect("case 1, trace", trace[0], 4);
+    expect("the chain's bytes", finuraho_read_back(lines, put_hardened(), rows, sizeof rows).length, sizeof CHAIN * FINURAHO_ROW_BYTES);
+    for (row = 0; row < sizeof CHAIN; row++)
+        expect("kind of a row of the chain", rows[row * FINURAHO_ROW_BYTES], CHAIN[row]);
 }
 
 static void versions(void)
@@ -275,8 +333,10 @@ int main(void)
     wrong_or_misplaced();
     found_rows();
     too_many_parts();
+    wrong_switches();
     outcomes();
     kinds();
+    switches();
     versions();
     short_buffers();
     null_tables();

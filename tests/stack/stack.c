@@ -162,20 +162,30 @@ static void mostly_dos(void)
     measure_table();
 }
 
-/* Constructs inside each other to the limit, in every way: `ways` says whether the next is a loop, an if, or in an if's else part. */
+/* A loop, an if, an if's else part or a switch's case. */
+static void put_opening(char way)
+{
+    if (way == 's') {
+        put(FINURAHO_ROW_SWITCH, 0, 1, 0, 0);
+        put(FINURAHO_ROW_CASE, 0, 0, 0, 1);
+        return;
+    }
+    put(way == 'l' ? FINURAHO_ROW_LOOP : FINURAHO_ROW_IF, 1, 1, 0, 0);
+    if (way == 'e')
+        put(FINURAHO_ROW_ELSE, 0, 0, 0, 0);
+}
+
+/* Constructs inside each other to the limit, in every way: `ways` says what the next is. */
 static void put_nest(const char *ways, int depth)
 {
     int i, k = (int)strlen(ways);
-    for (i = 0; i < depth; i++) {
-        put(ways[i % k] == 'l' ? FINURAHO_ROW_LOOP : FINURAHO_ROW_IF, 1, 1, 0, 0);
-        if (ways[i % k] == 'e')
-            put(FINURAHO_ROW_ELSE, 0, 0, 0, 0);
-    }
+    for (i = 0; i < depth; i++)
+        put_opening(ways[i % k]);
     put(FINURAHO_ROW_DO, 2, 0, 1, 0);
     put_many(depth, FINURAHO_ROW_END);
 }
 
-static const char *const WAYS[] = {"l", "i", "e", "le", "il", "iel"};
+static const char *const WAYS[] = {"l", "i", "e", "le", "il", "iel", "s", "sle"};
 
 static void nested(int depth)
 {
@@ -183,13 +193,29 @@ static void nested(int depth)
     int function;
     for (way = 0; way < sizeof WAYS / sizeof WAYS[0]; way++) {
         length = 0;
-        for (function = 0; function < 20; function++) {
+        for (function = 0; function < 18; function++) {
             put(FINURAHO_ROW_FUNCTION, 0, 0, 0, 0);
             put_nest(WAYS[way], depth);
             put(FINURAHO_ROW_END, 0, 0, 0, 0);
         }
         measure_table();
     }
+}
+
+/* In each function one switch of so many cases, with a default. */
+static void switches(uint16_t cases)
+{
+    uint16_t function, i;
+    length = 0;
+    for (function = 0; function < 18; function++) {
+        put(FINURAHO_ROW_FUNCTION, 0, 0, 0, 0);
+        put(FINURAHO_ROW_SWITCH, 0, 1, 0, 0);
+        for (i = 0; i < cases; i++)
+            put(FINURAHO_ROW_CASE, 0, 0, 0, i);
+        put(FINURAHO_ROW_DEFAULT, 0, 0, 0, 0);
+        put_many(2, FINURAHO_ROW_END);
+    }
+    measure_table();
 }
 
 /* A row too many at the end of a table, and a table of too many rows. */
@@ -214,6 +240,8 @@ int main(void)
     mostly_dos();
     nested(FINURAHO_MAX_CONSTRUCTS);
     nested(FINURAHO_MAX_CONSTRUCTS + 1);
+    switches(FINURAHO_MAX_CONSTRUCTS);
+    switches(FINURAHO_MAX_CONSTRUCTS + 1);
     refused();
     for (i = 0; i < CALLS; i++) {
         /* A figure that is twice what was measured says nothing, and nor does a measurement that met nothing. */

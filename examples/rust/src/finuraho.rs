@@ -26,7 +26,7 @@ pub struct Ran {
     pub variables: Variables,
 }
 
-/// The number of a call that was turned away, 1 to 10.
+/// The number of a call that was turned away, 1 to 11.
 #[derive(Debug)]
 pub struct Refused(pub u8);
 

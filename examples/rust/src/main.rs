@@ -1,5 +1,6 @@
 //! Document 01's example program, hardened and run: unstruck, struck by a jump that the counters
-//! catch, and by one that they cannot.
+//! catch, and by one that they cannot. Then a tariff by bands, written as a switch, hardened and
+//! run for three numbers of hives.
 
 mod finuraho;
 
@@ -19,13 +20,27 @@ const ROWS: [[u8; 6]; 6] = [
     [0x06, 0, 0, 0, 0, 0], // row 5: end of function
 ];
 
+/// The fee v1 by the hives v0.
+const BANDS: [[u8; 6]; 10] = [
+    [0x01, 0, 0, 0, 0, 0],    // function opens
+    [0x0a, 0, 0, 0, 0, 0],    // switch on v0
+    [0x0b, 0, 0, 0, 10, 0],   // case 10
+    [0x02, 0, 1, 0, 0x84, 3], // v1 = 900
+    [0x0b, 0, 0, 0, 50, 0],   // case 50
+    [0x02, 0, 1, 0, 0xbc, 2], // v1 = 700
+    [0x0c, 0, 0, 0, 0, 0],    // default
+    [0x02, 0, 1, 0, 0x90, 1], // v1 = 400
+    [0x06, 0, 0, 0, 0, 0],    // end of switch
+    [0x06, 0, 0, 0, 0, 0],    // end of function
+];
+
 const VALUES: Variables = [0, 1, 0, 0, 0, 0, 0, 0, 0, 0, 0, 0, 0, 0, 0, 0];
 
 const OUTCOMES: [&str; 5] =
     ["budget spent", "finished", "alarm", "too many open functions", "place beyond the last"];
 
 fn main() -> ExitCode {
-    match example() {
+    match example().and_then(|()| quote_bands()) {
         Ok(()) => ExitCode::SUCCESS,
         Err(Refused(number)) => {
             println!("refused {number}");
@@ -54,6 +69,20 @@ fn example() -> Result<(), Refused> {
     // happened, without row 1.
     let narrow = Jump { step: 0, place: 1 };
     run_hardened("jump before step 0 to place 1", lines, Some(narrow))
+}
+
+fn quote_bands() -> Result<(), Refused> {
+    // A case hardens to at most three lines, any other row to at most two.
+    let mut out = [0; 3 * LINE_BYTES * BANDS.len()];
+    let lines = finuraho::harden(BANDS.as_flattened(), &mut out)?;
+    for hives in [10, 50, 200] {
+        let mut values = [0; 16];
+        values[0] = hives;
+        let ran = finuraho::run_hardened(lines, &values, None, &mut [0; BUDGET])?;
+        let outcome = OUTCOMES[usize::from(ran.outcome)];
+        println!("{hives} hives: {outcome}, {} steps, fee {}", ran.steps, ran.variables[1]);
+    }
+    Ok(())
 }
 
 fn run_hardened(what: &str, lines: &[u8], jump: Option<Jump>) -> Result<(), Refused> {
