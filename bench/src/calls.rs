@@ -1,7 +1,7 @@
 //! The six calls as a trait, so that every implementation gets the same inputs, and the answers
 //! with the layout that they have at the C boundary.
 
-use crate::table::{Refusal, Shape};
+use crate::table::{self, Refusal};
 use crate::{harden, hardened_run, read_back, source_run};
 
 pub type Variables = [u16; 16];
@@ -71,7 +71,7 @@ impl Calls for Baseline {
     }
 
     fn check(&self, rows: &[u8]) -> u8 {
-        number(Shape::read(rows).map(|_| ()))
+        number(table::read(rows).map(|_| ()))
     }
 
     fn harden(&self, rows: &[u8], out: &mut [u8]) -> Wrote {

@@ -6,7 +6,7 @@ use crate::harden::{LINE_BYTES, RET};
 use crate::programs::{MOST_IN, MOST_OUT};
 use independent::program::Program;
 use independent::random::Random;
-use independent::{damage, faults, limits, make, program};
+use independent::{damage, faults, limits, make, program, switch_places};
 
 /// Two implementations and how many answers of theirs were compared.
 pub struct Pair<'a> {
@@ -105,6 +105,9 @@ impl<'a> Pair<'a> {
             if number == 0 {
                 self.lines(&damage::hardened(&rows))?;
             }
+        }
+        for (_, rows) in switch_places::all() {
+            self.rows(&make::bytes_of(&rows))?;
         }
         for lines in damage::beyond_limits() {
             self.lines(&lines)?;

@@ -96,11 +96,11 @@ impl Sink for Writer<'_> {
 
 /// Hardens a table into `out` and answers how many bytes it wrote.
 pub fn harden(rows: &[u8], out: &mut [u8]) -> Result<usize, Refusal> {
-    let shape = Shape::read(rows)?;
+    let (rows, shape) = table::read(rows)?;
     let length = usize::from(shape.lines) * LINE_BYTES;
     let out = out.get_mut(..length).ok_or(Refusal::OutputShort)?;
     let (out, _) = out.as_chunks_mut::<LINE_BYTES>();
-    lines(rows, &shape, &mut Writer { out: out.iter_mut() });
+    lines(&rows, &shape, &mut Writer { out: out.iter_mut() });
     Ok(length)
 }
 

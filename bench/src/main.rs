@@ -38,6 +38,7 @@ fn main() {
     for (name, rows) in [("mostly dos", programs::mostly_dos()), ("nested", programs::nested())] {
         time_table(&implementations, name, &rows);
     }
+    time_switches(&implementations);
     for program in programs::all() {
         time_program(&implementations, &program);
     }
@@ -46,7 +47,8 @@ fn main() {
 /// Everything that will be timed, and random tables and runs besides.
 fn compare(pair: &mut Pair) -> Agreed {
     let mut rng = Random::new(20);
-    for rows in [programs::mostly_dos(), programs::nested()] {
+    let switches = programs::switches();
+    for rows in [programs::mostly_dos(), programs::nested(), chain(&switches), switches] {
         pair.rows(&rows)?;
         pair.lines(&hardened(&rows))?;
     }
@@ -68,6 +70,34 @@ fn hardened(rows: &[u8]) -> Vec<u8> {
     assert_eq!(wrote.number, 0, "the timed tables are accepted");
     out.truncate(wrote.length);
     out
+}
+
+/// The table without its switches: what its hardened table is read back to.
+fn chain(rows: &[u8]) -> Vec<u8> {
+    let mut out = vec![0; MOST_IN];
+    let wrote = Baseline.read_back(&hardened(rows), &mut out);
+    assert_eq!((wrote.number, wrote.length), (0, MOST_IN), "the chain has 1,024 rows");
+    out
+}
+
+/// A table of switches beside its chain, each of them in turn, and how many times as long it takes.
+fn time_switches(implementations: &[&dyn Calls]) {
+    let switches = programs::switches();
+    let tables = [chain(&switches), switches];
+    for calls in implementations {
+        let timed = tables.iter().map(|rows| -> Timed {
+            let mut out = vec![0; MOST_OUT];
+            Box::new(move || {
+                black_box(calls.harden(black_box(rows), &mut out));
+            })
+        });
+        let [chain, switches] = medians(timed.collect())[..] else { unreachable!("two tables") };
+        println!(
+            "harden 1,024 rows of switches, {}: {switches:.2}, their chain {chain:.2}, ratio {:.2}",
+            calls.name(),
+            switches / chain
+        );
+    }
 }
 
 fn time_table(implementations: &[&dyn Calls], name: &str, rows: &[u8]) {

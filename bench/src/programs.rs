@@ -1,6 +1,7 @@
-//! The inputs that are timed: two tables of 1,024 rows and three programs that never end.
+//! The inputs that are timed: three tables of 1,024 rows and three programs that never end.
 
 use crate::calls::Variables;
+use crate::table::switch::{CASE, DEFAULT, SWITCH};
 use crate::table::{
     Row, BREAK, CALL, CONTINUE, DO, ELSE, END, FUNCTION, IF, LOOP, MOST_ROWS, ROW_BYTES,
 };
@@ -75,6 +76,27 @@ pub fn nested() -> Vec<u8> {
         rows.push(plain(END));
     }
     assert_eq!(rows.len(), MOST_ROWS);
+    bytes(&rows)
+}
+
+/// A table of switches whose chain has 1,024 rows: 8 functions with nine tariffs each, of three bands and a default.
+pub fn switches() -> Vec<u8> {
+    let mut rows: Vec<Row> = Vec::new();
+    for function in 0..8 {
+        rows.push(plain(FUNCTION));
+        for tariff in 0..9 {
+            rows.push(row(SWITCH, 0, 3, 0, 0));
+            for band in 0..3 {
+                rows.push(row(CASE, 0, 0, 0, (10 * band + tariff) as u16));
+                rows.push(some_do(9 * function + band));
+            }
+            rows.push(plain(DEFAULT));
+            rows.push(some_do(function + tariff));
+            rows.push(plain(END));
+            rows.push(some_do(tariff));
+        }
+        rows.push(plain(END));
+    }
     bytes(&rows)
 }
 

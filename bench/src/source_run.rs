@@ -36,7 +36,7 @@ struct Instruction {
 
 /// Checks the table and runs it.
 pub fn run(rows: &[u8], start: &Start, trace: &mut [u16]) -> Result<Ran, Refusal> {
-    let shape = Shape::read(rows)?;
+    let (rows, shape) = table::read(rows)?;
     let trace = trace.get_mut(..usize::from(start.budget)).ok_or(Refusal::BuffersShort)?;
     let (rows, _) = rows.as_chunks::<ROW_BYTES>();
     let program: Vec<Instruction> =

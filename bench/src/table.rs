@@ -1,6 +1,10 @@
 //! Checks a source table in one pass with an explicit stack, and notes of each row what hardening
 //! and running need: where it stands, its first line, and the row that it belongs to.
 
+pub mod switch;
+
+pub use switch::read;
+
 pub const MOST_ROWS: usize = 1024;
 pub const ROW_BYTES: usize = 6;
 const MOST_FUNCTIONS: usize = 32;
@@ -37,6 +41,7 @@ pub enum Refusal {
     OutputShort = 8,
     BuffersShort = 9,
     NotHardened = 10,
+    RepeatedCase = 11,
 }
 
 /// What is noted of a row.
@@ -118,7 +123,7 @@ fn operands(row: &Row, with_n: u8, last: u8) -> Result<(), Refusal> {
 }
 
 impl Shape {
-    /// Reads a table, or answers the first cause that turns it away.
+    /// Reads a table without switches, or answers the first cause that turns it away.
     pub fn read(bytes: &[u8]) -> Result<Shape, Refusal> {
         let (rows, rest) = bytes.as_chunks::<ROW_BYTES>();
         unless(rows.is_empty() || !rest.is_empty(), Refusal::NoWholeRows)?;
