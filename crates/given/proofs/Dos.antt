@@ -33,7 +33,7 @@ use Rattle.given.specs.declared.things.Things.{Things}
 use Rattle.given.specs.Sort.{ownSort, sortOf, firstGiven}
 use Rattle.given.specs.Things.{topMark, OpenIs}
 use Rattle.given.specs.Plan.{closingPlan, planOf, causeOf}
-use Rattle.given.specs.Through.{stored, Through, SpansOk}
+use Rattle.given.specs.Through.{stored, Through, SpansOk, manyRows}
 use Rattle.given.specs.Reached.{Reached, Here, Sound, lengthened, RowOk}
 use Rattle.given.proofs.Sorts.{sort-plain, first-plain}
 use Rattle.given.proofs.Through.{through-refused, through-one}
@@ -99,7 +99,7 @@ own-first bs i first =
     ap (λ l. getD l 0 0) (rest-all (rowWidth * i) bs) ∙ getD-drop (rowWidth * i) bs 0 0 ∙ ap (λ k. getD bs k 0) q ∙ first
 
 pub do-room : {bs : List ℕ} {i : ℕ} {s : Standing} {ps : List ℕ} {t : Things} {ms vs us out : List ℕ} → Reached bs i s ps t ms vs us out → Here bs i
-    → t .chained < 4096
+    → t .chained < manyRows
 do-room v here = omega (arith, v .chained-low, here .within, here .few)
 
 module _ {bs : List ℕ} {i : ℕ} {s : Standing} {ps : List ℕ} {t : Things} {ms vs us out : List ℕ} (v : Reached bs i s ps t ms vs us out)

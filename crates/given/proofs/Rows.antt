@@ -38,7 +38,7 @@ use Rattle.given.specs.declared.sort.Sort.{Sort}
 use Rattle.given.specs.declared.sort.Sort.the-variants.{Wrong, Plain, Switch, Case, Default}
 use Rattle.given.specs.declared.things.Things.{Things}
 use Rattle.given.specs.Sort.{sortOf, firstGiven}
-use Rattle.given.specs.Things.{markedCases, topMark, OpenIs}
+use Rattle.given.specs.Things.{markedCases, topMark, OpenIs, mostMark}
 use Rattle.given.specs.Plan.{countAfter, closesSwitch, closingPlan, planOf, causeOf}
 use Rattle.given.specs.Reached.{Reached, Here, Sound, varBy, ownRow, RowOk}
 use Rattle.given.proofs.Marks.{mark-cases, markTop, top-is, var-is}
@@ -111,7 +111,7 @@ module _ (xs : List ℕ) (w : AreBytes xs) {ts : List Thing} {count cases : ℕ}
       by false false false f e h = read-bytes xs w (not-unknown (rowIn xs 0 .kind) (rowIn xs 0 .operands) f)
 
 -- ---- a plan is small
-pub plan-small : (s : Sort) (m n c : ℕ) → m ≤ 34 → (planOf s m n c .elses ≤ 1) × (planOf s m n c .own ≤ 1) × (planOf s m n c .ends ≤ 16) × (planOf s m n c .slot ≤ n) × (planOf s m n c .count ≤ n + 1)
+pub plan-small : (s : Sort) (m n c : ℕ) → m ≤ mostMark → (planOf s m n c .elses ≤ 1) × (planOf s m n c .own ≤ 1) × (planOf s m n c .ends ≤ 16) × (planOf s m n c .slot ≤ n) × (planOf s m n c .count ≤ n + 1)
 plan-small Wrong m n c h = (omega arith, omega arith, omega arith, omega arith, omega arith)
 plan-small (Plain k) m n c h = by (closesSwitch k m)
   where
@@ -178,12 +178,12 @@ module _ {bs : List ℕ} {i : ℕ} (here : Here bs i) where
       ∙ ap (λ o. o .p) (operands-as (getD bs (rowWidth * (0 + i)) 0) (rowIn bs (rowWidth * (0 + i)))) ∙ ap (λ k. getD bs (rowWidth * k + 2) 0) z
 
 -- what the innermost thing's mark can be
-top-small : (ts : List Thing) → casesIn ts ≤ maxConstructs → markTop ts ≤ 34
+top-small : (ts : List Thing) → casesIn ts ≤ maxConstructs → markTop ts ≤ mostMark
 top-small [] h = omega arith
 top-small (construct ∷ ts) h = omega arith
 top-small (switch s ∷ ts) h = by (s .inDefault)
   where
-    by : (d : Bool) → cond d 2 1 + 2 * length (s .used) ≤ 34
+    by : (d : Bool) → cond d 2 1 + 2 * length (s .used) ≤ mostMark
     by true = omega arith
     by false = omega arith
 
@@ -193,7 +193,7 @@ top-cases (construct ∷ ts) = omega arith
 top-cases (switch s ∷ ts) = omega (arith, mark-cases s)
 
 module _ {bs : List ℕ} {i : ℕ} {s : Standing} {ps : List ℕ} {t : Things} {ms vs us out : List ℕ} (v : Reached bs i s ps t ms vs us out) where
-  pub top-low : {top : ℕ} → top ≡ topMark ms (t .count) → top ≤ 34
+  pub top-low : {top : ℕ} → top ≡ topMark ms (t .count) → top ≤ mostMark
   top-low e = omega (arith, e, top-is (thingsAt (givenOf bs) i) (v .things), top-small (thingsAt (givenOf bs) i) (omega (arith, v .things .cases-are, v .cases-low)))
 
   pub top-few : {top : ℕ} → top ≡ topMark ms (t .count) → markedCases top ≤ t .cases

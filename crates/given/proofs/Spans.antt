@@ -18,7 +18,7 @@ use Rattle.scan.specs.declared.open.Next.the-variants.{Faulty, On}
 use Rattle.scan.specs.Standing.{Sane}
 use Rattle.scan.specs.Next.{NextSane, NextOk}
 use Rattle.given.specs.declared.plan.Plan.{Plan}
-use Rattle.given.specs.Through.{stored, Through, OwnOk, BehindOk, SpansOk}
+use Rattle.given.specs.Through.{stored, Through, OwnOk, BehindOk, SpansOk, manyRows}
 use Rattle.given.proofs.Through.{through-none, through-refused, through-one, then-on, then-next, first-refused}
 
 -- ---- the same row some times
@@ -72,10 +72,10 @@ module _ {count : ℕ} {k : Kind} {six : List ℕ} {s : Standing} {ps : List ℕ
 -- so many of them are done
 pub record EndsTo (count : ℕ) (s₀ : Standing) (ps₀ : List ℕ) (n : ℕ) (out₀ ps out : List ℕ) (s : Standing) (done : ℕ) : Type 0 where
   pub le : done ≤ count
-  pub few : n + count ≤ 4096
+  pub few : n + count ≤ manyRows
   pub through : Through (replicate done (bareRow End)) s₀ ps₀ ps n out₀ out (On s)
 
-pub ends-start : {count n : ℕ} {s : Standing} {ps out : List ℕ} → Sane s ps → n + count ≤ 4096 → EndsTo count s ps n out ps out s 0
+pub ends-start : {count n : ℕ} {s : Standing} {ps out : List ℕ} → Sane s ps → n + count ≤ manyRows → EndsTo count s ps n out ps out s 0
 ends-start ok few = record { le = omega arith; few = few; through = through-none ok }
 
 module _ {count n done : ℕ} {s₀ s : Standing} {ps₀ out₀ ps out : List ℕ} (v : EndsTo count s₀ ps₀ n out₀ ps out s done) where

@@ -40,7 +40,7 @@ use Rattle.given.specs.declared.things.Things.{Things}
 use Rattle.given.specs.Sort.{sortOf, firstGiven}
 use Rattle.given.specs.Things.{OpenIs, longRow}
 use Rattle.given.specs.Plan.{planOf, plannedRows}
-use Rattle.given.specs.Through.{KindsAt, Through, SpansOk}
+use Rattle.given.specs.Through.{KindsAt, Through, SpansOk, manyRows}
 use Rattle.given.specs.Reached.{Reached, Here, Sound, varBy, ownRow, rowsIn, grown, RowOk}
 use Rattle.given.proofs.Through.{span-good}
 use Rattle.given.proofs.Marks.{markTop, top-is}
@@ -106,7 +106,7 @@ module _ {bs : List ℕ} {i : ℕ} {s : Standing} {ps : List ℕ} {t : Things} {
     pub record Small : Type 0 where
       pub elses-low : p .elses ≤ 1
       pub own-low : p .own ≤ 1
-      pub rows-low : t .chained + rowsIn p ≤ 4096
+      pub rows-low : t .chained + rowsIn p ≤ manyRows
       pub slot-low : p .slot < maxRows
       pub count-low : p .count ≤ i + 1
 
@@ -118,7 +118,7 @@ module _ {bs : List ℕ} {i : ℕ} {s : Standing} {ps : List ℕ} {t : Things} {
         record {
           elses-low = subst (λ z. z .elses ≤ 1) (sym plan-is) (q .0);
           own-low = subst (λ z. z .own ≤ 1) (sym plan-is) (q .1);
-          rows-low = subst (λ z. t .chained + rowsIn z ≤ 4096) (sym plan-is) (omega (arith, q .0, q .1, q .2, v .chained-low));
+          rows-low = subst (λ z. t .chained + rowsIn z ≤ manyRows) (sym plan-is) (omega (arith, q .0, q .1, q .2, v .chained-low));
           slot-low = subst (λ z. z .slot < maxRows) (sym plan-is) (omega (arith, q .3, v .count-low));
           count-low = subst (λ z. z .count ≤ i + 1) (sym plan-is) (omega (arith, q .4, v .count-low));
         }

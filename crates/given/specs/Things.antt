@@ -16,6 +16,10 @@ markOf s = cond (s .inDefault) 2 1 + 2 * length (s .used)
 abbrev pub markedCases : (mark : ℕ) → ℕ
 markedCases m = (m - 1) / 2
 
+-- the largest: of a switch with 16 cases, in its default
+abbrev pub mostMark : ℕ
+mostMark = 34
+
 -- of the first so many marks the last
 abbrev pub topMark : (marks : List ℕ) → (count : ℕ) → ℕ
 topMark ms n = cond (eqb n 0) 0 (getD ms (n - 1) 0)

@@ -21,6 +21,10 @@ use Rattle.scan.specs.Next.{At, NextSane}
 use Rattle.given.specs.declared.plan.Plan.{Plan}
 use Rattle.given.specs.Plan.{plannedRows}
 
+-- more than the rows of any chain: three for each of 1,024 rows, and those of the row that is being looked at
+abbrev pub manyRows : ℕ
+manyRows = 4096
+
 -- the buffer begins with the chain c, as long as it has room for it: what has no room is not stored
 abbrev pub Written : (c : Table) → (out : List ℕ) → Type 0
 Written c out = rowWidth * length c ≤ length out → take (rowWidth * length c) out ≡ tableBytes c

@@ -68,15 +68,9 @@ fn switch_stray(top: u8, count: usize) -> bool
     top == 1
 }
 
-pub fn case_cause(
-    number: u16,
-    top: u8,
-    count: usize,
-    cases: usize,
-    used: &[u16; CONSTRUCTS + 1],
-) -> Verdict
+pub fn case_cause(number: u16, top: u8, cases: usize, used: &[u16; CONSTRUCTS + 1]) -> Verdict
     requires { ⌜ (cases ≤ maxConstructs) × (markedCases top ≤ cases) ⌝ }
-    ensures { λ r. ⌜ r ≡ causeOf Sort.Case number top count cases (now (used .entry)) ⌝ }
+    ensures { λ r. ⌜ r ≡ causeOf Sort.Case number top 0 cases (now (used .entry)) ⌝ }
 {
     let again = among(number, used, cases, cases_of(top));
     refuse_first(
@@ -103,7 +97,7 @@ pub fn cause(
         Sort::Wrong => Verdict::Refused(Refusal::WrongField),
         Sort::Plain(kind) => refuse_if(plain_stray(kind, top), Refusal::Misplaced),
         Sort::Switch => refuse_if(switch_stray(top, count), Refusal::Misplaced),
-        Sort::Case => case_cause(number, top, count, cases, used),
+        Sort::Case => case_cause(number, top, cases, used),
         Sort::Default => refuse_if(top % 2 == 0, Refusal::Misplaced),
     }
 }

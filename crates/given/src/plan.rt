@@ -5,6 +5,7 @@ ghost use Prim.Native.Nat.{_+_, _-_, _≤_};
 ghost use Rattle.rules.specs.Limits.{maxRows, maxConstructs};
 ghost use Rattle.rules.specs.Scan.{isEnd};
 ghost use Rattle.rules.specs.Links.{isOpening};
+ghost use Rattle.given.specs.Things.{mostMark};
 ghost use Rattle.given.specs.Plan.{countAfter, elsesBy, closesSwitch, closingPlan, plainPlan, planOf};
 use crate::sort::Sort;
 use crate::things::cases_of;
@@ -145,7 +146,7 @@ fn plain(kind: Kind, top: u8, count: usize, cases: usize) -> Plan
 
 // What a row does where the innermost thing has the mark `top`.
 pub fn plan_of(sort: Sort, top: u8, count: usize, cases: usize) -> Plan
-    requires { ⌜ (count ≤ maxRows) × (cases ≤ maxConstructs) × (top ≤ 34) ⌝ }
+    requires { ⌜ (count ≤ maxRows) × (cases ≤ maxConstructs) × (top ≤ mostMark) ⌝ }
     ensures { λ r. ⌜ r ≡ planOf sort top count cases ⌝ }
 {
     match sort {

@@ -3,6 +3,8 @@ ghost use mathlib.Core.Path.{_≡_};
 ghost use Prim.Native.Nat.{_+_, _*_, _≤_, _<_};
 ghost use lib.ListN.{length, getD, set};
 ghost use Rattle.rules.specs.Limits.{maxRows, maxConstructs};
+ghost use Rattle.rules.specs.Row.{rowWidth};
+ghost use Rattle.given.specs.Through.{manyRows};
 ghost use Rattle.given.specs.Reached.{Reached, Here, Sound, varBy, ownRow, rowsIn, grown, lengthened, RowOk};
 use crate::causes::case_cause;
 use crate::causes::cause;
@@ -62,7 +64,7 @@ fn own_row(sort: Sort, var: u8, row: &[u8]) -> Row
 }
 
 fn things_after(t: Things, p: Plan, at: usize) -> Things
-    requires { ⌜ t .chained + rowsIn p ≤ 4096 ⌝ }
+    requires { ⌜ t .chained + rowsIn p ≤ manyRows ⌝ }
     ensures { λ r. ⌜ r ≡ grown t p at ⌝ }
 {
     let chained = t.chained + (p.elses + (p.own + p.ends));
@@ -164,7 +166,7 @@ fn other_row(
 
 // Another row of the chain, by row `at`; nothing opens or closes.
 fn one_more(t: Things, at: usize) -> Things
-    requires { ⌜ t .chained < 4096 ⌝ }
+    requires { ⌜ t .chained < manyRows ⌝ }
     ensures { λ r. ⌜ r ≡ lengthened t at ⌝ }
 {
     let chained = t.chained + 1;
@@ -190,7 +192,7 @@ fn do_row(
 ) -> After
     requires { ⌜ Here (now rows) at ⌝ }
     requires { ⌜ Reached (now rows) at s (now parts) t (now marks) (now vars) (now used) (now chain) ⌝ }
-    requires { ⌜ getD (now rows) (6 * at) 0 ≡ 2 ⌝ }
+    requires { ⌜ getD (now rows) (rowWidth * at) 0 ≡ 0x02 ⌝ }
     ensures { λ r. ⌜ RowOk (now (rows .entry)) at (now (parts .entry)) (now (marks .entry)) (now (vars .entry)) (now (used .entry)) (now (chain .exit)) r ⌝ }
 {
     let from = WIDTH * at;
@@ -257,7 +259,7 @@ fn case_row(
 ) -> After
     requires { ⌜ Here (now rows) at ⌝ }
     requires { ⌜ Reached (now rows) at s (now parts) t (now marks) (now vars) (now used) (now chain) ⌝ }
-    requires { ⌜ getD (now rows) (6 * at) 0 ≡ 11 ⌝ }
+    requires { ⌜ getD (now rows) (rowWidth * at) 0 ≡ 0x0b ⌝ }
     ensures { λ r. ⌜ RowOk (now (rows .entry)) at (now (parts .exit)) (now (marks .exit)) (now (vars .exit)) (now (used .exit)) (now (chain .exit)) r ⌝ }
 {
     let from = WIDTH * at;
@@ -266,7 +268,7 @@ fn case_row(
     }
     let top = innermost(marks, t.count);
     let number = word(rows, from + 4);
-    match case_cause(number, top, t.count, t.cases, used) {
+    match case_cause(number, top, t.cases, used) {
         Verdict::Refused(r) => After::Faulty(r),
         Verdict::Accepted => take_case(
             rows,

@@ -3,7 +3,7 @@ ghost use mathlib.Core.Path.{_≡_};
 ghost use Prim.Native.Nat.{_+_, _≤_};
 ghost use Rattle.scan.specs.Standing.{Sane};
 ghost use Rattle.rows.specs.Row.{six};
-ghost use Rattle.given.specs.Through.{stored, Through, OwnOk, BehindOk, SpansOk};
+ghost use Rattle.given.specs.Through.{manyRows, stored, Through, OwnOk, BehindOk, SpansOk};
 ghost use Rattle.rules.specs.Switch.{bareRow};
 ghost use lib.ListN.{replicate};
 use crate::plan::Plan;
@@ -20,7 +20,7 @@ use scan::open::turn;
 
 // Behind so many rows of the chain, where there is room.
 pub fn store(row: Row, chained: usize, chain: &mut [u8])
-    requires { ⌜ chained ≤ 4096 ⌝ }
+    requires { ⌜ chained ≤ manyRows ⌝ }
     ensures { λ _. ⌜ now (chain .exit) ≡ stored (six row) chained (now (chain .entry)) ⌝ }
 {
     if chained < chain.len() / WIDTH {
@@ -31,7 +31,7 @@ pub fn store(row: Row, chained: usize, chain: &mut [u8])
 // No else, or one.
 fn elses(count: usize, s: Standing, parts: &mut [u8], chained: usize, chain: &mut [u8]) -> Next
     requires { ⌜ Sane s (now parts) ⌝ }
-    requires { ⌜ chained ≤ 4096 ⌝ }
+    requires { ⌜ chained ≤ manyRows ⌝ }
     requires { ⌜ count ≤ 1 ⌝ }
     ensures { λ r. ⌜ Through (replicate count (bareRow Kind.Else)) s (now (parts .entry)) (now (parts .exit)) chained (now (chain .entry)) (now (chain .exit)) r ⌝ }
 {
@@ -58,7 +58,7 @@ fn own(
     chain: &mut [u8],
 ) -> Next
     requires { ⌜ Sane s (now parts) ⌝ }
-    requires { ⌜ chained ≤ 4096 ⌝ }
+    requires { ⌜ chained ≤ manyRows ⌝ }
     requires { ⌜ count ≤ 1 ⌝ }
     ensures { λ r. ⌜ OwnOk count kind (six row) s (now (parts .entry)) (now (parts .exit)) chained (now (chain .entry)) (now (chain .exit)) r ⌝ }
 {
@@ -77,7 +77,7 @@ fn own(
 // So many ends.
 fn ends(count: usize, s: Standing, parts: &mut [u8], chained: usize, chain: &mut [u8]) -> Next
     requires { ⌜ Sane s (now parts) ⌝ }
-    requires { ⌜ chained + count ≤ 4096 ⌝ }
+    requires { ⌜ chained + count ≤ manyRows ⌝ }
     ensures { λ r. ⌜ Through (replicate count (bareRow Kind.End)) s (now (parts .entry)) (now (parts .exit)) chained (now (chain .entry)) (now (chain .exit)) r ⌝ }
 {
     let mut here = s;
@@ -106,7 +106,7 @@ fn behind(
 ) -> Next
     requires { ⌜ Sane s (now parts) ⌝ }
     requires { ⌜ p .own ≤ 1 ⌝ }
-    requires { ⌜ chained + (p .own + p .ends) ≤ 4096 ⌝ }
+    requires { ⌜ chained + (p .own + p .ends) ≤ manyRows ⌝ }
     ensures { λ r. ⌜ BehindOk p (six row) s (now (parts .entry)) (now (parts .exit)) chained (now (chain .entry)) (now (chain .exit)) r ⌝ }
 {
     let kind = p.kind;
@@ -128,7 +128,7 @@ pub fn spans(
     requires { ⌜ Sane s (now parts) ⌝ }
     requires { ⌜ p .elses ≤ 1 ⌝ }
     requires { ⌜ p .own ≤ 1 ⌝ }
-    requires { ⌜ chained + (p .elses + (p .own + p .ends)) ≤ 4096 ⌝ }
+    requires { ⌜ chained + (p .elses + (p .own + p .ends)) ≤ manyRows ⌝ }
     ensures { λ r. ⌜ SpansOk p (six row) s (now (parts .entry)) (now (parts .exit)) chained (now (chain .entry)) (now (chain .exit)) r ⌝ }
 {
     match elses(p.elses, s, parts, chained, chain) {
@@ -149,7 +149,7 @@ pub fn case_spans(
     requires { ⌜ Sane s (now parts) ⌝ }
     requires { ⌜ p .elses ≤ 1 ⌝ }
     requires { ⌜ (p .own ≡ 1) × (p .ends ≡ 0) × (p .kind ≡ Kind.If) ⌝ }
-    requires { ⌜ chained + 2 ≤ 4096 ⌝ }
+    requires { ⌜ chained + 2 ≤ manyRows ⌝ }
     ensures { λ r. ⌜ SpansOk p (six row) s (now (parts .entry)) (now (parts .exit)) chained (now (chain .entry)) (now (chain .exit)) r ⌝ }
 {
     match elses(p.elses, s, parts, chained, chain) {
