@@ -1,5 +1,5 @@
-//! Document 01, with the switch of 02, a second time, written from the documents
-//! alone, to test another implementation against. See README.md.
+//! Document 01, with the switch and the figures of 02, a second time, written from
+//! the documents alone, to test another implementation against. See README.md.
 
 pub mod around;
 pub mod calls;
@@ -22,6 +22,8 @@ pub mod line;
 pub mod machine;
 pub mod make;
 pub mod malformed_texts;
+pub mod measure;
+pub mod measure_text;
 pub mod parse;
 pub mod printed;
 pub mod program;
@@ -34,9 +36,11 @@ pub mod refusal;
 pub mod refused_texts;
 pub mod replay;
 pub mod replay_fault;
+pub mod replay_measure;
 pub mod replay_read;
 pub mod replay_run;
 pub mod row;
+pub mod run_call_cases;
 pub mod run_cases;
 pub mod run_text;
 pub mod run_trace_cases;
@@ -54,3 +58,4 @@ pub mod usage;
 pub mod written;
 
 pub use calls::{check, harden, read_back, run_hardened, run_source, Ran, Written};
+pub use measure::{hardened_steps, measure, Measured};

@@ -10,17 +10,20 @@ use std::process::ExitCode;
 use independent::printed::{self, Printed};
 use independent::programs::Program;
 use independent::protocol::Test;
-use independent::{replay, replay_fault, replay_read, replay_run, run_cases, texts};
+use independent::{replay, replay_fault, replay_measure, replay_read, replay_run};
+use independent::{run_cases, texts};
 
 const USAGE: &str = "usage:
   independent harden                            rows on stdin, lines on stdout
+  independent measure                           rows on stdin, figures on stdout
   independent readback                          lines on stdin, rows on stdout
   independent explain                           rows on stdin, number, row and words on stdout
-  independent texts SEED COUNT DIR              texts for these three, and their answers
+  independent texts SEED COUNT DIR              texts for these four, and their answers
   independent run WORDS                         a run of the table on stdin
   independent run-cases SEED COUNT DIR          command lines and inputs for it, and its answers
   independent replay SEED COUNT DIR             tests of check and harden
   independent replay-fault SEED COUNT DIR       tests of fault
+  independent replay-measure SEED COUNT DIR     tests of measure and hardened_steps
   independent replay-read SEED COUNT DIR        tests of reading back
   independent replay-bytes DIR                  one byte of the listing, every way
   independent replay-run SEED COUNT DIR [long]  tests of runs";
@@ -75,6 +78,9 @@ fn write_files(given: &[OsString]) -> io::Result<()> {
         }
         ["replay-fault", seed, count, to] => {
             files(replay_fault::tests, seed, count, to, Vec::new())
+        }
+        ["replay-measure", seed, count, to] => {
+            files(replay_measure::tests, seed, count, to, Vec::new())
         }
         ["replay", seed, count, to] => files(replay::tests, seed, count, to, Vec::new()),
         ["replay-read", seed, count, to] => files(replay_read::tests, seed, count, to, Vec::new()),

@@ -1,8 +1,9 @@
-//! The four programs by name: what each prints for its words and its input.
+//! The five programs by name: what each prints for its words and its input.
 
 use std::io::{self, Read};
 
 use crate::explain;
+use crate::measure_text;
 use crate::printed::Printed;
 use crate::run_text;
 use crate::text;
@@ -11,17 +12,20 @@ use crate::usage;
 #[derive(Clone, Copy, Debug, PartialEq, Eq)]
 pub enum Program {
     Harden,
+    Measure,
     Readback,
     Explain,
     Run,
 }
 
 impl Program {
-    const ALL: [Program; 4] = [Program::Harden, Program::Readback, Program::Explain, Program::Run];
+    const ALL: [Program; 5] =
+        [Program::Harden, Program::Measure, Program::Readback, Program::Explain, Program::Run];
 
     pub fn name(self) -> &'static str {
         match self {
             Program::Harden => "harden",
+            Program::Measure => "measure",
             Program::Readback => "readback",
             Program::Explain => "explain",
             Program::Run => "run",
@@ -36,6 +40,7 @@ impl Program {
     pub fn printed(self, words: &[Vec<u8>], input: impl Read) -> io::Result<Printed> {
         match self {
             Program::Harden => of_words_or(words, usage::HARDEN, || text::harden(input)),
+            Program::Measure => of_words_or(words, usage::MEASURE, || measure_text::measure(input)),
             Program::Readback => of_words_or(words, usage::READBACK, || text::read_back(input)),
             Program::Explain => of_words_or(words, usage::EXPLAIN, || explain::explain(input)),
             Program::Run => run_text::run(words, input),

@@ -5,6 +5,7 @@
 use crate::calls::{self, Ran, Written, COUNTER_WORDS};
 use crate::fault::{self, Fault};
 use crate::machine::Variables;
+use crate::measure::{self, Measured};
 use crate::text::hex;
 
 /// A lent output is filled with this byte before the call.
@@ -40,6 +41,19 @@ pub fn harden(out_length: usize, rows: &[u8]) -> Test {
     let written = calls::harden(rows, &mut out);
     let ask = format!("harden {out_length} {}", hex_or_dash(rows));
     Test { ask, answer: written_answer(written, &out) }
+}
+
+/// `measure HEXROWS`, answer `NUMBER LINES REGIONS VALUE`.
+pub fn measure(rows: &[u8]) -> Test {
+    let Measured { number, lines, regions, value } = measure::measure(rows);
+    let ask = format!("measure {}", hex_or_dash(rows));
+    Test { ask, answer: format!("{number} {lines} {regions} {value}") }
+}
+
+/// `total STEPS DOS CALLS`, answer `SUM`.
+pub fn total(steps: u16, dos: u16, calls: u16) -> Test {
+    let ask = format!("total {steps} {dos} {calls}");
+    Test { ask, answer: measure::hardened_steps(steps, dos, calls).to_string() }
 }
 
 /// `read OUTLEN HEXLINES`, answer `NUMBER LENGTH HEXOUT`.

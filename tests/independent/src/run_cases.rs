@@ -17,6 +17,7 @@ use crate::program;
 use crate::random::Random;
 use crate::replay_run::{some_budget, some_strike};
 use crate::row::ROW_BYTES;
+use crate::run_call_cases;
 use crate::run_text;
 use crate::run_trace_cases;
 use crate::run_word_cases;
@@ -55,6 +56,7 @@ pub fn cases(seed: u64, count: usize) -> Vec<Case> {
     cases.extend(unreadable());
     cases.extend(run_word_cases::all());
     cases.extend(run_trace_cases::all());
+    cases.extend(run_call_cases::all());
     cases.extend((0..count).map(|_| random(&mut rng)));
     cases
 }

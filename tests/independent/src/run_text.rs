@@ -6,7 +6,7 @@ use std::io::{self, Read};
 
 use crate::hardened_run::{HardenedRun, Jump, Sight, What};
 use crate::line::{self, LINE_BYTES};
-use crate::machine::{Outcome, Variables, MOST_OPEN_FUNCTIONS, NO_JUMP};
+use crate::machine::{Outcome, MOST_OPEN_FUNCTIONS, NO_JUMP};
 use crate::printed::Printed;
 use crate::readback;
 use crate::records;
@@ -69,7 +69,9 @@ fn source(asked: &Asked, rows: &[u8]) -> Result<String, Refusal> {
         }
         text.push_str(&limit_met(outcome, None));
     }
-    text.push_str(&answer(asked, outcome, run.steps, &run.trace, &run.variables));
+    text.push_str(&ended(asked, outcome, run.steps, &run.trace));
+    line(&mut text, format!("calls {}", run.calls));
+    line(&mut text, listed("variables", &run.variables));
     Ok(text)
 }
 
@@ -87,7 +89,8 @@ fn hardened(asked: &Asked, bytes: &[u8]) -> Result<String, Refusal> {
     if asked.show {
         text.push_str(&limit_met(outcome, Some(run.span().m)));
     }
-    text.push_str(&answer(asked, outcome, run.steps, &run.trace, &run.variables));
+    text.push_str(&ended(asked, outcome, run.steps, &run.trace));
+    line(&mut text, listed("variables", &run.variables));
     Ok(text)
 }
 
@@ -126,19 +129,13 @@ fn limit_met(outcome: Outcome, last_place: Option<usize>) -> String {
     }
 }
 
-/// "An accepted run prints four lines": outcome, steps, trace, variables.
-fn answer(
-    asked: &Asked,
-    outcome: Outcome,
-    steps: u16,
-    trace: &[u16],
-    variables: &Variables,
-) -> String {
+/// "An accepted run prints four lines, a source run one more": these are outcome, steps
+/// and trace, behind which a source run's calls stand, then the variables.
+fn ended(asked: &Asked, outcome: Outcome, steps: u16, trace: &[u16]) -> String {
     let mut text = String::new();
     line(&mut text, format!("outcome {} {}", outcome.number(), outcome.words()));
     line(&mut text, format!("steps {steps}"));
     text.push_str(&traced(trace, asked.trace));
-    line(&mut text, listed("variables", variables));
     text
 }
 

@@ -137,9 +137,9 @@ fn beyond() -> Vec<Case> {
     cases
 }
 
-/// "`jump=65535:P` is accepted and told on standard error"; in a source run it is
-/// wrong as any jump is. Where the table is turned away, or is not read, there is
-/// no run that it could come before.
+/// "`jump=65535:P` is accepted and told on standard error once all words are taken,
+/// before the input is read": so also where the table is turned away. In a source run
+/// it is wrong as any jump is.
 fn no_jump() -> Vec<Case> {
     let rows = limits::worked_listing();
     let lines = damage::hardened(&rows);

@@ -21,7 +21,7 @@ pub struct SourceRun<'a> {
     pub variables: Variables,
     /// "The trace is the do row numbers in order."
     pub trace: Vec<u16>,
-    /// calls made
+    /// calls made: a call row that opened its function, so not the one that met 3
     pub calls: u16,
     /// "the numbers of those opened and not returned, oldest first"
     pub open: Vec<usize>,

@@ -1,5 +1,5 @@
-//! The files of `independent texts`: texts for `harden`, `readback` and `explain`,
-//! and what each of them prints.
+//! The files of `independent texts`: texts for `harden`, `measure`, `readback` and
+//! `explain`, and what each of them prints.
 
 use std::collections::BTreeSet;
 use std::fs;
@@ -27,11 +27,12 @@ pub struct Text {
 }
 
 /// The programs that read rows.
-pub const OF_ROWS: &[Program] = &[Program::Harden, Program::Explain];
+pub const OF_ROWS: &[Program] = &[Program::Harden, Program::Measure, Program::Explain];
 /// The programs that read hardened lines.
 pub const OF_LINES: &[Program] = &[Program::Readback];
-/// All three.
-pub const OF_BOTH: &[Program] = &[Program::Harden, Program::Explain, Program::Readback];
+/// All four.
+pub const OF_BOTH: &[Program] =
+    &[Program::Harden, Program::Measure, Program::Explain, Program::Readback];
 
 /// The rows of a table as a text.
 pub fn of_rows(name: String, rows: &[u8]) -> Text {

@@ -1,4 +1,4 @@
-//! The usage of the four programs (docs/PROGRAMS.md, "Usage"), and when it is
+//! The usage of the five programs (docs/PROGRAMS.md, "Usage"), and when it is
 //! printed.
 
 use crate::printed::Printed;
@@ -6,6 +6,11 @@ use crate::printed::Printed;
 pub const HARDEN: &str = "\
 usage: harden < rows
 Reads a source table, 12 hexadecimal digits to a line, and prints its hardened lines, or refused N, or unreadable.
+";
+
+pub const MEASURE: &str = "\
+usage: measure < rows
+Reads a source table, 12 hexadecimal digits to a line, and prints the figures of its hardened table, or refused N, or unreadable.
 ";
 
 pub const READBACK: &str = "\
@@ -30,8 +35,8 @@ pub fn is_help(word: &[u8]) -> bool {
     word == b"--help"
 }
 
-/// What `harden`, `readback` or `explain` prints where a word is given: its usage,
-/// to standard output if it was asked for. No input is read then.
+/// What `harden`, `measure`, `readback` or `explain` prints where a word is given: its
+/// usage, to standard output if it was asked for. No input is read then.
 pub fn of_words(words: &[Vec<u8>], usage: &str) -> Option<Printed> {
     let first = words.first()?;
     Some(if is_help(first) { Printed::out(usage) } else { Printed::err(usage) })

@@ -4,7 +4,7 @@
 use std::collections::BTreeMap;
 
 use independent::protocol::{self, Test};
-use independent::{replay, replay_fault, replay_read, replay_run};
+use independent::{replay, replay_fault, replay_measure, replay_read, replay_run};
 
 fn size(tests: &[Test]) -> (usize, usize) {
     let sum = |pick: fn(&Test) -> usize| tests.iter().map(|test| pick(test) + 1).sum();
@@ -23,7 +23,7 @@ fn first_words(tests: &[Test], words: usize) -> BTreeMap<String, usize> {
 
 #[test]
 fn same_seed_same_files() {
-    for make in [replay::tests, replay_read::tests, replay_run::tests] {
+    for make in [replay::tests, replay_read::tests, replay_run::tests, replay_measure::tests] {
         assert_eq!(make(5, 60), make(5, 60));
         assert_ne!(make(5, 60), make(6, 60));
         let (few, many) = (make(5, 0), make(5, 60));
@@ -37,6 +37,7 @@ fn fixed_tests_come_first() {
         (replay::tests as fn(u64, usize) -> Vec<Test>, replay::fixed()),
         (replay_read::tests, replay_read::fixed()),
         (replay_run::tests, replay_run::fixed()),
+        (replay_measure::tests, replay_measure::fixed()),
     ] {
         assert_eq!(make(77, 10)[..fixed.len()], fixed);
     }
@@ -44,7 +45,7 @@ fn fixed_tests_come_first() {
 
 #[test]
 fn moderate_sizes() {
-    for make in [replay::tests, replay_read::tests, replay_run::tests] {
+    for make in [replay::tests, replay_read::tests, replay_run::tests, replay_measure::tests] {
         for seed in 0..12 {
             let tests = make(seed, 600);
             let (asks, answers) = size(&tests);
@@ -64,6 +65,11 @@ fn every_number_comes() {
     for number in [0, 1, 2, 3, 4, 5, 6, 7, 11] {
         assert!(found[&number.to_string()] >= 10, "{found:?}");
     }
+    let measures = asked(replay_measure::tests(1, 600), "measure");
+    let found = first_words(&measures, 1);
+    for number in [0, 1, 2, 3, 4, 5, 6, 7, 11] {
+        assert!(found[&number.to_string()] >= 8, "{found:?}");
+    }
     let found = first_words(&replay_read::tests(1, 600), 1);
     for number in ["0", "8", "10"] {
         assert!(found[number] >= 20, "{found:?}");
@@ -78,6 +84,29 @@ fn every_number_comes() {
     }
 }
 
+/// The tests that ask for this.
+fn asked(tests: Vec<Test>, what: &str) -> Vec<Test> {
+    tests.into_iter().filter(|test| test.ask.split(' ').next() == Some(what)).collect()
+}
+
+/// Figures and sums, among them those of each size.
+#[test]
+fn every_figure_comes() {
+    let tests = replay_measure::tests(1, 600);
+    assert!(tests.len() < 1500 + 600);
+    let figures = |at: usize| -> Vec<u32> {
+        let measures = asked(tests.clone(), "measure").into_iter();
+        measures.map(|test| test.answer.split(' ').nth(at).unwrap().parse().unwrap()).collect()
+    };
+    let [lines, regions, values] = [1, 2, 3].map(figures);
+    assert_eq!((lines.iter().max(), values.iter().max()), (Some(&2045), Some(&2046)));
+    assert!((0..=64).all(|count| regions.contains(&count)));
+    let totals = asked(tests.clone(), "total");
+    assert!(totals.len() > 200);
+    let is_past = |test: &&Test| test.answer.parse::<u32>().unwrap() > 65_535;
+    assert!((80..totals.len() - 80).contains(&totals.iter().filter(is_past).count()));
+}
+
 /// The rows in a test that asks for rows begin behind the last space.
 fn asks_with_a_switch(tests: &[Test]) -> usize {
     let has_switch = |rows: &str| (0..rows.len() / 12).any(|at| rows[12 * at..].starts_with("0a"));
@@ -86,7 +115,7 @@ fn asks_with_a_switch(tests: &[Test]) -> usize {
 
 #[test]
 fn a_third_of_the_tables_has_a_switch() {
-    for make in [replay::tests, replay_fault::tests] {
+    for make in [replay::tests, replay_fault::tests, replay_measure::tests] {
         let tests = make(9, 3000);
         let random = &tests[tests.len() - 3000..];
         let count = asks_with_a_switch(random);
@@ -112,6 +141,13 @@ fn the_lines_spell_what_the_readme_says() {
     assert_eq!(short.answer, "8 0 a5a5");
     let none = protocol::harden(0, &pair);
     assert_eq!(none.answer, "8 0 -");
+    let figures = protocol::measure(&pair);
+    assert_eq!(figures.ask, "measure 010000000000060000000000");
+    assert_eq!(figures.answer, "0 1 1 2");
+    let refused = protocol::measure(&[]);
+    assert_eq!((refused.ask.as_str(), refused.answer.as_str()), ("measure -", "1 0 0 0"));
+    let sum = protocol::total(65_535, 65_535, 65_535);
+    assert_eq!((sum.ask.as_str(), sum.answer.as_str()), ("total 65535 65535 65535", "196605"));
     let run = protocol::source(2, 3, &[0; 16], &pair);
     assert_eq!(run.ask, "source 2 3 0,0,0,0,0,0,0,0,0,0,0,0,0,0,0,0 010000000000060000000000");
     assert_eq!(run.answer, "0 1 1 0 0,0,0,0,0,0,0,0,0,0,0,0,0,0,0,0 43690,43690,43690");

@@ -22,6 +22,7 @@ fn told(program: Program, input: impl AsRef<[u8]>, line: &str) {
 
 fn told_of_rows(input: impl AsRef<[u8]>, line: &str) {
     told(Program::Harden, &input, line);
+    told(Program::Measure, &input, line);
     told(Program::Explain, &input, line);
 }
 
@@ -101,6 +102,8 @@ fn not_malformed() {
     assert_eq!(printed(Program::Harden, ROW.as_bytes()), Printed::out(lone));
     assert_eq!(printed(Program::Harden, format!("{ROW}\n").as_bytes()), Printed::out(lone));
     assert_eq!(printed(Program::Harden, b""), Printed::out("refused 1\n"));
+    assert_eq!(printed(Program::Measure, ROW.as_bytes()), Printed::out(lone));
+    assert_eq!(printed(Program::Measure, b""), Printed::out("refused 1\n"));
     assert_eq!(printed(Program::Explain, b""), Printed::out("refused 1 at row 0: no rows\n"));
     assert_eq!(printed(Program::Readback, b""), Printed::out("refused 10\n"));
 }
@@ -110,7 +113,7 @@ fn not_malformed() {
 #[test]
 fn the_texts_meet_every_row() {
     let texts = texts::all(1, 0);
-    for program in [Program::Harden, Program::Explain, Program::Readback] {
+    for program in [Program::Harden, Program::Measure, Program::Explain, Program::Readback] {
         let of_program = texts.iter().filter(|text| text.programs.contains(&program));
         let told: Vec<String> = of_program
             .map(|text| String::from_utf8(printed(program, &text.bytes).err).unwrap())

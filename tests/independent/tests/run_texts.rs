@@ -35,6 +35,7 @@ step 8 function 0 row 5 end
 outcome 1 finished
 steps 9
 trace 1 3 3
+calls 0
 variables 0 1 0 0 0 0 0 0 0 0 0 0 0 0 0 0
 ";
     assert_eq!(out("source show budget=20 v1=1", ROWS), expected);
@@ -54,6 +55,7 @@ step 5 function 0 row 10 end
 outcome 1 finished
 steps 6
 trace 5
+calls 0
 variables 50 2 0 0 0 0 0 0 0 0 0 0 0 0 0 0
 ";
     assert_eq!(out("source show v0=50", &rows), expected);
@@ -187,10 +189,12 @@ fn dos(count: usize) -> String {
     "010000000000\n".to_string() + &"020000000500\n".repeat(count) + "060000000000\n"
 }
 
-/// Each kind of trace, between the steps and the variables.
+/// Each kind of trace, between the steps and the calls, or in a hardened run the
+/// variables.
 #[test]
 fn traces() {
-    let none = "variables 5 0 0 0 0 0 0 0 0 0 0 0 0 0 0 0\n";
+    let variables = "variables 5 0 0 0 0 0 0 0 0 0 0 0 0 0 0 0\n";
+    let none = format!("calls 0\n{variables}");
     let nineteen = "trace 1 2 3 4 5 6 7 8 9 10 11 12 13 14 15 16 17 18 19\n";
     let twenty = "trace 1 2 3 4 5 6 7 8 9 10 11 12 13 14 15 16 17 18 19 20\n";
     for words in ["source", "source trace", "source trace budget=65535"] {
@@ -215,7 +219,7 @@ trace of 40 rows
 ";
     assert_eq!(
         out("hardened trace", &hardened(&dos(40))),
-        format!("outcome 1 finished\nsteps 81\n{listed}{none}")
+        format!("outcome 1 finished\nsteps 81\n{listed}{variables}")
     );
 }
 
@@ -230,11 +234,64 @@ fn a_run_that_never_ends() {
     let row = " 2 2 2 2 2 2 2 2 2 2 2 2 2 2 2 2 2 2 2 2";
     let lines: Vec<&str> = listed.lines().collect();
     // 21,845 is 1,092 lines of 20 and 5 more
-    assert_eq!(lines.len(), 3 + 1092 + 1 + 1);
+    assert_eq!(lines.len(), 3 + 1092 + 1 + 2);
     assert_eq!(lines[2], "trace of 21845 rows");
     assert!(lines[3..1095].iter().all(|line| *line == row));
     assert_eq!(lines[1095], " 2 2 2 2 2");
-    assert!(lines[1096].starts_with("variables "));
+    assert_eq!(lines[1096], "calls 0");
+    assert!(lines[1097].starts_with("variables "));
+}
+
+/// "the calls made, each of them a call row that opened its function"
+fn calls(words: &str, rows: &[u8]) -> usize {
+    let text = out(words, &text::lines(rows, 6));
+    let lines: Vec<&str> = text.lines().collect();
+    let [.., calls, variables] = lines[..] else { panic!("{text}") };
+    assert!(variables.starts_with("variables "));
+    calls.strip_prefix("calls ").unwrap().parse().unwrap()
+}
+
+/// "The one that meets outcome 3 opened none."
+#[test]
+fn calls_made() {
+    let recursion = limits::recursion();
+    for (first, made) in [(0, 0), (1, 1), (2, 2), (14, 14), (15, 15), (16, 15), (99, 15)] {
+        assert_eq!(calls(&format!("source v1=1 v0={first}"), &recursion), made);
+        assert_eq!(calls(&format!("source v1=1 v0={first} show trace"), &recursion), made);
+    }
+    // if, do, call; then the same again: the second call is step 5
+    for (budget, made) in [(0, 0), (2, 0), (3, 1), (5, 1), (6, 2), (7, 2)] {
+        assert_eq!(calls(&format!("source v1=1 v0=9 budget={budget}"), &recursion), made);
+    }
+    // a call in a case
+    assert_eq!(calls("source v15=1", &switch_limits::bands()), 1);
+    assert_eq!(calls("source v15=1 v0=2", &switch_limits::bands()), 0);
+    // one function after the other, each from the one before
+    assert_eq!(calls("source", &limits::functions(16)), 15);
+    assert_eq!(calls("source", &limits::functions(17)), 15);
+}
+
+/// A call and a do, listed by hand.
+#[test]
+fn a_call_step_by_step() {
+    let rows = "010000000000\n090000000100\n060000000000\n\
+        010000000000\n020000000500\n060000000000\n";
+    let expected = "\
+step 0 function 0 row 1 call
+step 1 function 1 row 4 do
+step 2 function 1 row 5 end
+step 3 function 0 row 2 end
+outcome 1 finished
+steps 4
+trace 4
+calls 1
+variables 5 0 0 0 0 0 0 0 0 0 0 0 0 0 0 0
+";
+    assert_eq!(out("source show", rows), expected);
+    // 4 steps, a do and a call: 6, and no line for the calls
+    let expected = "outcome 1 finished\nsteps 6\ntrace 4\n\
+        variables 5 0 0 0 0 0 0 0 0 0 0 0 0 0 0 0\n";
+    assert_eq!(out("hardened", &hardened(rows)), expected);
 }
 
 #[test]

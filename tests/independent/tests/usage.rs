@@ -1,4 +1,4 @@
-//! The usage of the four programs, copied by hand from docs/PROGRAMS.md, and the
+//! The usage of the five programs, copied by hand from docs/PROGRAMS.md, and the
 //! words for failures.
 
 use std::io::{self, Read};
@@ -6,12 +6,18 @@ use std::io::{self, Read};
 use independent::printed::{self, Printed};
 use independent::programs::Program;
 
-const USAGES: [(Program, &str); 4] = [
+const USAGES: [(Program, &str); 5] = [
     (
         Program::Harden,
         "usage: harden < rows\n\
          Reads a source table, 12 hexadecimal digits to a line, and prints its hardened lines, or \
          refused N, or unreadable.\n",
+    ),
+    (
+        Program::Measure,
+        "usage: measure < rows\n\
+         Reads a source table, 12 hexadecimal digits to a line, and prints the figures of its \
+         hardened table, or refused N, or unreadable.\n",
     ),
     (
         Program::Readback,
@@ -60,13 +66,13 @@ fn asked_for() {
 
 #[test]
 fn met() {
-    for (program, usage) in &USAGES[..3] {
+    for (program, usage) in &USAGES[..4] {
         for word in ["x", "", "source", "-h", "--Help", "--help=1", "-"] {
             assert_eq!(unread(*program, &[word]), Printed::err(*usage));
             assert_eq!(unread(*program, &[word, "--help"]), Printed::err(*usage));
         }
     }
-    let (program, usage) = USAGES[3];
+    let (program, usage) = USAGES[4];
     assert_eq!(unread(program, &[]), Printed::err(usage));
 }
 
@@ -81,6 +87,7 @@ fn wrong_word() {
 fn failures() {
     for (program, words) in [
         (Program::Harden, vec![]),
+        (Program::Measure, vec![]),
         (Program::Readback, vec![]),
         (Program::Explain, vec![]),
         (Program::Run, vec![b"source".to_vec()]),
