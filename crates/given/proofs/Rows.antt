@@ -2,8 +2,7 @@
 use mathlib.Core.Path.{_≡_, refl, sym, ap, _∙_, subst}
 use mathlib.Core.Bool.{Bool, true, false, cond, not}
 use mathlib.Core.List.{List, [], _∷_}
-use Prim.Native.Nat.{ℕ, zero, suc, _+_, _*_, _-_, _/_, _≤_, _<_}
-use native.Mathlib.Nat.{add-zero}
+use Prim.Native.Nat.{ℕ, _+_, _*_, _-_, _≤_, _<_}
 use native.Mathlib.Omega.{arith}
 use lib.Dec.{eqb, ltb}
 use lib.ListN.{length, getD, take, drop}
@@ -20,13 +19,13 @@ use Rattle.rules.specs.Row.{Row, rowWidth, rowIn, rowBytes, fieldsFit}
 use Rattle.rules.specs.Scan.{isEnd}
 use Rattle.rules.specs.Links.{isOpening}
 use Rattle.rules.specs.Refusal.{refuseIf, andThen}
-use Rattle.rules.specs.Switch.{GivenRow, asIs, switchRow, caseRow, defaultRow, givenAs, givenFrom, givenOf, givenAt, Thing, construct, switch, thingsAt, chainRows, chainTo, chainOf}
+use Rattle.rules.specs.Switch.{GivenRow, asIs, switchRow, caseRow, defaultRow, givenAs, givenOf, givenAt, Thing, construct, switch, thingsAt, chainRows, chainTo, chainOf}
 use Rattle.rules.specs.Given.{givenFits, strays, repeats, spanVerdict, givenRowVerdict}
 use Rattle.rules.specs.Chained.{casesIn}
 use Rattle.rules.proofs.Logic.{clash}
 use Rattle.rules.proofs.Accepted.{refused-not}
 use Rattle.rules.proofs.Encode.{row-drop}
-use Rattle.rules.proofs.Switch.Chain.{given-length}
+use Rattle.rules.proofs.Switch.Chain.{given-length, row-given}
 use Rattle.rows.specs.declared.row.Row as code
 use Rattle.rows.specs.Row.{six, testRow}
 use Rattle.rows.proofs.Rows.{rest-all}
@@ -45,14 +44,6 @@ use Rattle.given.proofs.Marks.{mark-cases, markTop, top-is, var-is}
 use Rattle.given.proofs.Plans.{named, operandsOf, own, cause-is, ownOf}
 
 -- ---- the row as the bytes have it
-from-at : (bs : List ℕ) (i n j : ℕ) → j < n → givenAt (givenFrom bs i n) j ≡ givenAs (getD bs (rowWidth * (i + j)) 0) (rowIn bs (rowWidth * (i + j)))
-unfolding givenFrom
-from-at bs i zero j l = absurd (let z : ⊥ = omega arith in z)
-from-at bs i (suc n) zero l = ap (λ k. givenAs (getD bs (rowWidth * k) 0) (rowIn bs (rowWidth * k))) (sym (add-zero i))
-from-at bs i (suc n) (suc j) l =
-    let q : suc i + j ≡ i + suc j = omega arith in
-    from-at bs (suc i) n j (omega arith) ∙ ap (λ k. givenAs (getD bs (rowWidth * k) 0) (rowIn bs (rowWidth * k))) q
-
 operands-as : (b : ℕ) (r : Row) → operandsOf (givenAs b r) ≡ r .operands
 unfolding givenAs
 operands-as b r = by (eqb b 0x0a) (eqb b 0x0b) (eqb b 0x0c)
@@ -148,11 +139,9 @@ pub rest-bytes : (bs : List ℕ) (i : ℕ) → AreBytes bs → AreBytes (rest bs
 rest-bytes bs i w = record { each = λ j. subst (λ x. x < 256) (sym (getD-drop (rowWidth * i) bs j 0)) (w .each (rowWidth * i + j)) }
 
 pub given-at : (bs : List ℕ) (i : ℕ) → rowWidth * i + 5 < length bs → givenAt (givenOf bs) i ≡ firstGiven (drop (rowWidth * i) bs)
-unfolding givenOf
 given-at bs i within =
-    let z : 0 + i ≡ i = omega arith in
     let q : rowWidth * i ≡ rowWidth * i + 0 = omega arith in
-    from-at bs 0 (length bs / rowWidth) i (omega arith) ∙ ap (λ k. givenAs (getD bs (rowWidth * k) 0) (rowIn bs (rowWidth * k))) z
+    row-given bs i (omega arith)
     ∙ ap (λ b. givenAs b (rowIn bs (rowWidth * i))) (ap (λ k. getD bs k 0) q ∙ sym (getD-drop (rowWidth * i) bs 0 0))
     ∙ ap (givenAs (getD (rest bs i) 0 0)) (row-drop bs (rowWidth * i))
 
@@ -164,18 +153,16 @@ module _ {bs : List ℕ} {i : ℕ} (here : Here bs i) where
   given-here = given-at bs i (here .within)
 
   pub number-here : operandsOf (givenAt (givenOf bs) i) .n ≡ wordAt bs (rowWidth * i + 4)
-  unfolding givenOf rowIn
+  unfolding rowIn
   number-here =
-      let z : 0 + i ≡ i = omega arith in
-      ap (λ r. operandsOf r .n) (from-at bs 0 (length bs / rowWidth) i (omega (arith, here .within)))
-      ∙ ap (λ o. o .n) (operands-as (getD bs (rowWidth * (0 + i)) 0) (rowIn bs (rowWidth * (0 + i)))) ∙ ap (λ k. wordAt bs (rowWidth * k + 4)) z
+      ap (λ r. operandsOf r .n) (row-given bs i (omega (arith, here .within)))
+      ∙ ap (λ o. o .n) (operands-as (getD bs (rowWidth * i) 0) (rowIn bs (rowWidth * i)))
 
   pub variable-here : operandsOf (givenAt (givenOf bs) i) .p ≡ getD bs (rowWidth * i + 2) 0
-  unfolding givenOf rowIn
+  unfolding rowIn
   variable-here =
-      let z : 0 + i ≡ i = omega arith in
-      ap (λ r. operandsOf r .p) (from-at bs 0 (length bs / rowWidth) i (omega (arith, here .within)))
-      ∙ ap (λ o. o .p) (operands-as (getD bs (rowWidth * (0 + i)) 0) (rowIn bs (rowWidth * (0 + i)))) ∙ ap (λ k. getD bs (rowWidth * k + 2) 0) z
+      ap (λ r. operandsOf r .p) (row-given bs i (omega (arith, here .within)))
+      ∙ ap (λ o. o .p) (operands-as (getD bs (rowWidth * i) 0) (rowIn bs (rowWidth * i)))
 
 -- what the innermost thing's mark can be
 top-small : (ts : List Thing) → casesIn ts ≤ maxConstructs → markTop ts ≤ mostMark

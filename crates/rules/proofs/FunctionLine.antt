@@ -62,7 +62,7 @@ lower t o m l = by (isFunction (kindAt t m)) refl
         (less-not (omega (arith, functions-mono t {i = suc m} o l, functions-next t m refl, ap (λ b. cond {A = ℕ} b (suc (functions t m)) (functions t m)) e)))
     by false e = refl
 
-row-of-function : (t : Table) (o : ℕ) → o < length t → kindAt t o ≡ Function → functionRow t (functions t o) ≡ o
+pub row-of-function : (t : Table) (o : ℕ) → o < length t → kindAt t o ≡ Function → functionRow t (functions t o) ≡ o
 unfolding functionRow
 row-of-function t o l e =
     first-is (λ i. isFunction (kindAt t i) && eqb (functions t i) (functions t o)) (length t) 0 o (omega arith) (omega arith)

@@ -35,6 +35,8 @@ pub mod Calls
 pub mod TablePromise
 pub mod Demand3
 pub mod Promise
+-- ---- how much a table takes
+pub mod Figures
 -- ---- by computation
 pub mod Instance
 pub mod Compute

@@ -1,6 +1,6 @@
 -- Small facts of tests and lists that every proof uses. Assumes nothing.
 use mathlib.Core.Path.{_≡_, refl, sym, ap}
-use mathlib.Core.Bool.{Bool, true, false, not, _&&_, _||_}
+use mathlib.Core.Bool.{Bool, true, false, cond, not, _&&_, _||_}
 use mathlib.Core.List.{List, [], _∷_, _++_}
 use mathlib.Core.Logic.{_⊎_, inl, inr}
 use Prim.Native.Nat.{ℕ, _<_}
@@ -63,3 +63,18 @@ order i j = by (decLt i j)
 pub append-nil : {A : Type 0} (a : List A) → a ++ [] ≡ a
 append-nil [] = refl
 append-nil (x ∷ a) = ap (λ y. x ∷ y) (append-nil a)
+
+-- what holds of both holds of either
+pub cond-either : {A : Type 0} (P : A → Type 0) (b : Bool) (x y : A) → P x → P y → P (cond b x y)
+cond-either P true x y p q = p
+cond-either P false x y p q = q
+
+pub or-first : (a b : Bool) → a ≡ true → a || b ≡ true
+or-first a b e = rw e
+
+pub or-second : (a : Bool) {b : Bool} → b ≡ true → a || b ≡ true
+or-second true e = refl
+or-second false e = e
+
+pub or-none : (a b : Bool) → a ≡ false → b ≡ false → a || b ≡ false
+or-none a b p q = rw p q

@@ -29,7 +29,7 @@ unfolding writing
 number-of Accepted answer out = refl
 number-of (Refused r) answer out = refl
 
-front-of : (v : Verdict) (answer out : List ℕ) → v ≡ Accepted → front (writing v answer out) ≡ answer
+pub front-of : (v : Verdict) (answer out : List ℕ) → v ≡ Accepted → front (writing v answer out) ≡ answer
 unfolding writing
 front-of v answer out e =
     ap (λ x. front (writing x answer out)) e ∙ take-append-seam answer (drop (length answer) out)

@@ -33,17 +33,17 @@ takes-two Call p = omega arith
 takes-two Unknown p = omega arith
 
 -- ---- the sum of f g over g below n
-sum : (ℕ → ℕ) → ℕ → ℕ
+unfoldable pub sum : (ℕ → ℕ) → ℕ → ℕ
 sum f zero = 0
 sum f (suc n) = sum f n + f n
 
-sum-add : (f g : ℕ → ℕ) (n : ℕ) → sum (λ x. f x + g x) n ≡ sum f n + sum g n
+pub sum-add : (f g : ℕ → ℕ) (n : ℕ) → sum (λ x. f x + g x) n ≡ sum f n + sum g n
 unfolding sum
 sum-add f g zero = refl
 sum-add f g (suc n) = omega (arith, sum-add f g n)
 
 -- ---- a row takes values in its own region alone
-none-below : (k : Kind) (f : Open) (fs : List Open) (n : ℕ) → n ≤ f .region → sum (λ g. takesIn k g (f ∷ fs)) n ≡ 0
+pub none-below : (k : Kind) (f : Open) (fs : List Open) (n : ℕ) → n ≤ f .region → sum (λ g. takesIn k g (f ∷ fs)) n ≡ 0
 unfolding sum
 none-below k f fs zero h = refl
 none-below k f fs (suc n) h = by (eqb (f .region) n) refl (none-below k f fs n (omega arith))
@@ -76,7 +76,7 @@ taken-in-all t n (suc i) =
     omega
     (arith, taken-in-all t n i, two-in-all (kindAt t i) (openAt t i) n, sum-add (λ g. taken t g i) (λ g. takesIn (kindAt t i) g (openAt t i)) n)
 
-base-sum : (t : Table) (g : ℕ) → base t g ≡ 1 + g + sum (λ h. taken t h (length t)) g
+pub base-sum : (t : Table) (g : ℕ) → base t g ≡ 1 + g + sum (λ h. taken t h (length t)) g
 unfolding base sum
 base-sum t zero = refl
 base-sum t (suc g) = omega (arith, base-sum t g)

@@ -22,7 +22,7 @@
 -- Each part is said of any form of hardened lines; `Demand3` and `Theorem` are about the counter form, whose bytes are 01's. A form is given
 -- with the lines, before values, budget and jump: so one whose guards all pass does not meet `caught`, and one whose guards all refuse
 -- does not meet `no-alarm`.
-use Prim.Native.Nat.{ℕ, suc, _+_, _≤_, _<_}
+use Prim.Native.Nat.{ℕ, suc, _≤_, _<_}
 use mathlib.Core.Logic.{_≢_}
 use mathlib.Core.Path.{_≡_}
 use mathlib.Core.Bool.{Bool, true, false, cond, not, _&&_}
@@ -40,7 +40,7 @@ use Rattle.rules.specs.Run.{Answer, outcomeOf}
 use Rattle.rules.specs.Source.{sourceRun}
 use Rattle.rules.specs.Form.{Form, strikeBy, placeLine, runOf}
 use Rattle.rules.specs.Hardened.{counterForm}
-use Rattle.rules.specs.Match.{shown, matching, dosIn, callsIn, guardBetween}
+use Rattle.rules.specs.Match.{shown, matching, dosIn, callsIn, hardenedSteps, guardBetween}
 
 -- ---- unstruck
 pub record Unstruck {H : Type 0} (F : Form H) (ls : List Line) (t : Table) (vs : List ℕ) (b : ℕ) : Type 0 where
@@ -50,10 +50,10 @@ pub record Unstruck {H : Type 0} (F : Form H) (ls : List Line) (t : Table) (vs :
 
 -- the source's run of budget b finishes, and the hardened run has the budget c for it
 pub record Finishing {H : Type 0} (F : Form H) (ls : List Line) (t : Table) (vs : List ℕ) (b c : ℕ) : Type 0 where
-  pub finishes : outcomeOf ((sourceRun t b vs) .step) ≡ 1 → (sourceRun t b vs) .steps + dosIn t b vs + callsIn t b vs ≤ c
+  pub finishes : outcomeOf ((sourceRun t b vs) .step) ≡ 1 → hardenedSteps ((sourceRun t b vs) .steps) (dosIn t b vs) (callsIn t b vs) ≤ c
       → outcomeOf ((runOf F ls None c vs) .step) ≡ 1
-  pub in-steps : outcomeOf ((sourceRun t b vs) .step) ≡ 1 → (sourceRun t b vs) .steps + dosIn t b vs + callsIn t b vs ≤ c
-      → (runOf F ls None c vs) .steps ≡ (sourceRun t b vs) .steps + dosIn t b vs + callsIn t b vs
+  pub in-steps : outcomeOf ((sourceRun t b vs) .step) ≡ 1 → hardenedSteps ((sourceRun t b vs) .steps) (dosIn t b vs) (callsIn t b vs) ≤ c
+      → (runOf F ls None c vs) .steps ≡ hardenedSteps ((sourceRun t b vs) .steps) (dosIn t b vs) (callsIn t b vs)
 
 -- ---- a jump before step k
 -- what the first k steps of the unstruck run come to

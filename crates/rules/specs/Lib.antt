@@ -36,3 +36,7 @@ pub mod Bounds
 pub mod Links
 pub mod Fault
 pub mod SwitchCases
+pub mod Figures
+pub mod Measure
+pub mod Steps
+pub mod FigureCases

@@ -1,6 +1,6 @@
 -- What demand 3 compares: what a run shows, the matching step, and what lies between two places (01, "Running" and "The hardened
 -- lines").
-use Prim.Native.Nat.{ℕ, zero, suc, _-_}
+use Prim.Native.Nat.{ℕ, zero, suc, _+_, _-_}
 use mathlib.Core.Bool.{Bool, true, false, not, _&&_, _||_}
 use mathlib.Core.List.{List}
 use lib.Dec.{eqb}
@@ -69,6 +69,10 @@ dosIn t b vs = tally (λ s. isDo (kindAt t (s .running .at))) (λ k s. sourceSte
 
 unfoldable pub callsIn : Table → (b : ℕ) → (vars : List ℕ) → ℕ
 callsIn t b vs = tally (λ s. isCall (kindAt t (s .running .at))) (λ k s. sourceStep t s) b 0 (sourceStart vs)
+
+-- the steps of the hardened run that finishes as that source run does
+abbrev pub hardenedSteps : (steps dos calls : ℕ) → ℕ
+hardenedSteps n t c = n + t + c
 
 -- one of the d lines from line k on is a guard
 unfoldable pub guardFrom : List Line → (k d : ℕ) → Bool

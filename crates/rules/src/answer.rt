@@ -24,3 +24,13 @@ pub struct Fault {
     pub number: u8,
     pub row: usize,
 }
+
+// How much a table takes: the number of 01, and of its hardened table the most regions that a function has, the lines, and the highest
+// counter value that a line names.
+#[repr(C)]
+pub struct Measured {
+    pub number: u8,
+    pub regions: u8,
+    pub lines: u16,
+    pub value: u16,
+}

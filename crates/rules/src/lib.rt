@@ -8,3 +8,4 @@ pub mod operands;
 pub mod refusal;
 pub mod step;
 pub mod strike;
+pub mod sums;

@@ -3,12 +3,12 @@ use mathlib.Core.Path.{_≡_, refl, sym, ap, _∙_}
 use mathlib.Core.Logic.{_⊎_, inl, inr}
 use mathlib.Core.Bool.{Bool, true, false, cond, not, _||_}
 use mathlib.Core.List.{List, [], _∷_, _++_}
-use Prim.Native.Nat.{ℕ, zero, suc, _+_, _-_, _/_, _%_, _≤_, _<_}
+use Prim.Native.Nat.{ℕ, zero, suc, _+_, _-_, _*_, _/_, _%_, _≤_, _<_}
 use native.Mathlib.Nat.{add-zero, le-refl, eq-or-lt-of-le, not-suc-le-zero}
 use native.Mathlib.Decide.{le-ind}
 use native.Mathlib.Omega.{arith}
 use lib.Dec.{eqb, ltb}
-use lib.ListN.{length, replicate, length-append, List·getD-append}
+use lib.ListN.{length, getD, replicate, length-append, List·getD-append}
 use lib.Seq.{getD-append-add}
 use borrow.Author.Tests.{ltb-false, le-ltb, ne-eqb, eq-eqb}
 use Rattle.rules.specs.declared.operands.Operands.{Operands}
@@ -18,11 +18,11 @@ use Rattle.rules.specs.declared.refusal.Refusal.the-variants.{NoWholeRow
 use Rattle.rules.specs.declared.refusal.Verdict.{Verdict}
 use Rattle.rules.specs.declared.refusal.Verdict.the-variants.{Accepted, Refused}
 use Rattle.rules.specs.Limits.{maxRows}
-use Rattle.rules.specs.Row.{Table, noRow, rowAt, kindAt, rowWidth, tableBytes, tableOf}
+use Rattle.rules.specs.Row.{Table, noRow, rowAt, rowIn, kindAt, rowWidth, tableBytes, tableOf}
 use Rattle.rules.specs.Scan.{Open, Shape, pushes, turns, closes, stays, shapeOf, openAfter, regions, openAt, isEnd}
 use Rattle.rules.specs.Refusal.{refuseIf, andThen}
 use Rattle.rules.specs.Check.{noWholeRows, tooManyRows, isOutside, leftOpen, rowVerdict, rowsVerdict, callsVerdict, tableVerdict, verdictOf}
-use Rattle.rules.specs.Switch.{GivenRow, asIs, switchRow, caseRow, defaultRow, GivenTable, givenFrom, givenOf, givenAt, Switch, Thing, construct, switch, thingsBy, thingsAfter, thingsAt, ifRow, bareRow, elseAfter, chainRows, chainTo, chainOf, chainBytes}
+use Rattle.rules.specs.Switch.{GivenRow, asIs, switchRow, caseRow, defaultRow, GivenTable, givenAs, givenFrom, givenOf, givenAt, Switch, Thing, construct, switch, thingsBy, thingsAfter, thingsAt, ifRow, bareRow, elseAfter, chainRows, chainTo, chainOf, chainBytes}
 use Rattle.rules.specs.Given.{givenFits, strays, isAny, repeats, spanVerdict, givenRowVerdict, givenRowsVerdict, givenTableVerdict, givenVerdict}
 use Rattle.rules.proofs.Logic.{clash}
 use Rattle.rules.proofs.Accepted.{refused-not, then-left, then-right, whole-rows}
@@ -253,6 +253,21 @@ given-from bs i (suc n) = ap suc (given-from bs (suc i) n)
 pub given-length : (bs : List ℕ) → length (givenOf bs) ≡ length bs / rowWidth
 unfolding givenOf
 given-length bs = given-from bs 0 (length bs / rowWidth)
+
+-- a row as the bytes have it
+from-at : (bs : List ℕ) (i n j : ℕ) → j < n → givenAt (givenFrom bs i n) j ≡ givenAs (getD bs (rowWidth * (i + j)) 0) (rowIn bs (rowWidth * (i + j)))
+unfolding givenFrom
+from-at bs i zero j l = absurd (let z : ⊥ = omega arith in z)
+from-at bs i (suc n) zero l = ap (λ k. givenAs (getD bs (rowWidth * k) 0) (rowIn bs (rowWidth * k))) (sym (add-zero i))
+from-at bs i (suc n) (suc j) l =
+    let q : suc i + j ≡ i + suc j = omega arith in
+    from-at bs (suc i) n j (omega arith) ∙ ap (λ k. givenAs (getD bs (rowWidth * k) 0) (rowIn bs (rowWidth * k))) q
+
+pub row-given : (bs : List ℕ) (i : ℕ) → i < length bs / rowWidth → givenAt (givenOf bs) i ≡ givenAs (getD bs (rowWidth * i) 0) (rowIn bs (rowWidth * i))
+unfolding givenOf
+row-given bs i h =
+    let z : 0 + i ≡ i = omega arith in
+    from-at bs 0 (length bs / rowWidth) i h ∙ ap (λ k. givenAs (getD bs (rowWidth * k) 0) (rowIn bs (rowWidth * k))) z
 
 pub record Sound (bs : List ℕ) : Type 0 where
   pub whole : noWholeRows bs ≡ false
