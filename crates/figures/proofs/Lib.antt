@@ -1,0 +1,5 @@
+pub mod First
+pub mod Adds
+pub mod Tallies
+pub mod Counting
+pub mod Cases
