@@ -5,8 +5,11 @@ ghost use Rattle.rules.specs.Calls.{checkCall, runSourceCall};
 ghost use Rattle.rules.specs.Fault.{faultCall};
 ghost use Rattle.rules.specs.TablePromise.{HardenPromise, CheckHardenedPromise, ReadBackPromise};
 ghost use Rattle.rules.specs.Promise.{HardenedPromise};
+ghost use Rattle.rules.specs.Measure.{MeasurePromise};
+ghost use Rattle.rules.specs.Steps.{StepsPromise};
 ghost use Rattle.finuraho.specs.Given.{writes, runs, hardenedRuns};
 use rules::answer::Fault;
+use rules::answer::Measured;
 use rules::answer::Ran;
 use rules::answer::Wrote;
 use rules::limits::VARIABLES;
@@ -23,6 +26,20 @@ pub extern "C" fn finuraho_fault(rows: &[u8]) -> Fault
     ensures { λ r. ⌜ r ≡ faultCall (now (rows .entry)) ⌝ }
 {
     crate::fault(rows)
+}
+
+#[no_mangle]
+pub extern "C" fn finuraho_measure(rows: &[u8]) -> Measured
+    ensures { λ r. ⌜ MeasurePromise (now (rows .entry)) r ⌝ }
+{
+    crate::measure(rows)
+}
+
+#[no_mangle]
+pub extern "C" fn finuraho_hardened_steps(steps: u16, dos: u16, calls: u16) -> u32
+    ensures { λ r. ⌜ StepsPromise steps dos calls r ⌝ }
+{
+    crate::hardened_steps(steps, dos, calls)
 }
 
 #[no_mangle]

@@ -1,11 +1,16 @@
-// The public calls. Each promises one equation with its definition in rules/specs/Calls.antt or Fault.antt: number, lengths and every
-// lent buffer, for every input; none has a `requires`. Beside it hardening and reading back promise demand 2 of the call's own bytes
-// (rules/specs/TablePromise.antt), and a hardened run demand 3 of its own bytes, values, budget and jump (rules/specs/Promise.antt).
+// The public calls. Each promises one equation with its definition in rules/specs (Calls, Fault, Measure, and Match for the steps): number,
+// lengths and every lent buffer, for every input; none has a `requires`. Beside it hardening and reading back promise demand 2 of the call's
+// own bytes (TablePromise), a hardened run demand 3 of its own bytes, values, budget and jump (Promise), measuring what hardening then
+// shows (Measure), and the sum of steps what running then shows (Steps).
 ghost use mathlib.Core.Path.{_≡_};
+ghost use Rattle.rules.specs.declared.refusal.Verdict.the-variants.{Accepted};
 ghost use Rattle.rules.specs.Calls.{checkCall, runSourceCall, shortOutput, writing};
 ghost use Rattle.rules.specs.Fault.{faultCall};
 ghost use Rattle.rules.specs.TablePromise.{HardenPromise, CheckHardenedPromise, ReadBackPromise};
 ghost use Rattle.rules.specs.Promise.{HardenedPromise};
+ghost use Rattle.rules.specs.Given.{givenVerdict};
+ghost use Rattle.rules.specs.Measure.{measureCall, MeasurePromise};
+ghost use Rattle.rules.specs.Steps.{StepsPromise};
 ghost use Rattle.finuraho.specs.Given.{writes, refusedWith, runs, hardenedRuns};
 
 pub mod export;
@@ -15,6 +20,7 @@ mod switched;
 use fault::Found;
 use rows::WIDTH;
 use rules::answer::Fault;
+use rules::answer::Measured;
 use rules::answer::Ran;
 use rules::answer::Wrote;
 use rules::limits::VARIABLES;
@@ -52,6 +58,45 @@ pub fn fault(rows: &[u8]) -> Fault
             row: rows.len() / WIDTH,
         },
     }
+}
+
+// The figures of an accepted table.
+fn figures(rows: &[u8]) -> Measured
+    requires { ⌜ givenVerdict (now rows) ≡ Accepted ⌝ }
+    ensures { λ r. ⌜ r ≡ measureCall (now (rows .entry)) ⌝ }
+{
+    let s = figures::count(rows);
+    Measured {
+        number: 0,
+        regions: s.most as u8,
+        lines: s.lines,
+        value: s.value,
+    }
+}
+
+// How much the hardened table of a source table takes: its lines, the most regions that a function has, and the highest counter value
+// that a line names. Nothing is written, and `harden` asks for 20 bytes for each line.
+pub fn measure(rows: &[u8]) -> Measured
+    ensures { λ r. ⌜ MeasurePromise (now (rows .entry)) r ⌝ }
+{
+    let number = check(rows);
+    if number == 0 {
+        return figures(rows);
+    }
+    Measured {
+        number,
+        regions: 0,
+        lines: 0,
+        value: 0,
+    }
+}
+
+// The steps of the hardened run where the source run finishes with these steps, dos (its trace length) and calls. A sum past 65,535 is
+// given whole: then no budget lets the hardened run finish.
+pub fn hardened_steps(steps: u16, dos: u16, calls: u16) -> u32
+    ensures { λ r. ⌜ StepsPromise steps dos calls r ⌝ }
+{
+    figures::steps::hardened_steps(steps, dos, calls)
 }
 
 fn refused(r: Refusal) -> Wrote
