@@ -1,8 +1,10 @@
-// What a run answers, as four lines; a long trace takes more.
+// What a run answers, as four lines, or five in a source run; a long trace takes more.
 ghost use Rattle.io.specs.Counts.{Counts};
+use command::arguments::Asked;
 use console::output;
 use console::print;
 use rules::answer::Ran;
+use show::source_steps::Told;
 
 // Numbers on a line.
 const MANY: usize = 20;
@@ -64,21 +66,31 @@ fn list_trace(rows: &[u16], whole: bool, at: usize, text: &mut [u8; 65536]) -> u
     print::word(b" rows, listed with the word trace\n", length, text)
 }
 
+// A source run's calls.
+fn list_calls(hardened: bool, calls: u16, at: usize, text: &mut [u8; 65536]) -> usize {
+    if hardened {
+        return at;
+    }
+    let named = print::named(b"calls ", calls, at, text);
+    print::put(b'\n', named, text)
+}
+
 // The answer behind what the buffer holds already, or `refused N`. Behind steps there is never a refusal.
-pub fn tell(r: Ran, whole: bool, trace: &[u16; 65535], at: usize, text: &mut [u8; 65536]) {
+pub fn tell(r: Ran, a: Asked, told: Told, trace: &[u16; 65535], text: &mut [u8; 65536]) {
     if r.number != 0 {
         output::refused(r.number, text);
         return;
     }
-    accepted(r, whole, trace, at, text);
+    accepted(r, a, told, trace, text);
 }
 
-fn accepted(r: Ran, whole: bool, trace: &[u16], at: usize, text: &mut [u8; 65536]) {
-    let outcome = print::named(b"outcome ", r.outcome as u16, at, text);
+fn accepted(r: Ran, a: Asked, told: Told, trace: &[u16], text: &mut [u8; 65536]) {
+    let outcome = print::named(b"outcome ", r.outcome as u16, told.at, text);
     let steps = print::named(b"steps ", r.steps, named(r.outcome, outcome, text), text);
     let n = traced(r, trace);
-    let listed = list_trace(&trace[..n], whole, steps, text);
-    let variables = print::word(b"variables", listed, text);
+    let listed = list_trace(&trace[..n], a.trace, steps, text);
+    let calls = list_calls(a.hardened, told.calls, listed, text);
+    let variables = print::word(b"variables", calls, text);
     let all = list(&r.variables, variables, text);
     print::flush(all, text);
 }

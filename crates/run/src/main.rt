@@ -3,10 +3,10 @@
 //     run source [budget=N] [v0=N .. v15=N] [trace] [show] < rows
 //     run hardened [budget=N] [v0=N .. v15=N] [jump=STEP:PLACE] [trace] [show] < lines
 //
-// It prints outcome, steps, trace and variables, each on a line of its own, and with `show` each step before them; or `refused N`, or
-// `unreadable`, as the programs harden and readback do. A missing budget is 65,535, a missing variable 0. A wrong word is answered by
-// a line on standard error, and nothing is run. The input is read to its end in constant memory before anything is printed.
-// docs/PROGRAMS.md has every word of it.
+// It prints outcome, steps, trace, in a source run the calls, and variables, each on a line of its own, and with `show` each step before
+// them; or `refused N`, or `unreadable`, as the programs harden and readback do. A missing budget is 65,535, a missing variable 0. A wrong
+// word is answered by a line on standard error, and nothing is run. The input is read to its end in constant memory before anything is
+// printed. docs/PROGRAMS.md has every word of it.
 ghost use mathlib.Core.Path.{_≡_};
 ghost use lib.ListN.{length};
 
@@ -27,6 +27,7 @@ use rules::limits::VARIABLES;
 use rules::strike::strike_by;
 use show::hardened_steps;
 use show::source_steps;
+use show::source_steps::Told;
 
 // Slots for the longest trace.
 fn slots() -> [u16; 65535] {
@@ -96,13 +97,30 @@ fn take(hardened: bool, chunk: &mut [u8], bytes: &mut [u8]) -> Read
 fn run_table(a: Asked, table: &[u8], variables: [u16; VARIABLES]) {
     let mut text = io::large_buffer();
     let mut trace = slots();
-    let at = list_steps(a, table, variables, &mut trace, &mut text);
+    let told = list_steps(a, table, variables, &mut trace, &mut text);
     let r = ran(a, table, variables, &mut trace);
-    answer::tell(r, a.trace, &trace, at, &mut text);
+    answer::tell(r, a, told, &trace, &mut text);
+}
+
+// A source run is always walked, since that counts its calls.
+fn list_steps(
+    a: Asked,
+    table: &[u8],
+    variables: [u16; VARIABLES],
+    trace: &mut [u16; 65535],
+    text: &mut [u8; 65536],
+) -> Told {
+    if a.hardened {
+        return Told {
+            at: list_lines(a, table, variables, trace, text),
+            calls: 0,
+        };
+    }
+    source_steps::list(table, variables, a.budget, a.show, trace, text)
 }
 
 // With the word `show`: how many bytes the buffer then holds.
-fn list_steps(
+fn list_lines(
     a: Asked,
     table: &[u8],
     variables: [u16; VARIABLES],
@@ -112,11 +130,8 @@ fn list_steps(
     if !a.show {
         return 0;
     }
-    if a.hardened {
-        let strike = strike_by(a.step, a.place);
-        return hardened_steps::list(table, variables, a.budget, strike, trace, text);
-    }
-    source_steps::list(table, variables, a.budget, trace, text)
+    let strike = strike_by(a.step, a.place);
+    hardened_steps::list(table, variables, a.budget, strike, trace, text)
 }
 
 fn ran(a: Asked, table: &[u8], variables: [u16; VARIABLES], trace: &mut [u16; 65535]) -> Ran {

@@ -1,4 +1,6 @@
+pub mod Calls
 pub mod Fields
 pub mod Lines
 pub mod Rows
 pub mod Strikes
+pub mod Told

@@ -1,5 +1,6 @@
 -- `show::source_steps::list` meets its contract. Assumes nothing.
 use mathlib.Core.Path.{sym, _∙_}
+use Rattle.show.proofs.Told.{told-own}
 use borrow.Author.Needs.{needs}
 use Rattle.show.proofs.source_steps.list.Statement.{statement}
 use Rattle.show.proofs.source_steps.list.Tie as tie
@@ -34,7 +35,7 @@ same-length-2 : tie.Need-same-length-2
 same-length-2 c = search needs
 
 returns-2 : tie.Need-returns-2
-returns-2 c = search needs
+returns-2 c = told-own (record { each = λ i. c .before .before .before .before .before .before .before .before .before .before .before .before .before .before .before .shared-slice-known .given i .fits }) (c .before .before .before .before .before .before .before .before .before .before .check .ensures) (c .before .before .before .before .before .before .before .before .enum-told2 .given .1) (c .before .before .list-accepted .ensures)
 
 pub list-spec : {M : Type 1} → statement M
 list-spec =

@@ -1,8 +1,8 @@
 -- `show::source_steps::list_switched` meets its contract. Assumes nothing.
 use native.Mathlib.Omega.{arith}
-use mathlib.Core.Path.{sym, subst}
+use mathlib.Core.Path.{sym}
 use lib.Seq.{length-take-le}
-use Rattle.chain.specs.Linked.{LinkedOk}
+use Rattle.show.proofs.Told.{link-chain, told-linked, told-refused}
 use borrow.Author.Needs.{needs}
 use Rattle.show.proofs.source_steps.list_switched.Statement.{statement}
 use Rattle.show.proofs.source_steps.list_switched.Tie as tie
@@ -24,22 +24,22 @@ enum-known-n : tie.Need-enum-known-n
 enum-known-n c = search needs
 
 array-share-prefix-chain : tie.Need-array-share-prefix-chain
-array-share-prefix-chain c = omega (arith, ((subst (LinkedOk _ _ _ _ _) (c .before .n .given .1) (c .before .before .before .before .link .ensures)) .leads) .within)
+array-share-prefix-chain c = omega (arith, (link-chain (c .before .before .before .before .link .ensures) (c .before .n .given .1)) .within)
 
 slice-aggregate-list-accepted : tie.Need-slice-aggregate-list-accepted
-slice-aggregate-list-accepted c = sym (length-take-le _ _ (omega (arith, ((subst (LinkedOk _ _ _ _ _) (c .before .before .n .given .1) (c .before .before .before .before .before .link .ensures)) .leads) .within)))
+slice-aggregate-list-accepted c = sym (length-take-le _ _ (omega (arith, (link-chain (c .before .before .before .before .before .link .ensures) (c .before .before .n .given .1)) .within)))
 
 list-accepted-requires : tie.Need-list-accepted-requires
-list-accepted-requires c κs = (((subst (LinkedOk _ _ _ _ _) (c .before .before .before .before .before .before .before .n .given .1) (c .before .before .before .before .before .before .before .before .before .before .link .ensures)) .leads) .accepted, (((subst (LinkedOk _ _ _ _ _) (c .before .before .before .before .before .before .before .n .given .1) (c .before .before .before .before .before .before .before .before .before .before .link .ensures)) .leads) .links, c .before .before .before .before .before .before .before .before .before .before .before .before .before .before .before .before .before .pre))
+list-accepted-requires c κs = ((link-chain (c .before .before .before .before .before .before .before .before .before .before .link .ensures) (c .before .before .before .before .before .before .before .n .given .1)) .accepted, ((link-chain (c .before .before .before .before .before .before .before .before .before .before .link .ensures) (c .before .before .before .before .before .before .before .n .given .1)) .links, c .before .before .before .before .before .before .before .before .before .before .before .before .before .before .before .before .before .pre))
 
 returns : tie.Need-returns
-returns c = search needs
+returns c = told-refused (c .before .before .before .link .ensures) (c .enum-told .given .1)
 
 same-length : tie.Need-same-length
 same-length c = search needs
 
 returns-2 : tie.Need-returns-2
-returns-2 c = search needs
+returns-2 c = told-linked (c .before .before .before .before .before .before .before .before .before .before .before .before .before .link .ensures) (c .before .before .before .before .before .before .before .before .before .before .n .given .1) (c .before .before .list-accepted .ensures)
 
 pub list-switched-spec : {M : Type 1} → statement M
 list-switched-spec =
