@@ -5,7 +5,7 @@ ghost use lib.ListN.{length};
 ghost use Rattle.replay.specs.Asked.{Within, Buffers};
 
 pub struct Asked {
-    // The first letter of the word; `hardened`, the one word of more than six letters, counts as `H`.
+    // The first letter of the word; that of `hardened`, which is longer than `harden`, counts as `H`.
     pub kind: u8,
     pub letters: u8,
     // How many words came before this one, and which number is being read.
@@ -31,12 +31,14 @@ pub fn start() -> Asked
     }
 }
 
-// The bytes stand behind this many words.
+// The bytes stand behind this many words; a line of `total` has none.
 fn bytes_after(kind: u8) -> u8 {
     match kind {
         b'c' => 1,
         b'f' => 1,
+        b'm' => 1,
         b's' => 4,
+        b't' => 4,
         b'H' => 7,
         _ => 2,
     }
@@ -103,11 +105,19 @@ fn named(b: u8, s: Asked) -> Asked
         return next;
     }
     if s.letters == 6 {
-        next.kind = b'H';
+        next.kind = long(s.kind);
         return next;
     }
     next.letters = s.letters + 1;
     next
+}
+
+// A word of more than six letters.
+fn long(kind: u8) -> u8 {
+    if kind == b'h' {
+        return b'H';
+    }
+    kind
 }
 
 fn figure(b: u8) -> u32

@@ -28,6 +28,10 @@ pub fn answer(
         runs::hardened(&bytes[..n], numbers, trace, counters);
         return;
     }
+    if s.kind == b't' {
+        runs::total(numbers);
+        return;
+    }
     tables(s.kind, &bytes[..n], size(numbers[0]), out);
 }
 
@@ -35,12 +39,8 @@ pub fn answer(
 fn tables(kind: u8, bytes: &[u8], room: usize, out: &mut [u8])
     requires { ⌜ (room < 65536) × (length (now out) ≡ 65536) ⌝ }
 {
-    if kind == b'c' {
-        check(bytes);
-        return;
-    }
-    if kind == b'f' {
-        fault(bytes);
+    if needs_no_room(kind) {
+        judge(kind, bytes);
         return;
     }
     if kind == b'h' {
@@ -48,6 +48,23 @@ fn tables(kind: u8, bytes: &[u8], room: usize, out: &mut [u8])
         return;
     }
     read_back(bytes, &mut out[..room]);
+}
+
+fn needs_no_room(kind: u8) -> bool {
+    match kind {
+        b'c' => true,
+        b'f' => true,
+        b'm' => true,
+        _ => false,
+    }
+}
+
+fn judge(kind: u8, rows: &[u8]) {
+    match kind {
+        b'c' => check(rows),
+        b'f' => fault(rows),
+        _ => measure(rows),
+    }
 }
 
 // `check ROWS`
@@ -62,6 +79,19 @@ fn fault(rows: &[u8]) {
     show::number(f.number as usize);
     show::space();
     show::number(f.row);
+    show::newline();
+}
+
+// `measure ROWS`
+fn measure(rows: &[u8]) {
+    let m = finuraho::measure(rows);
+    show::number(m.number as usize);
+    show::space();
+    show::number(m.lines as usize);
+    show::space();
+    show::number(m.regions as usize);
+    show::space();
+    show::number(m.value as usize);
     show::newline();
 }
 

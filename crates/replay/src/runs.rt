@@ -49,6 +49,14 @@ fn source_within(rows: &[u8], numbers: &[u16], trace: &mut [u16])
     show::newline();
 }
 
+// `total STEPS DOS CALLS`
+pub fn total(numbers: &[u16])
+    requires { ⌜ length (now numbers) ≡ 32 ⌝ }
+{
+    show::number(finuraho::hardened_steps(numbers[0], numbers[1], numbers[2]) as usize);
+    show::newline();
+}
+
 // `hardened BUDGET STEP PLACE SLOTS WORDS VALUES LINES`
 pub fn hardened(lines: &[u8], numbers: &[u16], trace: &mut [u16], counters: &mut [u16])
     requires { ⌜ (length (now numbers) ≡ 32) × (length (now trace) ≡ 65535) × (length (now counters) ≡ 2048) ⌝ }

@@ -11,6 +11,7 @@ use Rattle.replay.proofs.asked.size.Reads as size-reads
 use Rattle.replay.proofs.call.tables.Reads as tables-reads
 use Rattle.replay.proofs.runs.hardened.Reads as hardened-reads
 use Rattle.replay.proofs.runs.source.Reads as source-reads
+use Rattle.replay.proofs.runs.total.Reads as total-reads
 
 slice-aggregate-source : tie.Need-slice-aggregate-source
 slice-aggregate-source c = sym (length-take-le _ _ (omega arith))
@@ -39,6 +40,12 @@ same-length-3 c = search needs
 returns-2 : tie.Need-returns-2
 returns-2 c = search needs
 
+total-requires : tie.Need-total-requires
+total-requires c κs = search needs
+
+returns-3 : tie.Need-returns-3
+returns-3 c = search needs
+
 slice-aggregate-tables : tie.Need-slice-aggregate-tables
 slice-aggregate-tables c = sym (length-take-le _ _ (omega arith))
 
@@ -54,8 +61,8 @@ tables-requires c κs = search needs
 same-length-4 : tie.Need-same-length-4
 same-length-4 c = search needs
 
-returns-3 : tie.Need-returns-3
-returns-3 c = search needs
+returns-4 : tie.Need-returns-4
+returns-4 c = search needs
 
 pub answer-spec : {M : Type 1} → statement M
 answer-spec =
@@ -70,9 +77,11 @@ answer-spec =
     same-length-2
     same-length-3
     returns-2
+    total-requires
+    returns-3
     slice-aggregate-tables
     shared-slice-read-size
     size-requires
     tables-requires
     same-length-4
-    returns-3)
+    returns-4)
