@@ -1,11 +1,12 @@
-/* Finuraho: checks and hardens fee-card programs, reads hardened ones back, and runs both.
+/* Finuraho: checks, measures and hardens fee-card programs, reads hardened ones back, and runs both.
  *
- * The rules are document 01, "Counter-hardened statement tables for fee cards", and No. 1 of document 02, switches. What each call
- * gives back, for all bytes, numbers and buffers, is proved (crates/finuraho/src/export.rt) to be what crates/rules/specs/Calls.antt
- * and Fault.antt say. That this header fits the library is not proved: tests/header/run tests it.
+ * The rules are document 01, "Counter-hardened statement tables for fee cards", and of document 02 No. 1, switches, and No. 2, figures.
+ * What each call gives back, for all bytes, numbers and buffers, is proved (crates/finuraho/src/export.rt) to be what Calls.antt,
+ * Fault.antt, Measure.antt and Steps.antt of crates/rules/specs say. That this header fits the library is not proved:
+ * tests/header/run tests it.
  *
  * `rt staticlib finuraho` makes target/staticlib/libfinuraho.a, the library to link: into programs for x86-64 Linux. Of the C library
- * it needs memcpy and memset. docs/FORMAT.md has rows, lines, limits and numbers on one page.
+ * it needs memcpy and memset. docs/FORMAT.md has rows, lines, figures, limits and numbers on one page.
  *
  * What a caller must keep, in every call:
  *   - A pointer followed by a length is valid for that many elements, bytes or 16-bit words, until the call returns. With the
@@ -29,8 +30,8 @@ extern "C" {
 #endif
 
 /* The version of this header and of the library that it came with: 10,000 x major + 100 x minor + patch. */
-#define FINURAHO_VERSION 10100
-#define FINURAHO_VERSION_STRING "1.1.0"
+#define FINURAHO_VERSION 10200
+#define FINURAHO_VERSION_STRING "1.2.0"
 
 /* The number of a call: 0, or why it was turned away. After any number but 0 every lent buffer is as it was. */
 #define FINURAHO_ACCEPTED 0
@@ -53,8 +54,9 @@ extern "C" {
 #define FINURAHO_TOO_MANY_OPEN 3 /* a call with 16 functions open; it is not made */
 #define FINURAHO_BEYOND 4        /* the jump's place is beyond the function's last; the step struck is not taken */
 
-/* Sizes. A row hardens to at most 2 lines, so 40 bytes for each row are room enough for its hardened table; a case to at most 3, its
- * else, its test and its end, so with switches it is 60 bytes for each row. 40,960 bytes are always enough. */
+/* Sizes. A row hardens to at most 2 lines, so 40 bytes for each row always suffice for its hardened table; a case to at most 3, its
+ * else, its test and its end, so with switches it is 60 bytes for each row as given. 40,960 bytes suffice for every table.
+ * finuraho_measure is exact: it says how many lines a table hardens to. */
 #define FINURAHO_ROW_BYTES 6
 #define FINURAHO_LINE_BYTES 20
 #define FINURAHO_MAX_ROWS 1024
@@ -114,11 +116,13 @@ extern "C" {
 /* The bytes of stack that each call takes at most, whatever it is given. They are measured (tests/stack/run) and not proved. */
 #define FINURAHO_STACK_CHECK 10000
 #define FINURAHO_STACK_FAULT 2600
+#define FINURAHO_STACK_MEASURE 10000
 #define FINURAHO_STACK_HARDEN 28000
 #define FINURAHO_STACK_CHECK_HARDENED 32000
 #define FINURAHO_STACK_READ_BACK 32000
 #define FINURAHO_STACK_RUN_SOURCE 26000
 #define FINURAHO_STACK_RUN_HARDENED 32800
+#define FINURAHO_STACK_HARDENED_STEPS 16
 
 /* The step number that means no jump, whatever the place. */
 #define FINURAHO_NO_JUMP 65535
@@ -134,6 +138,14 @@ typedef struct finuraho_found {
     uint8_t number; /* 0, or why the table is turned away: 1 to 7 or 11, as the check gives it */
     size_t row;     /* the row that the number is about, from 0, among those given */
 } finuraho_found;
+
+/* The answer of the call that measures a table: the figures of its hardened table. Turned away: they are 0. */
+typedef struct finuraho_measured {
+    uint8_t number;  /* 0, or why the table is turned away: 1 to 7 or 11 */
+    uint8_t regions; /* the most regions that a function has */
+    uint16_t lines;  /* 20 bytes each */
+    uint16_t value;  /* the highest counter value that a line names */
+} finuraho_measured;
 
 /* The answer of a run. Turned away: outcome, steps and traced are 0 and the variables are those given. */
 typedef struct finuraho_ran {
@@ -157,6 +169,13 @@ uint8_t finuraho_check(const uint8_t *rows, size_t rows_len);
  *     3, 5, 6, 7, 11: the first such row; 4: the first such row, or the number of rows where something is left open at the end;
  *     0: the number of rows, since there is no fault. */
 finuraho_found finuraho_fault(const uint8_t *rows, size_t rows_len);
+
+/* Measures a source table: how much its hardened table takes. No table is written.
+ * rows, rows_len: its bytes, 6 a row; only read.
+ * Returns the figures of the table that finuraho_harden gives for these rows. An output of 20 x `lines` bytes is exactly enough for
+ *     that call, and one byte less meets 8.
+ * Turned away with 1 to 7 or 11, as finuraho_harden is. */
+finuraho_measured finuraho_measure(const uint8_t *rows, size_t rows_len);
 
 /* Hardens a source table.
  * rows, rows_len: its bytes, 6 a row; only read.
@@ -199,6 +218,13 @@ finuraho_ran finuraho_run_source(const uint8_t *rows, size_t rows_len, const uin
 finuraho_ran finuraho_run_hardened(const uint8_t *lines, size_t lines_len, const uint16_t variables[FINURAHO_VARIABLES],
                                    uint16_t budget, uint16_t step, uint16_t place, uint16_t *trace, size_t trace_len,
                                    uint16_t *counters, size_t counters_len);
+
+/* Gives the steps of a hardened run without a jump, from its source's run.
+ * steps, dos, calls: of a source run that finished: its steps, its `traced`, and the calls that it made. No answer carries the calls:
+ *     the program `run source` prints them, in the line `calls N`.
+ * Returns the sum of the three, whole. The hardened run of the same table and values finishes in exactly so many steps where its
+ *     budget holds them. A sum past 65,535 is no run's: no budget lets the hardened run finish. Nothing is turned away. */
+uint32_t finuraho_hardened_steps(uint16_t steps, uint16_t dos, uint16_t calls);
 
 #ifdef __cplusplus
 }

@@ -1,5 +1,5 @@
-/* Document 01's example program, hardened and run: unstruck, struck by a jump that the counters catch, and by one that they cannot.
- * Then a tariff by bands, written as a switch, hardened and run for three numbers of hives. */
+/* Document 01's example program, measured, hardened and run: unstruck, struck by a jump that the counters catch, and by one that they
+ * cannot. Then a tariff by bands, written as a switch, the same way, for three numbers of hives. */
 #include <finuraho.h>
 #include <stdio.h>
 #include <stdlib.h>
@@ -42,11 +42,33 @@ static void stop_if_refused(uint8_t number)
     exit(EXIT_FAILURE);
 }
 
-static void print_lines(const uint8_t *lines, size_t length)
+struct table {
+    uint8_t *lines;
+    size_t length;
+};
+
+/* A hardened table, in exactly the memory that it takes. The caller frees its lines. */
+static struct table harden(const uint8_t *rows, size_t rows_len)
+{
+    finuraho_measured measured = finuraho_measure(rows, rows_len);
+    struct table table;
+    stop_if_refused(measured.number);
+    table.length = (size_t)measured.lines * FINURAHO_LINE_BYTES;
+    printf("%u lines, %zu bytes, %u regions, values up to %u\n", measured.lines, table.length, measured.regions, measured.value);
+    table.lines = malloc(table.length);
+    if (table.lines == NULL) {
+        fprintf(stderr, "no memory for %zu bytes\n", table.length);
+        exit(EXIT_FAILURE);
+    }
+    stop_if_refused(finuraho_harden(rows, rows_len, table.lines, table.length).number);
+    return table;
+}
+
+static void print_lines(struct table table)
 {
     size_t at;
-    for (at = 0; at < length; at++) {
-        printf("%02x", lines[at]);
+    for (at = 0; at < table.length; at++) {
+        printf("%02x", table.lines[at]);
         if (at % FINURAHO_LINE_BYTES == FINURAHO_LINE_BYTES - 1)
             printf("\n");
     }
@@ -67,51 +89,55 @@ static void run_source(void)
     uint16_t trace[BUDGET];
     finuraho_ran ran = finuraho_run_source(ROWS, sizeof ROWS, VALUES, BUDGET, trace, BUDGET);
     print_run("source", ran, trace);
+    /* Its dos are its trace's length; the table has no call. */
+    printf("hardened it takes %lu steps\n", (unsigned long)finuraho_hardened_steps(ran.steps, ran.traced, 0));
 }
 
-static void run_hardened(const char *what, const uint8_t *lines, size_t length, uint16_t step, uint16_t place)
+static void run_hardened(const char *what, struct table table, uint16_t step, uint16_t place)
 {
     uint16_t trace[BUDGET];
     uint16_t counters[FINURAHO_COUNTER_WORDS];
-    finuraho_ran ran = finuraho_run_hardened(lines, length, VALUES, BUDGET, step, place, trace, BUDGET, counters,
+    finuraho_ran ran = finuraho_run_hardened(table.lines, table.length, VALUES, BUDGET, step, place, trace, BUDGET, counters,
                                              FINURAHO_COUNTER_WORDS);
     print_run(what, ran, trace);
 }
 
-static void quote(const uint8_t *lines, size_t length, uint16_t hives)
+static void quote(struct table table, uint16_t hives)
 {
     const uint16_t values[FINURAHO_VARIABLES] = {hives};
     uint16_t trace[BUDGET];
     uint16_t counters[FINURAHO_COUNTER_WORDS];
-    finuraho_ran ran = finuraho_run_hardened(lines, length, values, BUDGET, FINURAHO_NO_JUMP, 0, trace, BUDGET, counters,
+    finuraho_ran ran = finuraho_run_hardened(table.lines, table.length, values, BUDGET, FINURAHO_NO_JUMP, 0, trace, BUDGET, counters,
                                              FINURAHO_COUNTER_WORDS);
     stop_if_refused(ran.number);
     printf("%u hives: %s, %u steps, fee %u\n", hives, OUTCOMES[ran.outcome], ran.steps, ran.variables[1]);
 }
 
+static void run_example(void)
+{
+    struct table table = harden(ROWS, sizeof ROWS);
+    print_lines(table);
+    run_source();
+    run_hardened("hardened", table, FINURAHO_NO_JUMP, 0);
+    /* From inside the loop to the return, over the guards between: caught before v0 = 1 is taken for the result. */
+    run_hardened("jump before step 4 to place 6", table, 4, 6);
+    /* Over line 0 alone, a do: no guard lies between, so the run goes on as if nothing had happened, without row 1. */
+    run_hardened("jump before step 0 to place 1", table, 0, 1);
+    free(table.lines);
+}
+
 static void quote_bands(void)
 {
-    /* A case hardens to at most 3 lines, any other row to at most 2. */
-    uint8_t lines[3 * FINURAHO_LINE_BYTES * (sizeof BANDS / FINURAHO_ROW_BYTES)];
-    finuraho_wrote wrote = finuraho_harden(BANDS, sizeof BANDS, lines, sizeof lines);
-    stop_if_refused(wrote.number);
-    quote(lines, wrote.length, 10);
-    quote(lines, wrote.length, 50);
-    quote(lines, wrote.length, 200);
+    struct table table = harden(BANDS, sizeof BANDS);
+    quote(table, 10);
+    quote(table, 50);
+    quote(table, 200);
+    free(table.lines);
 }
 
 int main(void)
 {
-    uint8_t lines[2 * FINURAHO_LINE_BYTES * (sizeof ROWS / FINURAHO_ROW_BYTES)];
-    finuraho_wrote wrote = finuraho_harden(ROWS, sizeof ROWS, lines, sizeof lines);
-    stop_if_refused(wrote.number);
-    print_lines(lines, wrote.length);
-    run_source();
-    run_hardened("hardened", lines, wrote.length, FINURAHO_NO_JUMP, 0);
-    /* From inside the loop to the return, over the guards between: caught before v0 = 1 is taken for the result. */
-    run_hardened("jump before step 4 to place 6", lines, wrote.length, 4, 6);
-    /* Over line 0 alone, a do: no guard lies between, so the run goes on as if nothing had happened, without row 1. */
-    run_hardened("jump before step 0 to place 1", lines, wrote.length, 0, 1);
+    run_example();
     quote_bands();
     return 0;
 }

@@ -1,4 +1,4 @@
-/* Prints where the header puts each field of the three structs; layout/src/main.rs prints the same from Rust declarations. */
+/* Prints where the header puts each field of the four structs; layout/src/main.rs prints the same from Rust declarations. */
 #include <finuraho.h>
 #include <stddef.h>
 #include <stdio.h>
@@ -11,6 +11,11 @@ int main(void)
     printf("found %zu\n", sizeof(finuraho_found));
     printf("number %zu\n", offsetof(finuraho_found, number));
     printf("row %zu\n", offsetof(finuraho_found, row));
+    printf("measured %zu\n", sizeof(finuraho_measured));
+    printf("number %zu\n", offsetof(finuraho_measured, number));
+    printf("regions %zu\n", offsetof(finuraho_measured, regions));
+    printf("lines %zu\n", offsetof(finuraho_measured, lines));
+    printf("value %zu\n", offsetof(finuraho_measured, value));
     printf("ran %zu\n", sizeof(finuraho_ran));
     printf("number %zu\n", offsetof(finuraho_ran, number));
     printf("outcome %zu\n", offsetof(finuraho_ran, outcome));

@@ -62,11 +62,23 @@ static void wrong_or_misplaced(void)
     expect("no such function", finuraho_check(rows, length), FINURAHO_NO_SUCH_FUNCTION);
 }
 
+static void expect_figures(const char *what, size_t rows_len, uint8_t number, size_t lines_count, size_t regions, size_t value)
+{
+    finuraho_measured measured = finuraho_measure(rows, rows_len);
+    expect(what, measured.number, number);
+    expect(what, measured.lines, lines_count);
+    expect(what, measured.regions, regions);
+    expect(what, measured.value, value);
+}
+
+/* A table that has a fault has no figures. */
 static void expect_fault(const char *what, size_t rows_len, uint8_t number, size_t row)
 {
     finuraho_found found = finuraho_fault(rows, rows_len);
     expect(what, found.number, number);
     expect(what, found.row, row);
+    if (number != FINURAHO_ACCEPTED)
+        expect_figures(what, rows_len, number, 0, 0, 0);
 }
 
 /* The row of each number, as the header says. */
@@ -270,6 +282,59 @@ static void switches(void)
         expect("kind of a row of the chain", rows[row * FINURAHO_ROW_BYTES], CHAIN[row]);
 }
 
+/* The table that is there: its figures, and that hardening needs just as much room. */
+static void measure(const char *what, size_t lines_count, size_t regions, size_t value)
+{
+    size_t room = lines_count * FINURAHO_LINE_BYTES;
+    expect_figures(what, length, FINURAHO_ACCEPTED, lines_count, regions, value);
+    expect(what, finuraho_harden(rows, length, lines, room).length, room);
+    expect(what, finuraho_harden(rows, length, lines, room - 1).number, FINURAHO_SHORT_OUTPUT);
+}
+
+/* Values: of each region 1 and what its direct rows take. */
+static void figures(void)
+{
+    put_dos(0);
+    measure("figures, function and end", 1, 1, 2);
+    put_example();
+    measure("figures, 01's table", 7, 2, 4 + 3);
+    put_each_kind();
+    measure("figures, each kind", sizeof EACH_KIND, 5, 11 + 3 + 2 + 2 + 3 + 2);
+    /* test, leave, test, do, tick, leave, leave, leave, ret */
+    put_switch(2, 1);
+    measure("figures, two cases and a default", 9, 5, 4 + 1 + 3 + 2 + 1);
+    put_dos(FINURAHO_MAX_ROWS - 2);
+    measure("figures, 1,022 dos", 2045, 1, 1024);
+    check_functions(FINURAHO_MAX_FUNCTIONS);
+    measure("figures, 32 functions", 32, 1, 64);
+    check_regions(FINURAHO_MAX_REGIONS);
+    measure("figures, 64 regions", 127, FINURAHO_MAX_REGIONS, 128 + 63);
+}
+
+/* A run of the table that is there, then its hardened run: so many steps, and with one less its budget is spent. */
+static void expect_steps(const char *what, uint16_t calls, uint16_t must)
+{
+    finuraho_ran source = finuraho_run_source(rows, length, values, BUDGET, trace, BUDGET);
+    uint32_t steps = finuraho_hardened_steps(source.steps, source.traced, calls);
+    size_t lines_len = put_hardened();
+    expect(what, source.outcome, FINURAHO_FINISHED);
+    expect(what, steps, must);
+    expect(what, run(lines_len, must, FINURAHO_NO_JUMP, 0).outcome, FINURAHO_FINISHED);
+    expect(what, run(lines_len, must, FINURAHO_NO_JUMP, 0).steps, must);
+    expect(what, run(lines_len, (uint16_t)(must - 1), FINURAHO_NO_JUMP, 0).outcome, FINURAHO_BUDGET_SPENT);
+}
+
+/* 01's cases (A) and (B); 13 steps with 5 dos and a call; sums past 16 bits. */
+static void hardened_steps(void)
+{
+    put_example();
+    expect_steps("steps, 01's table", 0, 12);
+    put_each_kind();
+    expect_steps("steps, each kind", 1, 19);
+    expect("steps, 65,535 and a call", finuraho_hardened_steps(65535, 0, 1), 65536);
+    expect("steps, the most", finuraho_hardened_steps(65535, 65535, 65535), 196605);
+}
+
 static void versions(void)
 {
     char spelt[20];
@@ -300,6 +365,7 @@ static void null_tables(void)
     expect("check, NULL", finuraho_check(NULL, 0), FINURAHO_NO_WHOLE_ROWS);
     expect("fault, NULL", finuraho_fault(NULL, 0).number, FINURAHO_NO_WHOLE_ROWS);
     expect("its row", finuraho_fault(NULL, 0).row, 0);
+    expect("measure, NULL", finuraho_measure(NULL, 0).number, FINURAHO_NO_WHOLE_ROWS);
     expect("check_hardened, NULL", finuraho_check_hardened(NULL, 0), FINURAHO_NOT_HARDENED);
     expect("harden, all NULL", finuraho_harden(NULL, 0, NULL, 0).number, FINURAHO_NO_WHOLE_ROWS);
     expect("read_back, all NULL", finuraho_read_back(NULL, 0, NULL, 0).number, FINURAHO_NOT_HARDENED);
@@ -337,6 +403,8 @@ int main(void)
     outcomes();
     kinds();
     switches();
+    figures();
+    hardened_steps();
     versions();
     short_buffers();
     null_tables();

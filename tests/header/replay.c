@@ -32,14 +32,32 @@ static void stop(const char *why)
     exit(EXIT_FAILURE);
 }
 
+static size_t number_at(const char *at, char **end, size_t most)
+{
+    unsigned long number = strtoul(at, end, 10);
+    if (*end == at || number > most)
+        stop("not a number that fits here");
+    return number;
+}
+
 /* A number and the space or comma behind it. */
 static size_t take_number(const char **at, size_t most)
 {
     char *end;
-    unsigned long number = strtoul(*at, &end, 10);
-    if (end == *at || (*end != ' ' && *end != ',') || number > most)
-        stop("not a number that fits here");
+    size_t number = number_at(*at, &end, most);
+    if (*end != ' ' && *end != ',')
+        stop("no space or comma behind a number");
     *at = end + 1;
+    return number;
+}
+
+/* The last word of a line, a number. */
+static size_t last_number(const char *at, size_t most)
+{
+    char *end;
+    size_t number = number_at(at, &end, most);
+    if (*end != '\0')
+        stop("more than a number at the end");
     return number;
 }
 
@@ -166,6 +184,35 @@ static void fault(const char *at)
         stop("check and fault differ");
 }
 
+/* `measure ROWS`; the number is also that of the check, and the lines are those that hardening takes room for, not a byte less. */
+static void measure(const char *at)
+{
+    const uint8_t *rows;
+    finuraho_measured measured;
+    size_t room;
+    take_bytes(at);
+    rows = bytes_or_null(bytes, bytes_len);
+    measured = finuraho_measure(rows, bytes_len);
+    printf("%u %u %u %u", measured.number, measured.lines, measured.regions, measured.value);
+    if (finuraho_check(rows, bytes_len) != measured.number)
+        stop("check and measure differ");
+    if (measured.number != FINURAHO_ACCEPTED)
+        return;
+    room = (size_t)measured.lines * FINURAHO_LINE_BYTES;
+    if (finuraho_harden(rows, bytes_len, out, room).length != room ||
+        finuraho_harden(rows, bytes_len, out, room - 1).number != FINURAHO_SHORT_OUTPUT)
+        stop("measure and harden differ");
+}
+
+/* `total STEPS DOS CALLS` */
+static void total(const char *at)
+{
+    uint16_t steps = (uint16_t)take_number(&at, 65535);
+    uint16_t dos = (uint16_t)take_number(&at, 65535);
+    uint16_t calls = (uint16_t)last_number(at, 65535);
+    printf("%lu", (unsigned long)finuraho_hardened_steps(steps, dos, calls));
+}
+
 /* `harden OUTLEN ROWS`; the number is also that of the check, but where the output is too short. */
 static void harden(const char *at)
 {
@@ -232,8 +279,8 @@ static void answer(void)
         const char *word;
         void (*make)(const char *at);
     } calls[] = {
-        {"check ", check},    {"fault ", fault},       {"harden ", harden},
-        {"read ", read_back}, {"source ", run_source}, {"hardened ", run_hardened},
+        {"check ", check},    {"fault ", fault},       {"measure ", measure},       {"harden ", harden},
+        {"read ", read_back}, {"source ", run_source}, {"hardened ", run_hardened}, {"total ", total},
     };
     size_t call;
     for (call = 0; call < sizeof calls / sizeof calls[0]; call++) {

@@ -30,6 +30,11 @@ static void call_fault(void)
     finuraho_fault(rows, length);
 }
 
+static void call_measure(void)
+{
+    finuraho_measure(rows, length);
+}
+
 static void call_harden(void)
 {
     finuraho_harden(rows, length, out, sizeof out);
@@ -55,6 +60,11 @@ static void call_run_hardened(void)
     finuraho_run_hardened(lines, lines_length, values, BUDGET, 40, 1, trace, BUDGET, counters, FINURAHO_COUNTER_WORDS);
 }
 
+static void call_hardened_steps(void)
+{
+    finuraho_hardened_steps(65535, 65535, 65535);
+}
+
 struct measured {
     const char *name;
     void (*call)(void);
@@ -65,11 +75,13 @@ struct measured {
 static struct measured calls[] = {
     {"check", call_check, FINURAHO_STACK_CHECK, 0},
     {"fault", call_fault, FINURAHO_STACK_FAULT, 0},
+    {"measure", call_measure, FINURAHO_STACK_MEASURE, 0},
     {"harden", call_harden, FINURAHO_STACK_HARDEN, 0},
     {"check_hardened", call_check_hardened, FINURAHO_STACK_CHECK_HARDENED, 0},
     {"read_back", call_read_back, FINURAHO_STACK_READ_BACK, 0},
     {"run_source", call_run_source, FINURAHO_STACK_RUN_SOURCE, 0},
     {"run_hardened", call_run_hardened, FINURAHO_STACK_RUN_HARDENED, 0},
+    {"hardened_steps", call_hardened_steps, FINURAHO_STACK_HARDENED_STEPS, 0},
 };
 
 #define CALLS (sizeof calls / sizeof calls[0])

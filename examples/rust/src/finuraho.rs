@@ -15,6 +15,16 @@ struct Wrote {
     length: usize,
 }
 
+/// How much a hardened table takes.
+#[repr(C)]
+#[derive(Debug)]
+pub struct Measured {
+    number: u8,
+    pub regions: u8,
+    pub lines: u16,
+    pub value: u16,
+}
+
 /// How a run ended.
 #[repr(C)]
 #[derive(Debug)]
@@ -31,6 +41,7 @@ pub struct Ran {
 pub struct Refused(pub u8);
 
 unsafe extern "C" {
+    fn finuraho_measure(rows: *const u8, rows_len: usize) -> Measured;
     fn finuraho_harden(rows: *const u8, rows_len: usize, out: *mut u8, out_len: usize) -> Wrote;
     fn finuraho_run_source(
         rows: *const u8,
@@ -52,6 +63,7 @@ unsafe extern "C" {
         counters: *mut u16,
         counters_len: usize,
     ) -> Ran;
+    fn finuraho_hardened_steps(steps: u16, dos: u16, calls: u16) -> u32;
 }
 
 /// A jump before step `step` to `place`.
@@ -59,6 +71,15 @@ unsafe extern "C" {
 pub struct Jump {
     pub step: u16,
     pub place: u16,
+}
+
+/// The figures of the table that `harden` writes.
+pub fn measure(rows: &[u8]) -> Result<Measured, Refused> {
+    let measured = unsafe { finuraho_measure(rows.as_ptr(), rows.len()) };
+    match measured.number {
+        0 => Ok(measured),
+        number => Err(Refused(number)),
+    }
 }
 
 /// The hardened table at the front of `out`.
@@ -101,6 +122,11 @@ pub fn run_hardened(
             counters.len(),
         )
     })
+}
+
+/// The steps of the hardened run, from a source run that finished.
+pub fn hardened_steps(ran: &Ran, calls: u16) -> u32 {
+    unsafe { finuraho_hardened_steps(ran.steps, ran.traced, calls) }
 }
 
 /// A run takes at most 65,535 steps.

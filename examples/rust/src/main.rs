@@ -1,12 +1,12 @@
-//! Document 01's example program, hardened and run: unstruck, struck by a jump that the counters
-//! catch, and by one that they cannot. Then a tariff by bands, written as a switch, hardened and
-//! run for three numbers of hives.
+//! Document 01's example program, measured, hardened and run: unstruck, struck by a jump that the
+//! counters catch, and by one that they cannot. Then a tariff by bands, written as a switch, the
+//! same way, for three numbers of hives.
 
 mod finuraho;
 
 use std::process::ExitCode;
 
-use finuraho::{Jump, Ran, Refused, Variables, LINE_BYTES};
+use finuraho::{Jump, Measured, Ran, Refused, Variables, LINE_BYTES};
 
 const BUDGET: usize = 20;
 
@@ -51,15 +51,15 @@ fn main() -> ExitCode {
 
 fn example() -> Result<(), Refused> {
     let rows = ROWS.as_flattened();
-    // A row hardens to at most two lines.
-    let mut out = [0; 2 * LINE_BYTES * ROWS.len()];
-    let lines = finuraho::harden(rows, &mut out)?;
+    let lines = &harden(rows)?;
     for line in lines.chunks(LINE_BYTES) {
         println!("{}", line.iter().map(|byte| format!("{byte:02x}")).collect::<String>());
     }
     let mut trace = [0; BUDGET];
     let ran = finuraho::run_source(rows, &VALUES, &mut trace)?;
     show("source", &ran, &trace);
+    // Its dos are its trace's length; the table has no call.
+    println!("hardened it takes {} steps", finuraho::hardened_steps(&ran, 0));
     run_hardened("hardened", lines, None)?;
     // From inside the loop to the return, over the guards between: caught before v0 = 1 is taken
     // for the result.
@@ -72,17 +72,24 @@ fn example() -> Result<(), Refused> {
 }
 
 fn quote_bands() -> Result<(), Refused> {
-    // A case hardens to at most three lines, any other row to at most two.
-    let mut out = [0; 3 * LINE_BYTES * BANDS.len()];
-    let lines = finuraho::harden(BANDS.as_flattened(), &mut out)?;
+    let lines = harden(BANDS.as_flattened())?;
     for hives in [10, 50, 200] {
         let mut values = [0; 16];
         values[0] = hives;
-        let ran = finuraho::run_hardened(lines, &values, None, &mut [0; BUDGET])?;
+        let ran = finuraho::run_hardened(&lines, &values, None, &mut [0; BUDGET])?;
         let outcome = OUTCOMES[usize::from(ran.outcome)];
         println!("{hives} hives: {outcome}, {} steps, fee {}", ran.steps, ran.variables[1]);
     }
     Ok(())
+}
+
+/// A hardened table, in exactly the memory that it takes.
+fn harden(rows: &[u8]) -> Result<Vec<u8>, Refused> {
+    let Measured { lines, regions, value, .. } = finuraho::measure(rows)?;
+    let mut out = vec![0; LINE_BYTES * usize::from(lines)];
+    println!("{lines} lines, {} bytes, {regions} regions, values up to {value}", out.len());
+    finuraho::harden(rows, &mut out)?;
+    Ok(out)
 }
 
 fn run_hardened(what: &str, lines: &[u8], jump: Option<Jump>) -> Result<(), Refused> {

@@ -1,11 +1,11 @@
-//! Prints where Rust puts each field of the three answers; ../layout.c prints the same from the
+//! Prints where Rust puts each field of the four answers; ../layout.c prints the same from the
 //! header.
 
 use std::mem::{offset_of, size_of};
 
-use finuraho_bench::calls::{Ran, Wrote};
+use finuraho_bench::calls::{Measured, Ran, Wrote};
 
-/// As in crates/rules/src/answer.rt; bench doesn't measure the call, so it is declared here.
+/// As in crates/rules/src/answer.rt; bench doesn't time this call, so it is declared here.
 #[allow(dead_code)]
 #[repr(C)]
 struct Fault {
@@ -20,6 +20,11 @@ fn main() {
     println!("found {}", size_of::<Fault>());
     println!("number {}", offset_of!(Fault, number));
     println!("row {}", offset_of!(Fault, row));
+    println!("measured {}", size_of::<Measured>());
+    println!("number {}", offset_of!(Measured, number));
+    println!("regions {}", offset_of!(Measured, regions));
+    println!("lines {}", offset_of!(Measured, lines));
+    println!("value {}", offset_of!(Measured, value));
     println!("ran {}", size_of::<Ran>());
     println!("number {}", offset_of!(Ran, number));
     println!("outcome {}", offset_of!(Ran, outcome));
