@@ -1,8 +1,9 @@
-//! The six calls as a trait, so that every implementation gets the same inputs, and the answers
+//! The calls that are timed as a trait, so that every implementation gets the same inputs, and the answers
 //! with the layout that they have at the C boundary.
 
+use crate::figures::Figures;
 use crate::table::{self, Refusal};
-use crate::{harden, hardened_run, read_back, source_run};
+use crate::{figures, harden, hardened_run, read_back, source_run};
 
 pub type Variables = [u16; 16];
 
@@ -18,6 +19,16 @@ pub const NO_JUMP: u16 = 65_535;
 pub struct Wrote {
     pub number: u8,
     pub length: usize,
+}
+
+/// How much the hardened table of a source table takes; where it is turned away, zeros.
+#[repr(C)]
+#[derive(Clone, Copy, Debug, PartialEq, Eq)]
+pub struct Measured {
+    pub number: u8,
+    pub regions: u8,
+    pub lines: u16,
+    pub value: u16,
 }
 
 /// How a run ended.
@@ -49,6 +60,7 @@ impl Start {
 pub trait Calls {
     fn name(&self) -> &'static str;
     fn check(&self, rows: &[u8]) -> u8;
+    fn measure(&self, rows: &[u8]) -> Measured;
     fn harden(&self, rows: &[u8], out: &mut [u8]) -> Wrote;
     fn check_hardened(&self, lines: &[u8]) -> u8;
     fn read_back(&self, lines: &[u8], out: &mut [u8]) -> Wrote;
@@ -72,6 +84,10 @@ impl Calls for Baseline {
 
     fn check(&self, rows: &[u8]) -> u8 {
         number(table::read(rows).map(|_| ()))
+    }
+
+    fn measure(&self, rows: &[u8]) -> Measured {
+        measured(figures::measure(rows))
     }
 
     fn harden(&self, rows: &[u8], out: &mut [u8]) -> Wrote {
@@ -104,6 +120,13 @@ impl Calls for Baseline {
 
 fn number(answer: Result<(), Refusal>) -> u8 {
     answer.map_or_else(|refusal| refusal as u8, |()| 0)
+}
+
+fn measured(answer: Result<Figures, Refusal>) -> Measured {
+    match answer {
+        Ok(Figures { lines, regions, value }) => Measured { number: 0, regions, lines, value },
+        Err(refusal) => Measured { number: refusal as u8, regions: 0, lines: 0, value: 0 },
+    }
 }
 
 fn wrote(answer: Result<usize, Refusal>) -> Wrote {

@@ -46,10 +46,16 @@ impl<'a> Pair<'a> {
         Err(format!("{one} and {other} disagree: {what} of {}", hex(input)))
     }
 
+    /// The figures of a source table.
+    pub fn measured(&mut self, rows: &[u8]) -> Agreed {
+        self.same("measure", rows, |calls| calls.measure(rows))
+    }
+
     /// Both as a source table, with outputs too short, exact and too long.
     pub fn rows(&mut self, rows: &[u8]) -> Agreed {
         self.tables += 1;
         self.same("check", rows, |calls| calls.check(rows))?;
+        self.measured(rows)?;
         let mut room = vec![FILL_BYTE; MOST_OUT];
         let exact = self.one.harden(rows, &mut room).length;
         for length in [exact, exact.saturating_sub(1), 0, exact + 7] {
@@ -131,6 +137,7 @@ impl<'a> Pair<'a> {
             let program = program::program(rng, size);
             let lines = damage::hardened(&program.rows);
             self.tables += 1;
+            self.measured(&program.rows)?;
             for _ in 0..4 {
                 let start = some_start(rng, &program, &lines);
                 let slots = some_length(rng, usize::from(start.budget));

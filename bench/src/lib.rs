@@ -3,6 +3,7 @@
 
 pub mod calls;
 pub mod compare;
+pub mod figures;
 pub mod harden;
 pub mod hardened_run;
 pub mod measure;

@@ -35,9 +35,12 @@ fn main() {
     let ratio = (implementations.len() == 2).then_some("ratio");
     let heads: Vec<String> = names.chain(ratio).map(str::to_string).collect();
     print_row("nanoseconds, medians", &heads);
-    for (name, rows) in [("mostly dos", programs::mostly_dos()), ("nested", programs::nested())] {
-        time_table(&implementations, name, &rows);
+    let tables = [(", mostly dos", programs::mostly_dos()), (", nested", programs::nested())];
+    for (name, rows) in tables {
+        time_hardening(&implementations, name, &rows);
+        time_reading(&implementations, name, &rows);
     }
+    time_hardening(&implementations, " of switches", &programs::switches());
     time_switches(&implementations);
     for program in programs::all() {
         time_program(&implementations, &program);
@@ -53,6 +56,7 @@ fn compare(pair: &mut Pair) -> Agreed {
         pair.lines(&hardened(&rows))?;
     }
     for program in programs::all() {
+        pair.measured(&program.rows)?;
         for budget in [0, BUDGET] {
             let start = Start::unstruck(program.variables, budget);
             pair.source_run(&program.rows, &start, budget.into())?;
@@ -100,22 +104,37 @@ fn time_switches(implementations: &[&dyn Calls]) {
     }
 }
 
-fn time_table(implementations: &[&dyn Calls], name: &str, rows: &[u8]) {
-    let lines = hardened(rows);
-    let harden = each(implementations, |calls| {
+/// Hardening a table and measuring it, in turn, and what fraction of the first the second takes.
+fn time_hardening(implementations: &[&dyn Calls], name: &str, rows: &[u8]) {
+    let harden = implementations.iter().map(|calls| -> Timed {
         let mut out = vec![0; MOST_OUT];
         Box::new(move || {
             black_box(calls.harden(black_box(rows), &mut out));
         })
     });
-    print_times(&format!("harden 1,024 rows, {name}"), &harden);
+    let measure = implementations.iter().map(|calls| -> Timed {
+        Box::new(move || {
+            black_box(calls.measure(black_box(rows)));
+        })
+    });
+    let times = medians(harden.chain(measure).collect());
+    let (harden, measure) = times.split_at(implementations.len());
+    print_times(&format!("harden 1,024 rows{name}"), harden);
+    print_times(&format!("measure 1,024 rows{name}"), measure);
+    let fractions = measure.iter().zip(harden).map(|(measure, harden)| measure / harden);
+    let fractions: Vec<String> = fractions.map(|fraction| format!("{fraction:.3}")).collect();
+    print_row("    as a fraction of hardening them", &fractions);
+}
+
+fn time_reading(implementations: &[&dyn Calls], name: &str, rows: &[u8]) {
+    let lines = hardened(rows);
     let read_back = each(implementations, |calls| {
         let (mut out, lines) = (vec![0; MOST_IN], &lines);
         Box::new(move || {
             black_box(calls.read_back(black_box(lines), &mut out));
         })
     });
-    print_times(&format!("read back 1,024 rows, {name}"), &read_back);
+    print_times(&format!("read back 1,024 rows{name}"), &read_back);
 }
 
 /// The medians of one call for each implementation. Its buffers are made here, once, outside of

@@ -2,10 +2,11 @@
 //!
 //! Nothing checks these declarations against the Rattle source: `compare` does, on many inputs.
 
-use crate::calls::{Calls, Ran, Start, Variables, Wrote};
+use crate::calls::{Calls, Measured, Ran, Start, Variables, Wrote};
 
 unsafe extern "C" {
     fn finuraho_check(rows: *const u8, rows_len: usize) -> u8;
+    fn finuraho_measure(rows: *const u8, rows_len: usize) -> Measured;
     fn finuraho_harden(rows: *const u8, rows_len: usize, out: *mut u8, out_len: usize) -> Wrote;
     fn finuraho_check_hardened(lines: *const u8, lines_len: usize) -> u8;
     fn finuraho_read_back(
@@ -47,6 +48,10 @@ impl Calls for Ours {
 
     fn check(&self, rows: &[u8]) -> u8 {
         unsafe { finuraho_check(rows.as_ptr(), rows.len()) }
+    }
+
+    fn measure(&self, rows: &[u8]) -> Measured {
+        unsafe { finuraho_measure(rows.as_ptr(), rows.len()) }
     }
 
     fn harden(&self, rows: &[u8], out: &mut [u8]) -> Wrote {

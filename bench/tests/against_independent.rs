@@ -1,6 +1,6 @@
 //! The implementation that is written for speed answers as tests/independent does.
 
-use finuraho_bench::calls::{Baseline, Calls, Ran, Start, Wrote, NO_JUMP};
+use finuraho_bench::calls::{Baseline, Calls, Measured, Ran, Start, Wrote, NO_JUMP};
 use finuraho_bench::compare::Pair;
 use finuraho_bench::programs;
 use independent::random::Random;
@@ -9,6 +9,13 @@ struct Independent;
 
 fn wrote(answer: independent::Written) -> Wrote {
     Wrote { number: answer.number, length: answer.length }
+}
+
+fn measured(answer: independent::Measured) -> Measured {
+    let independent::Measured { number, lines, regions, value } = answer;
+    let lines = lines.try_into().expect("a hardened table has at most 2,048 lines");
+    let regions = regions.try_into().expect("a function has at most 64 regions");
+    Measured { number, regions, lines, value }
 }
 
 fn ran(answer: independent::Ran) -> Ran {
@@ -23,6 +30,10 @@ impl Calls for Independent {
 
     fn check(&self, rows: &[u8]) -> u8 {
         independent::check(rows)
+    }
+
+    fn measure(&self, rows: &[u8]) -> Measured {
+        measured(independent::measure(rows))
     }
 
     fn harden(&self, rows: &[u8], out: &mut [u8]) -> Wrote {
@@ -96,6 +107,7 @@ fn timed_inputs() {
         pair.rows(&rows).unwrap();
         pair.lines(&independent::damage::hardened(&rows)).unwrap();
     }
+    pair.rows(&programs::switches()).unwrap();
     for program in programs::all() {
         let lines = independent::damage::hardened(&program.rows);
         for budget in [0, 65_534, 65_535] {
