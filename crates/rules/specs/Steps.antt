@@ -26,7 +26,7 @@ hardenedTwin rows vs b slots words = (runHardenedCall (hardenedBytes (chainBytes
 
 -- It finishes in exactly n steps with every budget that holds them, and with a smaller one its budget is spent. A budget is at most
 -- 65,535: where n is more, none lets it finish.
-pub record Takes (rows vars : List ℕ) (n budget : ℕ) (slots words : List ℕ) : Type 0 where
+pub record FinishesIn (rows vars : List ℕ) (n budget : ℕ) (slots words : List ℕ) : Type 0 where
   pub accepted : (hardenedTwin rows vars budget slots words) .ran .number ≡ 0
   pub finishes : n ≤ budget → (hardenedTwin rows vars budget slots words) .ran .outcome ≡ 1
   pub in-steps : n ≤ budget → (hardenedTwin rows vars budget slots words) .ran .steps ≡ n
@@ -35,4 +35,4 @@ pub record Takes (rows vars : List ℕ) (n budget : ℕ) (slots words : List ℕ
 pub record StepsPromise (steps dos calls got : ℕ) : Type 0 where
   pub answers : got ≡ hardenedSteps steps dos calls
   pub taken : (rows vars : List ℕ) (budget : ℕ) (slots : List ℕ) → AreBytes rows → FinishedWith rows vars budget slots steps dos calls
-      → (b : ℕ) (room words : List ℕ) → b ≤ length room → counterWords ≤ length words → Takes rows vars got b room words
+      → (b : ℕ) (room words : List ℕ) → b ≤ length room → counterWords ≤ length words → FinishesIn rows vars got b room words

@@ -26,7 +26,7 @@ use Rattle.rules.specs.Hardened.{counterForm, hardenedRun}
 use Rattle.rules.specs.Match.{dosIn, callsIn, hardenedSteps}
 use Rattle.rules.specs.Demands.{Finishing}
 use Rattle.rules.specs.Calls.{running, shortTrace, runSourceCall}
-use Rattle.rules.specs.Steps.{hardenedTwin, Takes, StepsPromise}
+use Rattle.rules.specs.Steps.{hardenedTwin, FinishesIn, StepsPromise}
 use Rattle.rules.proofs.Accepted.{then-left}
 use Rattle.rules.proofs.Calls.{accepted-of, run-hardened-accepted}
 use Rattle.rules.proofs.Reading.{source-hardened}
@@ -90,7 +90,7 @@ module _ (rows vs : List ℕ) (w : AreBytes rows) (v : givenVerdict rows ≡ Acc
 
   takes : (b n c : ℕ) (slots words : List ℕ) → outcomeOf ((sourceRun (tableOf (chainBytes rows)) b vs) .step) ≡ 1
       → hardenedSteps ((sourceRun (tableOf (chainBytes rows)) b vs) .steps) (dosIn (tableOf (chainBytes rows)) b vs) (callsIn (tableOf (chainBytes rows)) b vs) ≡ n
-      → c ≤ length slots → counterWords ≤ length words → Takes rows vs n c slots words
+      → c ≤ length slots → counterWords ≤ length words → FinishesIn rows vs n c slots words
   unfolding running
   takes b n c slots words o e h g =
       let t = twin c slots words h g in
