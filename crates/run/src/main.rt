@@ -116,7 +116,7 @@ fn list_steps(
             calls: 0,
         };
     }
-    source_steps::list(table, variables, a.budget, a.show, trace, text)
+    source_steps::tell(table, variables, a.budget, a.show, trace, text)
 }
 
 // With the word `show`: how many bytes the buffer then holds.

@@ -116,7 +116,7 @@ fn walk(
 }
 
 // An accepted table's run.
-fn list_accepted(
+fn tell_accepted(
     rows: &[u8],
     ends: &[u16; ROWS],
     elses: &[u16; ROWS],
@@ -154,7 +154,7 @@ fn list_accepted(
 }
 
 // A table with a switch, whose rows are those of its chain. Nothing is listed where the table is refused.
-fn list_switched(
+fn tell_switched(
     rows: &[u8],
     ends: &mut [u16; ROWS],
     elses: &mut [u16; ROWS],
@@ -172,7 +172,7 @@ fn list_switched(
     match link(rows, &mut chain, ends, elses, heads) {
         Linked::Refused(_) => Told { at: 0, calls: 0 },
         Linked::Bytes(n) => {
-            list_accepted(
+            tell_accepted(
                 &chain[..n],
                 ends,
                 elses,
@@ -187,7 +187,7 @@ fn list_switched(
     }
 }
 
-pub fn list(
+pub fn tell(
     rows: &[u8],
     variables: [u16; VARIABLES],
     budget: u16,
@@ -202,7 +202,7 @@ pub fn list(
     let mut elses = [0u16; ROWS];
     let mut heads = [0u16; FUNCTIONS];
     match table::check::check(rows, &mut ends, &mut elses, &mut heads) {
-        Verdict::Refused(_) => list_switched(
+        Verdict::Refused(_) => tell_switched(
             rows,
             &mut ends,
             &mut elses,
@@ -213,7 +213,7 @@ pub fn list(
             trace,
             text,
         ),
-        Verdict::Accepted => list_accepted(
+        Verdict::Accepted => tell_accepted(
             rows,
             &ends,
             &elses,
