@@ -34,10 +34,11 @@ pub record Weights (by : List ℕ) : Type 0 where
 abbrev pub added : Kind → Tally → Tally
 added k t = record { all = t .all + weight k; before = t .before; most = t .most }
 
--- the regions opened in all functions, and in the one that is open
+-- the regions opened in all functions together
 abbrev pub regionsAll : Tally → ℕ
 regionsAll t = t .all / 4294967296
 
+-- a function more; the regions of the one before it are compared with the most so far
 abbrev pub begunBy : Tally → Tally
 begunBy t = record { all = t .all + weight Function; before = regionsAll t; most = max (t .most) (regionsAll t - t .before) }
 
