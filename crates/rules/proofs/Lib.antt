@@ -46,3 +46,4 @@ pub mod Worked
 pub mod Refusals
 pub mod Arithmetic
 pub mod Checks
+pub mod LineFigures
