@@ -1,13 +1,13 @@
 -- What single lines name, by computation. Assumes nothing.
 use mathlib.Core.Path.{refl}
 use Rattle.rules.specs.Figures.{highestValue}
-use Rattle.rules.specs.FigureCases.{LineFigures}
+use Rattle.rules.specs.LineFigures.{LineFigures}
 
 pub line-figures : LineFigures
 unfolding highestValue
 line-figures =
     record {
-      do-row = refl;
+      do-none = refl;
       tick-a = refl;
       test-b = refl;
       test-c = refl;

@@ -1,12 +1,10 @@
--- How much a table takes (02, No. 2) in worked cases: what single lines name; figures counted by hand in the lines of 01's listing, of the
--- report, of the two small programs and of the switch; and sums of steps. proofs/LineFigures.antt closes the first by computation,
--- crates/figures/proofs/Cases.antt the others.
+-- How much a table takes (02, No. 2) in worked cases: figures counted by hand in the lines of 01's listing, of the report, of the two small
+-- programs and of the switch; and sums of steps. crates/figures/proofs/Cases.antt closes them by computation.
 use Prim.Native.Nat.{ℕ}
 use mathlib.Core.Path.{_≡_}
 use mathlib.Core.List.{List, [], _∷_}
 use Rattle.rules.specs.declared.answer.Measured.{Measured}
 use Rattle.rules.specs.Row.{rowWidth}
-use Rattle.rules.specs.Line.{Line, doLine, tickLine, testLine, leaveLine, outLine, callLine, backLine, retLine, noOperands}
 use Rattle.rules.specs.Match.{hardenedSteps}
 use Rattle.rules.specs.Listing.{listed}
 use Rattle.rules.specs.Cases as listing
@@ -14,26 +12,8 @@ use Rattle.rules.specs.Report as report
 use Rattle.rules.specs.Worked.{turnRows, callRows}
 use Rattle.rules.specs.Refusals.{function, ifRow, elseRow, end}
 use Rattle.rules.specs.SwitchCases.{banded}
-use Rattle.rules.specs.Figures.{highestValue}
 use Rattle.rules.specs.Measure.{measureCall}
 
--- ---- lines
-abbrev pub named : Line → ℕ
-named l = highestValue (l ∷ [])
-
--- Each of e, a, b and c of a guard counts; the row number of a do (here 9), region numbers and go (9 too) do not.
-pub record LineFigures : Type 0 where
-  pub do-row : named (doLine noOperands 9) ≡ 0
-  pub tick-a : named (tickLine 9 1 2) ≡ 2
-  pub test-b : named (testLine noOperands 9 9 9 1 2 4 3 9) ≡ 4
-  pub test-c : named (testLine noOperands 9 9 9 1 2 3 4 9) ≡ 4
-  pub leave-e : named (leaveLine 9 9 4 3 2 9) ≡ 4
-  pub out-a : named (outLine 9 9 9 1 2 9) ≡ 2
-  pub call-b : named (callLine 9 1 2 3 9) ≡ 3
-  pub back-b : named (backLine 9 1 2 3) ≡ 3
-  pub ret-a : named (retLine 1 2) ≡ 2
-
--- ---- tables
 abbrev pub figures : (lines regions value : ℕ) → Measured
 figures l r v = record { number = 0; regions = r; lines = l; value = v }
 

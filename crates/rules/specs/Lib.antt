@@ -39,4 +39,5 @@ pub mod SwitchCases
 pub mod Figures
 pub mod Measure
 pub mod Steps
+pub mod LineFigures
 pub mod FigureCases
