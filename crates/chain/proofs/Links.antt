@@ -1,4 +1,4 @@
--- What the pass finds and what the check of the chain finds, together. Assumes nothing.
+-- What the pass finds and what the check of the chain finds, together, and that taken apart by the answer. Assumes nothing.
 use mathlib.Core.Path.{_≡_, sym, ap, _∙_, subst}
 use mathlib.Core.List.{List}
 use Prim.Native.Nat.{ℕ, _*_, _≤_}
@@ -6,19 +6,21 @@ use native.Mathlib.Omega.{arith}
 use lib.ListN.{length, take}
 use Rattle.rules.specs.declared.refusal.Refusal.{Refusal}
 use Rattle.rules.specs.declared.refusal.Verdict.{Verdict}
-use Rattle.rules.specs.declared.refusal.Verdict.the-variants.{Accepted}
+use Rattle.rules.specs.declared.refusal.Verdict.the-variants.{Accepted, Refused}
 use Rattle.rules.specs.Limits.{maxRows}
 use Rattle.rules.specs.Row.{rowWidth}
 use Rattle.rules.specs.Check.{verdictOf}
 use Rattle.rules.specs.Switch.{chainBytes}
+use Rattle.rules.specs.Given.{givenVerdict}
 use Rattle.rules.specs.Links.{Checked}
 use Rattle.rules.proofs.Switch.Chain.{chain-accepted}
 use Rattle.rules.proofs.Switch.Bound.{few-chained}
 use Rattle.fault.specs.declared.Found.{Found}
 use Rattle.fault.specs.declared.Found.the-variants.{Faulty, Chain}
 use Rattle.fault.specs.Found.{HasChain, FoundOk}
+use Rattle.chain.specs.declared.Linked.{Linked}
 use Rattle.chain.specs.declared.Linked.the-variants as linked
-use Rattle.chain.specs.Linked.{LinkedOk}
+use Rattle.chain.specs.Linked.{ChainLinked, LinkedOk}
 
 module _ {rows chain : List ℕ} {x : Found} (ok : FoundOk rows chain x) where
   pub link-refused : {c : Refusal} {row : ℕ} {ends elses heads : List ℕ} → x ≡ Faulty c row → LinkedOk rows chain ends elses heads (linked.Refused c)
@@ -49,3 +51,11 @@ module _ {rows chain : List ℕ} {x : Found} (ok : FoundOk rows chain x) where
             links = k .links (k .verdict-is ∙ good);
           };
         }
+
+-- ---- by what `link` answers
+module _ {rows chain ends elses heads : List ℕ} {x : Linked} (ok : LinkedOk rows chain ends elses heads x) where
+  pub linked-refused : {c : Refusal} → x ≡ linked.Refused c → givenVerdict rows ≡ Refused c
+  linked-refused m = (subst (LinkedOk rows chain ends elses heads) m ok) .leads
+
+  pub linked-chain : {n : ℕ} → x ≡ linked.Bytes n → ChainLinked rows chain ends elses heads n
+  linked-chain m = (subst (LinkedOk rows chain ends elses heads) m ok) .leads

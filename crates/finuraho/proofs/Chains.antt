@@ -6,12 +6,11 @@ use lib.ListN.{length}
 use Rattle.rules.specs.declared.answer.Fault.{Fault}
 use Rattle.rules.specs.declared.refusal.Refusal.{Refusal}
 use Rattle.rules.specs.declared.refusal.Verdict.{Verdict}
-use Rattle.rules.specs.declared.refusal.Verdict.the-variants.{Accepted, Refused}
+use Rattle.rules.specs.declared.refusal.Verdict.the-variants.{Accepted}
 use Rattle.rules.specs.Bytes.{AreBytes}
 use Rattle.rules.specs.Row.{rowWidth}
 use Rattle.rules.specs.Refusal.{numberOf, refusalNumber}
 use Rattle.rules.specs.Check.{verdictOf}
-use Rattle.rules.specs.Given.{givenVerdict}
 use Rattle.rules.specs.Chained.{StandsFor}
 use Rattle.rules.specs.Links.{Checked}
 use Rattle.rules.specs.Calls.{checkCall}
@@ -20,9 +19,6 @@ use Rattle.rules.proofs.Switch.Plain.{plain-accepted}
 use Rattle.fault.specs.declared.Found.{Found}
 use Rattle.fault.specs.declared.Found.the-variants.{Faulty, Chain}
 use Rattle.fault.specs.Found.{FoundOk}
-use Rattle.chain.specs.declared.Linked.{Linked}
-use Rattle.chain.specs.declared.Linked.the-variants as linked
-use Rattle.chain.specs.Linked.{ChainLinked, LinkedOk}
 
 -- ---- the fault, and the number alone
 module _ (rows out : List ℕ) (x : Found) (ok : FoundOk rows out x) where
@@ -50,11 +46,3 @@ module _ {rows ends elses heads : List ℕ} {v : Verdict} (w : AreBytes rows) (c
 
   pub own-number : 0 ≡ checkCall rows
   own-number = ap numberOf (sym (own-chain .accepted))
-
--- ---- what the pass found
-module _ {rows chain ends elses heads : List ℕ} {x : Linked} (ok : LinkedOk rows chain ends elses heads x) where
-  pub link-refused : {c : Refusal} → x ≡ linked.Refused c → givenVerdict rows ≡ Refused c
-  link-refused m = (subst (LinkedOk rows chain ends elses heads) m ok) .leads
-
-  pub link-chain : {n : ℕ} → x ≡ linked.Bytes n → ChainLinked rows chain ends elses heads n
-  link-chain m = (subst (LinkedOk rows chain ends elses heads) m ok) .leads

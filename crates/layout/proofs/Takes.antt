@@ -8,13 +8,12 @@ use lib.ListN.{length}
 use Rattle.rules.specs.declared.kind.Kind.{Kind}
 use Rattle.rules.specs.declared.kind.Kind.the-variants.{Function, Do, If, Else, Loop, End, Break, Continue, Call, Unknown}
 use Rattle.rules.specs.Row.{Table, tableOf, kindAt}
-use Rattle.rules.specs.Scan.{Part, body, thenPart, elsePart, loopBody, Open, openAt, regions, regionOf, bodyRegion}
+use Rattle.rules.specs.Scan.{Part, body, Open, openAt, regions, regionOf, bodyRegion}
 use Rattle.rules.specs.Value.{takes, takesIn}
 use Rattle.rules.specs.Check.{isOutside, misplacedIn}
-use Rattle.rules.proofs.Logic.{clash}
 use Rattle.rules.proofs.Scan.{Chain, chain, body-least}
 use Rattle.rules.proofs.Value.{takes-top}
-use Rattle.rules.proofs.Function.{Formed, formed, isBody}
+use Rattle.rules.proofs.Function.{Formed, formed, end-takes-none}
 use Rattle.layout.specs.declared.scope.Scope.{Scope}
 use Rattle.layout.specs.Scope.{scopeOf, Stands}
 use Rattle.layout.specs.Number.{takesAt}
@@ -43,15 +42,9 @@ body-end : (t : Table) (b : ℕ) (f : Open) (fs : List Open) → Formed t (f ∷
 body-end t b f [] g k e = ap (takes End) (g .0)
 body-end t b f (h ∷ hs) g k e = absurd (let l = body-least (f .region) h hs (k .1) in omega arith)
 
-not-body-takes : (p : Part) → isBody p ≡ false → takes End p ≡ 0
-not-body-takes body e = clash refl e
-not-body-takes thenPart e = refl
-not-body-takes elsePart e = refl
-not-body-takes loopBody e = refl
-
 part-end : (t : Table) (f : Open) (fs : List Open) → Formed t (f ∷ fs) → (f .region ≡ bodyRegion (f ∷ fs) → ⊥) → takes End (f .part) ≡ 0
 part-end t f [] g e = absurd (e refl)
-part-end t f (h ∷ hs) g e = not-body-takes (f .part) (g .0)
+part-end t f (h ∷ hs) g e = end-takes-none (f .part) (g .0)
 
 module _ {bs : List ℕ} {i : ℕ} {here : Scope} {k : Kind} (s : Stands bs i here) (l : i < length bs / 6) (e : k ≡ kindAt (tableOf bs) i) where
   pub takes-function : k ≡ Function → 0 ≡ takesAt (tableOf bs) i

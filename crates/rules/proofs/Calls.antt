@@ -43,6 +43,12 @@ pub accepted-of : (v : Verdict) → numberOf v ≡ 0 → v ≡ Accepted
 accepted-of Accepted e = refl
 accepted-of (Refused r) e = absurd (no-zero r e)
 
+-- of a run too
+pub run-accepted : {C : Type 0} (v : Verdict) (a : Answer C) (vs slots : List ℕ) → (running v a vs slots) .ran .number ≡ 0 → v ≡ Accepted
+unfolding running
+run-accepted Accepted a vs slots e = refl
+run-accepted (Refused r) a vs slots e = absurd (no-zero r e)
+
 pub harden-refused : (rows out : List ℕ) (r : Refusal) → givenVerdict rows ≡ Refused r
     → hardenCall rows out ≡ record { wrote = record { number = numberOf (Refused r); length = 0 }; out = out }
 unfolding hardenCall writing

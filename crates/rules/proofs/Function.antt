@@ -40,6 +40,13 @@ origin-body loopBody = refl
 pub held-takes : (t : Table) (j : ℕ) (f : Open) (fs : List Open) (p : Part) → Held t j f fs → isBody (f .part) ≡ false → takes (kindAt t (f .opener)) p ≡ past
 held-takes t j f fs p m b = takes-past (kindAt t (f .opener)) (origin (f .part)) p (m .by) (λ e. clash (ap isBody e) (origin-body (f .part) ∙ b))
 
+-- the end of such a part takes nothing
+pub end-takes-none : (p : Part) → isBody p ≡ false → takes End p ≡ 0
+end-takes-none body e = clash refl e
+end-takes-none thenPart e = refl
+end-takes-none elsePart e = refl
+end-takes-none loopBody e = refl
+
 abbrev pub Formed : Table → List Open → Type 0
 Formed t [] = Unit {0}
 Formed t (f ∷ []) = (f .part ≡ body) × (f .region ≡ regions t (f .opener))

@@ -8,19 +8,19 @@ use native.Mathlib.Omega.{arith}
 use lib.ListN.{length}
 use Rattle.rules.specs.declared.refusal.Refusal.the-variants.{ShortRoom}
 use Rattle.rules.specs.declared.refusal.Verdict.{Verdict}
-use Rattle.rules.specs.declared.refusal.Verdict.the-variants.{Accepted, Refused}
+use Rattle.rules.specs.declared.refusal.Verdict.the-variants.{Accepted}
 use Rattle.rules.specs.declared.strike.Strike.the-variants.{None}
 use Rattle.rules.specs.Limits.{counterWords, noStep}
 use Rattle.rules.specs.Bytes.{AreBytes}
 use Rattle.rules.specs.Row.{tableOf}
-use Rattle.rules.specs.Refusal.{numberOf, refuseIf, andThen}
+use Rattle.rules.specs.Refusal.{refuseIf, andThen}
 use Rattle.rules.specs.Switch.{chainBytes}
 use Rattle.rules.specs.Given.{givenVerdict}
 use Rattle.rules.specs.Line.{linesIn}
 use Rattle.rules.specs.Harden.{hardenedBytes}
 use Rattle.rules.specs.ReadBack.{isHardened}
 use Rattle.rules.specs.State.{State}
-use Rattle.rules.specs.Run.{Turn, on, ends, untaken, Answer, after, run, outcomeOf}
+use Rattle.rules.specs.Run.{Turn, on, ends, untaken, after, run, outcomeOf}
 use Rattle.rules.specs.Source.{sourceRun}
 use Rattle.rules.specs.Hardened.{counterForm, hardenedRun}
 use Rattle.rules.specs.Match.{dosIn, callsIn, hardenedSteps}
@@ -28,7 +28,7 @@ use Rattle.rules.specs.Demands.{Finishing}
 use Rattle.rules.specs.Calls.{running, shortTrace, runSourceCall}
 use Rattle.rules.specs.Steps.{hardenedTwin, FinishesIn, StepsPromise}
 use Rattle.rules.proofs.Accepted.{then-left}
-use Rattle.rules.proofs.Calls.{accepted-of, run-hardened-accepted}
+use Rattle.rules.proofs.Calls.{run-accepted, run-hardened-accepted}
 use Rattle.rules.proofs.Reading.{source-hardened}
 use Rattle.rules.proofs.Switch.Chain.{chain-accepted}
 use Rattle.rules.proofs.Switch.Reading.{reads-chain}
@@ -51,18 +51,13 @@ module _ {C : Type 0} (m : ℕ → State C → Turn C) where
   spent (suc b) (suc n) k s h = spent-by b n k (m k s) (λ s′ l. spent b n (suc k) s′ l) h
 
 -- ---- a source run by its public call
-number-of : {C : Type 0} (v : Verdict) (a : Answer C) (vs slots : List ℕ) → (running v a vs slots) .ran .number ≡ numberOf v
-unfolding running
-number-of Accepted a vs slots = refl
-number-of (Refused r) a vs slots = refl
-
 module _ (rows vs : List ℕ) (b : ℕ) (slots : List ℕ) where
   verdict : Verdict
   verdict = andThen (givenVerdict rows) (refuseIf (shortTrace b slots) ShortRoom)
 
   accepts : (runSourceCall rows vs b slots) .ran .number ≡ 0 → verdict ≡ Accepted
   unfolding runSourceCall verdict
-  accepts e = accepted-of verdict (sym (number-of verdict (sourceRun (tableOf (chainBytes rows)) b vs) vs slots) ∙ e)
+  accepts e = run-accepted verdict (sourceRun (tableOf (chainBytes rows)) b vs) vs slots e
 
   ran-as : verdict ≡ Accepted → runSourceCall rows vs b slots ≡ running Accepted (sourceRun (tableOf (chainBytes rows)) b vs) vs slots
   unfolding runSourceCall verdict

@@ -12,14 +12,14 @@ use borrow.Author.Tests.{eqb-true, eqb-false}
 use Rattle.rules.specs.declared.kind.Kind.{Kind}
 use Rattle.rules.specs.declared.kind.Kind.the-variants.{Function, Do, If, Else, Loop, End, Break, Continue, Call, Unknown}
 use Rattle.rules.specs.Row.{Table, kindAt}
-use Rattle.rules.specs.Scan.{Part, body, thenPart, elsePart, loopBody, Open, shapeOf, regionsAfter, openAfter, regions, openAt}
+use Rattle.rules.specs.Scan.{body, Open, shapeOf, regionsAfter, openAfter, regions, openAt}
 use Rattle.rules.specs.Value.{takes, takesIn, taken, base}
 use Rattle.rules.specs.Check.{misplacedIn}
 use Rattle.rules.specs.Figures.{valuesBy}
 use Rattle.rules.proofs.Logic.{clash}
 use Rattle.rules.proofs.Accepted.{Proper}
 use Rattle.rules.proofs.Scan.{Chain, chain, regions-mono}
-use Rattle.rules.proofs.Function.{isBody, Formed, formed}
+use Rattle.rules.proofs.Function.{Formed, formed, end-takes-none}
 use Rattle.rules.proofs.ValueBound.{sum, sum-add, none-below, base-sum}
 use Rattle.rules.proofs.Figures.Sums.{sumsAt, sums-start, sums-next}
 
@@ -42,12 +42,6 @@ sum-own k f fs (suc n) h = by (eqb (f .region) n) refl (λ l. sum-own k f fs n l
     by true e ih = omega (arith, none-below k f fs n (omega (arith, eqb-true (f .region) n e)))
     by false e ih = omega (arith, ih (omega (arith, ne (eqb-false (f .region) n e))))
 
-ends-none : (p : Part) → isBody p ≡ false → takes End p ≡ 0
-ends-none body e = clash refl e
-ends-none thenPart e = refl
-ends-none elsePart e = refl
-ends-none loopBody e = refl
-
 -- ---- what the end of the open function will take; it is counted with the row that opens the function
 abbrev owed : List Open → ℕ
 owed [] = 0
@@ -69,7 +63,7 @@ row-sum t i Loop g (f ∷ fs) p w c n h = omega (arith, sum-own Loop f fs n (ome
 row-sum t i End g [] p w c n h = clash refl p
 row-sum t i End g (f ∷ []) p w c n h = omega (arith, sum-own End f [] n (omega (arith, c .0)), ap (takes End) (w .0))
 row-sum t i End g (f ∷ a ∷ fs) p w c n h =
-    omega (arith, sum-own End f (a ∷ fs) n (omega (arith, c .0)), ends-none (f .part) (w .0))
+    omega (arith, sum-own End f (a ∷ fs) n (omega (arith, c .0)), end-takes-none (f .part) (w .0))
 row-sum t i Break g [] p w c n h = clash refl p
 row-sum t i Break g (f ∷ fs) p w c n h = omega (arith, sum-own Break f fs n (omega (arith, c .0)))
 row-sum t i Continue g [] p w c n h = clash refl p

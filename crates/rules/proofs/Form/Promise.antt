@@ -1,5 +1,5 @@
 -- The promise of a run, of every form that meets demand 3. Assumes nothing.
-use mathlib.Core.Path.{_≡_, refl, sym, ap, _∙_}
+use mathlib.Core.Path.{_≡_, sym, ap, _∙_}
 use mathlib.Core.Bool.{false}
 use mathlib.Core.List.{List}
 use Prim.Native.Nat.{ℕ}
@@ -7,22 +7,16 @@ use lib.ListN.{length, take, drop}
 use lib.Seq.{take-append-seam}
 use Rattle.rules.specs.declared.strike.Strike.the-variants.{None}
 use Rattle.rules.specs.declared.refusal.Verdict.{Verdict}
-use Rattle.rules.specs.declared.refusal.Verdict.the-variants.{Accepted, Refused}
+use Rattle.rules.specs.declared.refusal.Verdict.the-variants.{Accepted}
 use Rattle.rules.specs.Row.{Table}
 use Rattle.rules.specs.Line.{Line}
-use Rattle.rules.specs.Refusal.{numberOf}
 use Rattle.rules.specs.State.{openFunctions}
 use Rattle.rules.specs.Run.{Answer, outcomeOf}
 use Rattle.rules.specs.Form.{Form, strikeBy, runOf}
 use Rattle.rules.specs.Demands.{strikes, struckShown, Demand}
 use Rattle.rules.specs.Calls.{Running, running}
 use Rattle.rules.specs.RunPromise.{seen, AsSource, RunPromise}
-use Rattle.rules.proofs.Calls.{accepted-of}
-
-number-of : {C : Type 0} (v : Verdict) (a : Answer C) (vs slots : List ℕ) → (running v a vs slots) .ran .number ≡ numberOf v
-unfolding running
-number-of Accepted a vs slots = refl
-number-of (Refused r) a vs slots = refl
+use Rattle.rules.proofs.Calls.{run-accepted}
 
 module _ {H : Type 0} (F : Form H) (ls : List Line) (t : Table) (vars : List ℕ) (b k p : ℕ) (slots : List ℕ) (v : Verdict) (demands : v ≡ Accepted → Demand F ls t vars b k p) where
   abbrev ran : Answer H
@@ -32,7 +26,7 @@ module _ {H : Type 0} (F : Form H) (ls : List Line) (t : Table) (vars : List ℕ
   got = running v ran vars slots
 
   accepted : got .ran .number ≡ 0 → v ≡ Accepted
-  accepted e = accepted-of v (sym (number-of v ran vars slots) ∙ e)
+  accepted e = run-accepted v ran vars slots e
 
   seen-is : v ≡ Accepted → seen got ≡ struckShown ran
   unfolding running

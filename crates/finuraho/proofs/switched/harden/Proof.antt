@@ -1,5 +1,5 @@
 -- `finuraho::switched::harden` meets its contract. Assumes nothing.
-use Rattle.finuraho.proofs.Chains.{link-refused, link-chain}
+use Rattle.chain.proofs.Links.{linked-refused, linked-chain}
 use Rattle.rules.proofs.Calls.{harden-refused, harden-accepted}
 use native.Mathlib.Omega.{arith}
 use mathlib.Core.Path.{ap, sym, _∙_}
@@ -30,22 +30,22 @@ enum-known-n : tie.Need-enum-known-n
 enum-known-n c = search needs
 
 array-share-prefix-chain : tie.Need-array-share-prefix-chain
-array-share-prefix-chain c = omega (arith, (link-chain (c .before .before .before .before .link .ensures) (c .before .n .given .1)) .within)
+array-share-prefix-chain c = omega (arith, (linked-chain (c .before .before .before .before .link .ensures) (c .before .n .given .1)) .within)
 
 slice-aggregate-harden-linked : tie.Need-slice-aggregate-harden-linked
-slice-aggregate-harden-linked c = sym (length-take-le _ _ (omega (arith, (link-chain (c .before .before .before .before .before .link .ensures) (c .before .before .n .given .1)) .within)))
+slice-aggregate-harden-linked c = sym (length-take-le _ _ (omega (arith, (linked-chain (c .before .before .before .before .before .link .ensures) (c .before .before .n .given .1)) .within)))
 
 harden-linked-requires : tie.Need-harden-linked-requires
-harden-linked-requires c κs = ((link-chain (c .before .before .before .before .before .before .before .before .before .link .ensures) (c .before .before .before .before .before .before .n .given .1)) .accepted, (link-chain (c .before .before .before .before .before .before .before .before .before .link .ensures) (c .before .before .before .before .before .before .n .given .1)) .links)
+harden-linked-requires c κs = ((linked-chain (c .before .before .before .before .before .before .before .before .before .link .ensures) (c .before .before .before .before .before .before .n .given .1)) .accepted, (linked-chain (c .before .before .before .before .before .before .before .before .before .link .ensures) (c .before .before .before .before .before .before .n .given .1)) .links)
 
 returns : tie.Need-returns
-returns c = ap (λ w. record { wrote = w; out = now (c .before .before .before .before .before .before .before .before .before .before .before .before .args .out) }) (c .refused .ensures) ∙ sym (harden-refused _ _ _ (link-refused (c .before .before .before .before .before .link .ensures) (c .before .before .r .given .1)))
+returns c = ap (λ w. record { wrote = w; out = now (c .before .before .before .before .before .before .before .before .before .before .before .before .args .out) }) (c .refused .ensures) ∙ sym (harden-refused _ _ _ (linked-refused (c .before .before .before .before .before .link .ensures) (c .before .before .r .given .1)))
 
 same-length : tie.Need-same-length
 same-length c = search needs
 
 returns-2 : tie.Need-returns-2
-returns-2 c = c .before .before .harden-linked .ensures ∙ sym (harden-accepted _ _ _ ((link-chain (c .before .before .before .before .before .before .before .before .before .before .before .before .link .ensures) (c .before .before .before .before .before .before .before .before .before .n .given .1)) .stands))
+returns-2 c = c .before .before .harden-linked .ensures ∙ sym (harden-accepted _ _ _ ((linked-chain (c .before .before .before .before .before .before .before .before .before .before .before .before .link .ensures) (c .before .before .before .before .before .before .before .before .before .n .given .1)) .stands))
 
 pub harden-spec : {M : Type 1} → statement M
 harden-spec =

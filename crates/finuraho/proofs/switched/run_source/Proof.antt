@@ -1,5 +1,5 @@
 -- `finuraho::switched::run_source` meets its contract. Assumes nothing.
-use Rattle.finuraho.proofs.Chains.{link-refused, link-chain}
+use Rattle.chain.proofs.Links.{linked-refused, linked-chain}
 use Rattle.rules.proofs.Calls.{run-source-refused, run-source-stands}
 use native.Mathlib.Omega.{arith}
 use mathlib.Core.Path.{ap, sym, _∙_}
@@ -31,22 +31,22 @@ enum-known-n : tie.Need-enum-known-n
 enum-known-n c = search needs
 
 array-share-prefix-chain : tie.Need-array-share-prefix-chain
-array-share-prefix-chain c = omega (arith, (link-chain (c .before .before .before .before .link .ensures) (c .before .n .given .1)) .within)
+array-share-prefix-chain c = omega (arith, (linked-chain (c .before .before .before .before .link .ensures) (c .before .n .given .1)) .within)
 
 slice-aggregate-source-run : tie.Need-slice-aggregate-source-run
-slice-aggregate-source-run c = sym (length-take-le _ _ (omega (arith, (link-chain (c .before .before .before .before .before .link .ensures) (c .before .before .n .given .1)) .within)))
+slice-aggregate-source-run c = sym (length-take-le _ _ (omega (arith, (linked-chain (c .before .before .before .before .before .link .ensures) (c .before .before .n .given .1)) .within)))
 
 source-run-requires : tie.Need-source-run-requires
-source-run-requires c κs = ((link-chain (c .before .before .before .before .before .before .before .before .before .link .ensures) (c .before .before .before .before .before .before .n .given .1)) .accepted, (link-chain (c .before .before .before .before .before .before .before .before .before .link .ensures) (c .before .before .before .before .before .before .n .given .1)) .links)
+source-run-requires c κs = ((linked-chain (c .before .before .before .before .before .before .before .before .before .link .ensures) (c .before .before .before .before .before .before .n .given .1)) .accepted, (linked-chain (c .before .before .before .before .before .before .before .before .before .link .ensures) (c .before .before .before .before .before .before .n .given .1)) .links)
 
 returns : tie.Need-returns
-returns c = ap (λ x. runs x (now (c .before .before .before .before .before .before .before .before .before .before .before .before .args .trace))) (c .refused .ensures) ∙ sym (run-source-refused _ _ _ _ _ (link-refused (c .before .before .before .before .before .link .ensures) (c .before .before .r .given .1)))
+returns c = ap (λ x. runs x (now (c .before .before .before .before .before .before .before .before .before .before .before .before .args .trace))) (c .refused .ensures) ∙ sym (run-source-refused _ _ _ _ _ (linked-refused (c .before .before .before .before .before .link .ensures) (c .before .before .r .given .1)))
 
 same-length : tie.Need-same-length
 same-length c = search needs
 
 returns-2 : tie.Need-returns-2
-returns-2 c = c .before .before .source-run .ensures ∙ sym (run-source-stands _ _ _ _ _ ((link-chain (c .before .before .before .before .before .before .before .before .before .before .before .before .link .ensures) (c .before .before .before .before .before .before .before .before .before .n .given .1)) .stands))
+returns-2 c = c .before .before .source-run .ensures ∙ sym (run-source-stands _ _ _ _ _ ((linked-chain (c .before .before .before .before .before .before .before .before .before .before .before .before .link .ensures) (c .before .before .before .before .before .before .before .before .before .n .given .1)) .stands))
 
 pub run-source-spec : {M : Type 1} → statement M
 run-source-spec =

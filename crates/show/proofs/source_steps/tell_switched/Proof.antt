@@ -2,7 +2,8 @@
 use native.Mathlib.Omega.{arith}
 use mathlib.Core.Path.{sym}
 use lib.Seq.{length-take-le}
-use Rattle.show.proofs.Told.{link-chain, told-linked, told-refused}
+use Rattle.chain.proofs.Links.{linked-chain}
+use Rattle.show.proofs.Told.{told-linked, told-refused}
 use borrow.Author.Needs.{needs}
 use Rattle.show.proofs.source_steps.tell_switched.Statement.{statement}
 use Rattle.show.proofs.source_steps.tell_switched.Tie as tie
@@ -24,13 +25,13 @@ enum-known-n : tie.Need-enum-known-n
 enum-known-n c = search needs
 
 array-share-prefix-chain : tie.Need-array-share-prefix-chain
-array-share-prefix-chain c = omega (arith, (link-chain (c .before .before .before .before .link .ensures) (c .before .n .given .1)) .within)
+array-share-prefix-chain c = omega (arith, (linked-chain (c .before .before .before .before .link .ensures) (c .before .n .given .1)) .within)
 
 slice-aggregate-tell-accepted : tie.Need-slice-aggregate-tell-accepted
-slice-aggregate-tell-accepted c = sym (length-take-le _ _ (omega (arith, (link-chain (c .before .before .before .before .before .link .ensures) (c .before .before .n .given .1)) .within)))
+slice-aggregate-tell-accepted c = sym (length-take-le _ _ (omega (arith, (linked-chain (c .before .before .before .before .before .link .ensures) (c .before .before .n .given .1)) .within)))
 
 tell-accepted-requires : tie.Need-tell-accepted-requires
-tell-accepted-requires c κs = ((link-chain (c .before .before .before .before .before .before .before .before .before .before .link .ensures) (c .before .before .before .before .before .before .before .n .given .1)) .accepted, ((link-chain (c .before .before .before .before .before .before .before .before .before .before .link .ensures) (c .before .before .before .before .before .before .before .n .given .1)) .links, c .before .before .before .before .before .before .before .before .before .before .before .before .before .before .before .before .before .pre))
+tell-accepted-requires c κs = ((linked-chain (c .before .before .before .before .before .before .before .before .before .before .link .ensures) (c .before .before .before .before .before .before .before .n .given .1)) .accepted, ((linked-chain (c .before .before .before .before .before .before .before .before .before .before .link .ensures) (c .before .before .before .before .before .before .before .n .given .1)) .links, c .before .before .before .before .before .before .before .before .before .before .before .before .before .before .before .before .before .pre))
 
 returns : tie.Need-returns
 returns c = told-refused (c .before .before .before .link .ensures) (c .enum-told .given .1)
