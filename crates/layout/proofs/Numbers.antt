@@ -25,7 +25,7 @@ use Rattle.rules.proofs.Accepted.{table-length}
 use Rattle.rules.proofs.ValueBound.{value-bound, base-bound, regions-bound}
 use Rattle.layout.specs.declared.scope.Scope.{Scope}
 use Rattle.layout.specs.Scope.{scopeOf, Surveyed, Stands}
-use Rattle.layout.specs.Number.{takesAt, valueOf, tookBefore, Took, Spent, Spends, sums, Summed, Based, Valued}
+use Rattle.layout.specs.Number.{takesAt, valueOf, tookBefore, Took, Spent, Spends, sums, RunningSum, Summed, Based, Valued}
 use Rattle.layout.proofs.Scopes.{few-rows, region-regions}
 
 -- ---- the word of each region
@@ -132,7 +132,13 @@ took-all {bs} {took = took} {i = i} d q h = let x : i ≡ length bs / 6 = omega 
 
 pub ruleset spendings = (spend-start, spend-again, spend-all, took-all)
 
--- ---- the running sum
+-- ---- the running sum gives every region 01's base (02, No. 3)
+pub running-sum : RunningSum
+unfolding sums base
+running-sum t l zero h = refl
+running-sum t l (suc g) h = omega (arith, running-sum t l g (λ k b. h k (omega arith)), h g (le-refl (suc g)))
+
+-- ---- the loop that sums
 pub record Summing (words₀ : List ℕ) (count : ℕ) (words : List ℕ) (total g : ℕ) : Type 0 where
   pub le : g ≤ count
   pub same : length words ≡ length words₀
@@ -145,16 +151,16 @@ unfolding sums
 sum-start =
     record { le = omega arith; same = refl; total-is = refl; is = record { each = λ g h. absurd (not-suc-le-zero h) }; rest = λ k h. refl }
 
-sum-next : {words₀ words : List ℕ} {count total g : ℕ} → Summing words₀ count words total g → total + getD words g 0 + 1 ≡ sums words₀ (suc g)
+sum-next : {words₀ words : List ℕ} {count total g : ℕ} → Summing words₀ count words total g → total + (getD words g 0 + 1) ≡ sums words₀ (suc g)
 unfolding sums
 sum-next {words₀} {words} {count} {total} {g} p = omega (arith, p .total-is, p .rest g (le-refl g))
 
 pub sum-fits : {words₀ words : List ℕ} {count total g : ℕ} → Summing words₀ count words total g → g < count
-    → ((k : ℕ) → k ≤ count → sums words₀ k < 65536) → total + getD words g 0 + 1 < 65536
+    → ((k : ℕ) → k ≤ count → sums words₀ k < 65536) → total + (getD words g 0 + 1) < 65536
 sum-fits {g = g} p h f = omega (arith, sum-next p, f (suc g) h)
 
 pub sum-more : {words₀ words : List ℕ} {count total g : ℕ} → Summing words₀ count words total g → g < count → count ≤ length words₀
-    → Summing words₀ count (set words g total) (total + getD words g 0 + 1) (g + 1)
+    → Summing words₀ count (set words g total) (total + (getD words g 0 + 1)) (g + 1)
 sum-more {words₀} {words} {count} {total} {g} p h r =
     record {
       le = omega arith;
@@ -174,13 +180,8 @@ sum-all {words₀} {words} {count} {total} {g} p h = let x : g ≡ count = omega
 pub ruleset summings = (sum-start, sum-more, sum-all)
 
 -- ---- the bases
-sums-base : (t : Table) (l : List ℕ) → ((g : ℕ) → getD l g 0 ≡ taken t g (length t)) → (g : ℕ) → sums l g ≡ base t g
-unfolding sums base
-sums-base t l h zero = refl
-sums-base t l h (suc g) = rw (sums-base t l h g, h g)
-
 sums-are : {bs spent : List ℕ} → Spent bs spent (length bs / 6) → (g : ℕ) → sums spent g ≡ base (tableOf bs) g
-sums-are {bs} {spent} p g = sums-base (tableOf bs) spent (λ k. p .each k ∙ ap (taken (tableOf bs) k) (sym (table-length bs))) g
+sums-are {bs} {spent} p g = running-sum (tableOf bs) spent g (λ h l. ap suc (p .each h ∙ ap (taken (tableOf bs) h) (sym (table-length bs))))
 
 pub sums-fit : {bs spent : List ℕ} {count : ℕ} {end : Scope} → Stands bs (length bs / 6) end → Spent bs spent (length bs / 6) → count ≡ end .opened
     → (g : ℕ) → g ≤ count + 1 → sums spent g < 65536

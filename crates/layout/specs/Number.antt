@@ -6,7 +6,7 @@ use lib.ListN.{length, getD, set}
 use Rattle.rules.specs.Limits.{maxRows}
 use Rattle.rules.specs.Row.{Table, tableOf, kindAt}
 use Rattle.rules.specs.Scan.{openAt, regionOf, regions}
-use Rattle.rules.specs.Value.{takesIn, taken, base, valueIn}
+use Rattle.rules.specs.Value.{takesIn, taken, size, base, valueIn}
 
 -- what row i takes in its own region, and its value
 unfoldable pub takesAt : Table → (i : ℕ) → ℕ
@@ -37,6 +37,11 @@ pub record Spends (bs : List ℕ) (i : ℕ) (spent′ took took′ : List ℕ) :
 unfoldable pub sums : List ℕ → (g : ℕ) → ℕ
 sums l zero = 1
 sums l (suc g) = sums l g + suc (getD l g 0)
+
+-- 02, No. 3: "a running sum that adds each region's size once, in the order the regions open, and show that it gives every region 01's base".
+-- Of the list only the words of the regions opened before region g count. proofs/Numbers.antt proves it.
+abbrev pub RunningSum : Type 0
+RunningSum = (t : Table) (l : List ℕ) (g : ℕ) → ((h : ℕ) → h < g → suc (getD l h 0) ≡ size t h) → sums l g ≡ base t g
 
 pub record Summed (spent sums-are : List ℕ) (count : ℕ) : Type 0 where
   pub each : (g : ℕ) → g < count → getD sums-are g 0 ≡ sums spent g

@@ -69,7 +69,8 @@ pub fn survey_and_spend(rows: &[u8], map: &mut [u16], spent: &mut [u16], took: &
     scope::keep(map, n, here);
 }
 
-// A running sum of 1 and the sizes: a region's size is 1 and what its rows take. Each word becomes the sum before it.
+// A running sum of 1 and the sizes, each added once, in the order the regions open: a region's size is 1 and what its rows take. Each
+// word becomes the sum before it.
 fn sum(words: &mut [u16], count: usize)
     requires { ⌜ (count ≤ length (now words)) × ((g : ℕ) → g ≤ count → sums (now words) g < 65536) ⌝ }
     ensures { λ _. ⌜ Summed (now (words .entry)) (now (words .exit)) count ⌝ }
@@ -77,9 +78,10 @@ fn sum(words: &mut [u16], count: usize)
     let mut total: u16 = 1;
     let mut g = 0;
     while g < count {
-        let took = words[g];
+        let size = words[g] + 1;
+        let after = total + size;
         words[g] = total;
-        total = total + took + 1;
+        total = after;
         g += 1;
     }
 }

@@ -16,23 +16,23 @@ abbrev μ-loop : tie.MeasureT-loop
 loop-holds : tie.Need-loop-holds Inv-loop μ-loop
 loop-holds c = search (summings, needs)
 
-mul-took : tie.Need-mul-took Inv-loop μ-loop
-mul-took c = search (summings, needs)
+mul-size : tie.Need-mul-size Inv-loop μ-loop
+mul-size c = search (summings, needs)
 
-slice-read-took : tie.Need-slice-read-took Inv-loop μ-loop
-slice-read-took c = search (summings, needs)
+slice-read-size : tie.Need-slice-read-size Inv-loop μ-loop
+slice-read-size c = search (summings, needs)
+
+add-size : tie.Need-add-size Inv-loop μ-loop
+add-size c = omega (arith, sum-fits (c .before .before .loop .inv) (omega arith) (c .before .before .before .pre .1))
+
+add-after : tie.Need-add-after Inv-loop μ-loop
+add-after c = omega (arith, sum-fits (c .before .before .loop .inv) (omega arith) (c .before .before .before .pre .1))
 
 mul-words : tie.Need-mul-words Inv-loop μ-loop
 mul-words c = search (summings, needs)
 
 slice-write-words : tie.Need-slice-write-words Inv-loop μ-loop
 slice-write-words c = search (summings, needs)
-
-add-total : tie.Need-add-total Inv-loop μ-loop
-add-total c = omega (arith, sum-fits (c .before .before .loop .inv) (omega arith) (c .before .before .before .pre .1))
-
-add-total-2 : tie.Need-add-total-2 Inv-loop μ-loop
-add-total-2 c = omega (arith, sum-fits (c .before .before .loop .inv) (omega arith) (c .before .before .before .pre .1))
 
 add-g : tie.Need-add-g Inv-loop μ-loop
 add-g c = omega arith
@@ -56,12 +56,12 @@ sum-spec =
     Inv-loop
     μ-loop
     loop-holds
-    mul-took
-    slice-read-took
+    mul-size
+    slice-read-size
+    add-size
+    add-after
     mul-words
     slice-write-words
-    add-total
-    add-total-2
     add-g
     loop-less
     loop-again
