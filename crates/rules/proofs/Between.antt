@@ -4,7 +4,7 @@ use mathlib.Core.Path.{_≡_, refl, sym, ap, _∙_}
 use mathlib.Core.Bool.{Bool, true, false, _||_}
 use mathlib.Core.List.{List}
 use Prim.Native.Nat.{ℕ, zero, suc, _+_, _-_, _≤_, _<_}
-use native.Mathlib.Nat.{add-zero}
+use native.Mathlib.Nat.{add-zero, eq-or-lt-of-le}
 use native.Mathlib.Omega.{arith}
 use lib.ListN.{length}
 use Rattle.rules.specs.declared.kind.Kind.the-variants.{Do}
@@ -12,7 +12,7 @@ use Rattle.rules.specs.Row.{Table, kindAt}
 use Rattle.rules.specs.Line.{Line, lineAt, isGuard}
 use Rattle.rules.specs.Harden.{lineOf, rowLines, harden}
 use Rattle.rules.specs.Match.{guardFrom, guardBetween}
-use Rattle.rules.proofs.Logic.{clash}
+use Rattle.rules.proofs.Logic.{clash, or-first, or-second}
 use Rattle.rules.proofs.Harden.{line-at}
 
 pub data Between (ls : List Line) (a b : ℕ) : Type 0 where
@@ -46,6 +46,20 @@ between ls a b e = by (guardFrom ls a (b - a)) refl e
     by false g q =
         let r = guard-in ls b (a - b) q in
         down (r .x) (r .not-below) (omega (arith, r .not-below, r .not-above)) (r .guards)
+
+-- and back: a guard in either direction lies between
+guard-there : (ls : List Line) (k d x : ℕ) → k ≤ x → x < k + d → isGuard (lineAt ls x) ≡ true → guardFrom ls k d ≡ true
+unfolding guardFrom
+guard-there ls k zero x a b g = absurd (let z : ⊥ = omega arith in z)
+guard-there ls k (suc d) x a b g = by (eq-or-lt-of-le a) (λ l. guard-there ls (suc k) d x l (omega arith) g)
+  where
+    by : (k ≡ x) ⊎ (k < x) → (k < x → guardFrom ls (suc k) d ≡ true) → isGuard (lineAt ls k) || guardFrom ls (suc k) d ≡ true
+    by (inl e) ih = or-first (isGuard (lineAt ls k)) (guardFrom ls (suc k) d) (ap (λ y. isGuard (lineAt ls y)) e ∙ g)
+    by (inr l) ih = or-second (isGuard (lineAt ls k)) (ih l)
+
+pub wide : (ls : List Line) (a b : ℕ) → Between ls a b → guardBetween ls a b ≡ true
+wide ls a b (up x p q g) = or-first (guardFrom ls a (b - a)) (guardFrom ls b (a - b)) (guard-there ls a (b - a) x p (omega arith) g)
+wide ls a b (down x p q g) = or-second (guardFrom ls a (b - a)) (guard-there ls b (a - b) x p (omega arith) g)
 
 pub not-same : (ls : List Line) (a b : ℕ) → a ≡ b → Between ls a b → ⊥
 not-same ls a b e (up x p q g) = omega arith

@@ -9,7 +9,7 @@ use lib.Dec.{ltb}
 use lib.ListN.{length}
 use borrow.Author.Tests.{lt-ltb, le-ltb}
 use Rattle.rules.specs.declared.refusal.Refusal.{Refusal}
-use Rattle.rules.specs.declared.refusal.Refusal.the-variants.{NoWholeRows, TooManyRows, WrongField, Misplaced, TooManyFunctions, TooManyParts, NoSuchFunction, ShortOutput, ShortRoom, NotHardened, RepeatedCase}
+use Rattle.rules.specs.declared.refusal.Refusal.the-variants.{NoWholeRows, TooManyRows, WrongField, Misplaced, TooManyFunctions, TooManyParts, NoSuchFunction, ShortOutput, ShortRoom, NotHardened, RepeatedCase, NotFinished}
 use Rattle.rules.specs.declared.refusal.Verdict.{Verdict}
 use Rattle.rules.specs.declared.refusal.Verdict.the-variants.{Accepted, Refused}
 use Rattle.rules.specs.Refusal.{numberOf, refuseIf, andThen}
@@ -38,6 +38,7 @@ no-zero ShortOutput e = omega arith
 no-zero ShortRoom e = omega arith
 no-zero NotHardened e = omega arith
 no-zero RepeatedCase e = omega arith
+no-zero NotFinished e = omega arith
 
 pub accepted-of : (v : Verdict) → numberOf v ≡ 0 → v ≡ Accepted
 accepted-of Accepted e = refl

@@ -12,7 +12,9 @@ pub mod Finish
 pub mod Where
 pub mod Strict
 pub mod Struck
+pub mod Trace
 pub mod Alarm
 pub mod Jump
 pub mod Demand
 pub mod Promise
+pub mod Sweep

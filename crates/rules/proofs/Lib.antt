@@ -1,6 +1,7 @@
 -- ---- small facts
 pub mod Logic
 pub mod Search
+pub mod SweepSums
 -- ---- the table: its parts, values, lines and functions
 pub mod Scan
 pub mod Value
@@ -12,6 +13,7 @@ pub mod Place
 pub mod Parts
 pub mod Guard
 pub mod Between
+pub mod Across
 pub mod ValueBound
 pub mod Words
 -- ---- the forms in general
@@ -35,6 +37,7 @@ pub mod Calls
 pub mod TablePromise
 pub mod Demand3
 pub mod Promise
+pub mod Sweep
 -- ---- how much a table takes
 pub mod Figures
 -- ---- by computation

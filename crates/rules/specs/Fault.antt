@@ -7,7 +7,7 @@ use lib.Dec.{ltb, leb}
 use lib.ListN.{length}
 use Rattle.rules.specs.declared.answer.Fault.{Fault}
 use Rattle.rules.specs.declared.refusal.Refusal.{Refusal}
-use Rattle.rules.specs.declared.refusal.Refusal.the-variants.{NoWholeRows, TooManyRows, WrongField, Misplaced, TooManyFunctions, TooManyParts, NoSuchFunction, ShortOutput, ShortRoom, NotHardened, RepeatedCase}
+use Rattle.rules.specs.declared.refusal.Refusal.the-variants.{NoWholeRows, TooManyRows, WrongField, Misplaced, TooManyFunctions, TooManyParts, NoSuchFunction, ShortOutput, ShortRoom, NotHardened, RepeatedCase, NotFinished}
 use Rattle.rules.specs.declared.refusal.Verdict.{Verdict}
 use Rattle.rules.specs.declared.refusal.Verdict.the-variants.{Accepted, Refused}
 use Rattle.rules.specs.Bytes.{first}
@@ -43,7 +43,7 @@ abbrev pub callingRow : GivenTable → (count : ℕ) → ℕ
 callingRow g count = first (λ i. callsBeyond count (givenAt g i)) (length g) 0
 
 -- 1: the row that isn't whole, which is row 0 where there are no bytes; 2: the first row that is one too many, or with which the chain
--- is too long; 3 to 7 and 11: the first row that meets it. No table meets 8, 9 or 10.
+-- is too long; 3 to 7 and 11: the first row that meets it. No table meets 8, 9, 10 or 13.
 unfoldable pub faultRow : Refusal → List ℕ → ℕ
 faultRow NoWholeRows bs = length bs / rowWidth
 faultRow TooManyRows bs = cond (tooManyRows bs) maxRows (rowOf (givenOf bs) maxRows)
@@ -56,6 +56,7 @@ faultRow ShortOutput bs = 0
 faultRow ShortRoom bs = 0
 faultRow NotHardened bs = 0
 faultRow RepeatedCase bs = faultyRow (givenOf bs) (chainOf (givenOf bs))
+faultRow NotFinished bs = 0
 
 -- an accepted table has no fault before its end
 unfoldable pub stopRow : Verdict → List ℕ → ℕ

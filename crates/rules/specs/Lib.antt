@@ -31,6 +31,9 @@ pub mod Reading
 pub mod Chained
 pub mod TablePromise
 pub mod RunPromise
+pub mod Sweep
+pub mod Settled
+pub mod SweepCall
 pub mod Promise
 pub mod Bounds
 pub mod Links
@@ -41,3 +44,4 @@ pub mod Measure
 pub mod Steps
 pub mod LineFigures
 pub mod FigureCases
+pub mod SweepCases

@@ -2,7 +2,7 @@
 use Prim.Native.Nat.{ℕ}
 use mathlib.Core.Bool.{Bool, true, false, cond}
 use Rattle.rules.specs.declared.refusal.Refusal.{Refusal}
-use Rattle.rules.specs.declared.refusal.Refusal.the-variants.{NoWholeRows, TooManyRows, WrongField, Misplaced, TooManyFunctions, TooManyParts, NoSuchFunction, ShortOutput, ShortRoom, NotHardened, RepeatedCase}
+use Rattle.rules.specs.declared.refusal.Refusal.the-variants.{NoWholeRows, TooManyRows, WrongField, Misplaced, TooManyFunctions, TooManyParts, NoSuchFunction, ShortOutput, ShortRoom, NotHardened, RepeatedCase, NotFinished}
 use Rattle.rules.specs.declared.refusal.Verdict.{Verdict}
 use Rattle.rules.specs.declared.refusal.Verdict.the-variants.{Accepted, Refused}
 
@@ -19,6 +19,7 @@ refusalNumber ShortOutput = 8
 refusalNumber ShortRoom = 9
 refusalNumber NotHardened = 10
 refusalNumber RepeatedCase = 11
+refusalNumber NotFinished = 13
 
 -- "Accepted: 0"
 abbrev pub numberOf : Verdict → ℕ

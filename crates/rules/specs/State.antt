@@ -46,6 +46,10 @@ abbrev pub returning : {C : Type 0} → (f : Frame C) → (fs : List (Frame C)) 
 returning f fs s =
     record { running = f; callers = fs; last = s .running .own; vars = s .vars; trace = s .trace }
 
+-- the state with this trace
+abbrev pub retraced : {C : Type 0} → (trace : List ℕ) → State C → State C
+retraced tr s = record { running = s .running; callers = s .callers; last = s .last; vars = s .vars; trace = tr }
+
 -- the functions that are open, the first function 0 among them
 abbrev pub depth : {C : Type 0} → State C → ℕ
 depth s = suc (length (s .callers))

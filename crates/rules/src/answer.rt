@@ -34,3 +34,21 @@ pub struct Measured {
     pub lines: u16,
     pub value: u16,
 }
+
+// A sweep: the number of 01, and how many of its runs ended with an alarm, finished with the trace of the unstruck run, finished with
+// another, and did not finish (02, No. 4).
+#[repr(C)]
+pub struct Swept {
+    pub number: u8,
+    pub alarms: u32,
+    pub same: u32,
+    pub other: u32,
+    pub unfinished: u32,
+}
+
+// The number of 01, and whether any run of the sweep finished with another trace.
+#[repr(C)]
+pub struct AnyOther {
+    pub number: u8,
+    pub other: bool,
+}

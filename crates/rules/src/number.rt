@@ -19,6 +19,7 @@ pub fn of_refusal(r: Refusal) -> u8
         Refusal::ShortRoom => 9,
         Refusal::NotHardened => 10,
         Refusal::RepeatedCase => 11,
+        Refusal::NotFinished => 13,
     }
 }
 

@@ -1,4 +1,4 @@
-// What turns a call away (01, the table of that name; 02, No. 1). specs/Refusal.antt lists the number of each.
+// What turns a call away (01, the table of that name; 02, No. 1 and No. 4). specs/Refusal.antt lists the number of each.
 pub enum Refusal {
     NoWholeRows,
     TooManyRows,
@@ -11,6 +11,7 @@ pub enum Refusal {
     ShortRoom,
     NotHardened,
     RepeatedCase,
+    NotFinished,
 }
 
 pub enum Verdict {

@@ -79,6 +79,14 @@ machineAt m k =
       registers = registersAt (m .registers) k (m .registers .steps);
     }
 
+-- no step is taken and no do is done
+abbrev pub afreshOf : Registers → Registers
+afreshOf h = record { depth = h .depth; function = h .function; at = h .at; last = h .last; steps = 0; traced = 0 }
+
+abbrev pub machineAfresh : Machine → Machine
+machineAfresh m =
+    record { resumes = m .resumes; functions = m .functions; variables = m .variables; registers = afreshOf (m .registers) }
+
 -- function 0 alone is open, and nothing is done
 abbrev pub firstRegisters : (at : ℕ) → Registers
 firstRegisters k = record { depth = 0; function = 0; at = k; last = 0; steps = 0; traced = 0 }

@@ -1,6 +1,6 @@
 // The machine of a run: what it keeps beside the trace slots, and a hardened run's counters, that it is lent.
 ghost use mathlib.Core.Path.{_≡_};
-ghost use Rattle.state.specs.Machine.{registersAt, moved, stoppedAt, machineAt, begunAt};
+ghost use Rattle.state.specs.Machine.{registersAt, moved, stoppedAt, machineAt, machineAfresh, begunAt};
 use rules::limits::OPEN;
 use rules::limits::VARIABLES;
 use rules::step::Step;
@@ -108,6 +108,30 @@ pub fn at_line(m: Machine, at: u16) -> Machine
     let variables = m.variables;
     let mut registers = m.registers;
     registers.at = at;
+    Machine {
+        resumes,
+        functions,
+        variables,
+        registers,
+    }
+}
+
+// The machine as one that has taken no step and done no do.
+pub fn afresh(m: Machine) -> Machine
+    ensures { λ r. ⌜ r ≡ machineAfresh m ⌝ }
+{
+    let resumes = m.resumes;
+    let functions = m.functions;
+    let variables = m.variables;
+    let h = m.registers;
+    let registers = Registers {
+        depth: h.depth,
+        function: h.function,
+        at: h.at,
+        last: h.last,
+        steps: 0,
+        traced: 0,
+    };
     Machine {
         resumes,
         functions,

@@ -129,6 +129,13 @@ module _ {H : Type 0} (F : Form H) (ls : List Line) where
       rw (struck-on p k s l, e₁, not-now k p (suc k) h (omega arith), e₂, x k, lt-ltb (suc k) (k + suc (suc b)) (omega arith))
       (shown-of 2 (suc (suc k)) g (doneAt ls p s) r)
 
+  -- from the step struck on, the run goes unstruck from the place that it lands at
+  strike-now : (p k b : ℕ) (h : State H) → p ≤ lastPlace ls (h .running .function)
+      → run (strikingStepOf F ls (Jump k p)) (suc b) k h ≡ run (strikingStepOf F ls None) (suc b) k (landedAt ls p h)
+  unfolding run
+  strike-now p k b h l =
+      rw (struck-on p k h l) (after-same k (stepOf F ls (landedAt ls p h)) _ _ (λ h′. over-same (Jump k p) k (not-now k p) b (suc k) h′ (omega arith)))
+
   -- ---- the state before step k + d of an unstruck run that has not ended, and a run with a strike there up to it
   module _ (I : State H → Type 0) (step : (h : State H) → I h → Onward F ls I h) where
     record Reached (x : Strike) (d k : ℕ) (h : State H) : Type 0 where
@@ -156,6 +163,14 @@ module _ {H : Type 0} (F : Form H) (ls : List Line) where
         by (stops y h′ e n) o ih = absurd (n (rw e at o))
 
     -- ---- from the start
+    none-named : (k : ℕ) → Named F ls None k
+    none-named k j h x = refl
+
+    pub kept : (vs : List ℕ) → I (startBy F vs) → (k : ℕ) → outcomeOf ((before F ls vs k) .step) ≡ 0 → I ((before F ls vs k) .state)
+    kept vs start k o =
+        let z = reach None k (none-named k) k 0 (startBy F vs) (zero-add k) start o in
+        subst I (sym (ap (λ y. y .state) (z .plainly))) (z .holds)
+
     module _ (vs : List ℕ) (start : I (startBy F vs)) (b k : ℕ) (e : strikes F ls vs b k ≡ true) where
       some-step : eqb k noStep ≡ false
       some-step = not-true (eqb k noStep) (and-left (not (eqb k noStep)) (ltb k b) (and-left _ (eqb (outcomeOf ((before F ls vs k) .step)) 0) e))
@@ -179,6 +194,25 @@ module _ {H : Type 0} (F : Form H) (ls : List Line) where
       is-jump : (p : ℕ) → strikeBy k p ≡ Jump k p
       unfolding some-step
       is-jump p = rw some-step
+
+      -- the run taken up at the step struck: as it goes on unstruck, and struck
+      left-is : suc (b - suc k) ≡ b - k
+      unfolding in-budget
+      left-is = omega (arith, in-budget)
+
+      pub goes-plainly : runOf F ls None b vs ≡ run (strikingStepOf F ls None) (b - k) k ((before F ls vs k) .state)
+      goes-plainly =
+          let w = none-named k in
+          from-there None w ∙ ap (λ y. run (strikingStepOf F ls None) y k ((there-by None w) .there)) left-is ∙ ap (run (strikingStepOf F ls None) (b - k) k) (sym (state-is None w))
+
+      pub goes-struck : (p : ℕ) → p ≤ lastPlace ls ((before F ls vs k) .state .running .function)
+          → runOf F ls (strikeBy k p) b vs ≡ run (strikingStepOf F ls None) (b - k) k (landedAt ls p ((before F ls vs k) .state))
+      goes-struck p l =
+          let w = not-now k p in
+          let x = (there-by (Jump k p) w) .there in
+          let si = state-is (Jump k p) w in
+          ap (λ y. runOf F ls y b vs) (is-jump p) ∙ from-there (Jump k p) w ∙ strike-now p k (b - suc k) x (subst (λ y. p ≤ lastPlace ls (y .running .function)) si l)
+          ∙ ap (λ y. run (strikingStepOf F ls None) y k (landedAt ls p x)) left-is ∙ ap (λ y. run (strikingStepOf F ls None) (b - k) k (landedAt ls p y)) (sym si)
 
       beyond : (p : ℕ) → lastPlace ls ((before F ls vs k) .state .running .function) < p
           → runOf F ls (strikeBy k p) b vs ≡ record { step = Beyond (lastPlace ls ((before F ls vs k) .state .running .function)); steps = k; state = (before F ls vs k) .state }

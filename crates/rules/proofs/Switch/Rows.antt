@@ -14,7 +14,7 @@ use Rattle.rules.specs.declared.operands.Operands.{Operands}
 use Rattle.rules.specs.declared.kind.Kind.{Kind}
 use Rattle.rules.specs.declared.kind.Kind.the-variants.{Function, Do, If, Else, Loop, End, Break, Continue, Call, Unknown}
 use Rattle.rules.specs.declared.refusal.Refusal.{Refusal}
-use Rattle.rules.specs.declared.refusal.Refusal.the-variants.{NoWholeRows, TooManyRows, WrongField, Misplaced, TooManyFunctions, TooManyParts, NoSuchFunction, ShortOutput, ShortRoom, NotHardened, RepeatedCase}
+use Rattle.rules.specs.declared.refusal.Refusal.the-variants.{NoWholeRows, TooManyRows, WrongField, Misplaced, TooManyFunctions, TooManyParts, NoSuchFunction, ShortOutput, ShortRoom, NotHardened, RepeatedCase, NotFinished}
 use Rattle.rules.specs.declared.refusal.Verdict.{Verdict}
 use Rattle.rules.specs.declared.refusal.Verdict.the-variants.{Accepted, Refused}
 use Rattle.rules.specs.Bytes.{first}
@@ -83,6 +83,7 @@ isRowCause ShortOutput = false
 isRowCause ShortRoom = false
 isRowCause NotHardened = false
 isRowCause RepeatedCase = true
+isRowCause NotFinished = false
 
 byRow : Verdict → Bool
 byRow Accepted = true
@@ -133,6 +134,7 @@ row-of-cause ShortOutput e bs = clash e refl
 row-of-cause ShortRoom e bs = clash e refl
 row-of-cause NotHardened e bs = clash e refl
 row-of-cause RepeatedCase e bs = refl
+row-of-cause NotFinished e bs = clash e refl
 
 -- ---- the end of the table, in its order: 4, 2 by the chain whatever is called, 7
 module _ (g : GivenTable) (c : Table) (good : givenRowsVerdict g c (length g) ≡ Accepted) where
