@@ -4,11 +4,12 @@
 
 use crate::harden as hardening;
 use crate::hardened_run::{HardenedRun, Jump};
-use crate::line;
+use crate::line::{self, Line};
 use crate::machine::{Outcome, Variables, NO_JUMP};
 use crate::readback;
 use crate::refusal::Refusal;
 use crate::source_run::SourceRun;
+use crate::sweep::{Counts, Sweep};
 use crate::table;
 
 /// "fewer than 1,024 counter words"
@@ -31,6 +32,22 @@ pub struct Ran {
     pub steps: u16,
     pub traced: u16,
     pub variables: Variables,
+}
+
+/// What `sweep` answers: 0 or the number of the refusal, and the four counts, all 0 if
+/// refused.
+#[derive(Clone, Copy, Debug, PartialEq, Eq)]
+pub struct Swept {
+    pub number: u8,
+    pub counts: Counts,
+}
+
+/// What `sweep_other` answers: 0 or the number of the refusal, and "whether the third
+/// count is above zero", false if refused.
+#[derive(Clone, Copy, Debug, PartialEq, Eq)]
+pub struct SweptOther {
+    pub number: u8,
+    pub found: bool,
 }
 
 /// 0, or the number 1 to 7 or 11 that turns the table away.
@@ -99,18 +116,68 @@ pub fn run_hardened(
     slots: &mut [u16],
     words: &mut [u16],
 ) -> Ran {
-    if let Err(refusal) = readback::source_of(lines) {
-        return turned_away(refusal, variables);
-    }
-    if slots.len() < usize::from(budget) || words.len() < COUNTER_WORDS {
-        return turned_away(Refusal::BuffersShort, variables);
-    }
-    let lines = line::from_bytes(lines);
+    let lines = match accepted(lines, budget, slots, words) {
+        Ok(lines) => lines,
+        Err(refusal) => return turned_away(refusal, variables),
+    };
     let jump = (k != NO_JUMP).then_some(Jump { k, place });
     let mut run = HardenedRun::new(&lines, *variables);
     let outcome = run.run(budget, jump);
     words[..COUNTER_WORDS].fill(0);
     answer(outcome, run.steps, &run.trace, run.variables, slots)
+}
+
+/// The lines of a hardened table with buffers that are long enough: 10, then 9.
+fn accepted(lines: &[u8], budget: u16, slots: &[u16], words: &[u16]) -> Result<Vec<Line>, Refusal> {
+    readback::source_of(lines)?;
+    if slots.len() < usize::from(budget) || words.len() < COUNTER_WORDS {
+        return Err(Refusal::BuffersShort);
+    }
+    Ok(line::from_bytes(lines))
+}
+
+/// Strikes every step with every place and counts the ways to end: 10, then 9, then 13.
+pub fn sweep(
+    lines: &[u8],
+    variables: &Variables,
+    budget: u16,
+    slots: &mut [u16],
+    words: &mut [u16],
+) -> Swept {
+    match swept(lines, variables, budget, slots, words, |sweep| sweep.counts()) {
+        Ok(counts) => Swept { number: 0, counts },
+        Err(refusal) => Swept { number: refusal.number(), counts: Counts::default() },
+    }
+}
+
+/// The same, and only whether a struck run finished with another trace.
+pub fn sweep_other(
+    lines: &[u8],
+    variables: &Variables,
+    budget: u16,
+    slots: &mut [u16],
+    words: &mut [u16],
+) -> SweptOther {
+    match swept(lines, variables, budget, slots, words, |sweep| sweep.finds_other()) {
+        Ok(found) => SweptOther { number: 0, found },
+        Err(refusal) => SweptOther { number: refusal.number(), found: false },
+    }
+}
+
+/// "Both leave the slots as the unstruck run does", and the counter words too.
+fn swept<T>(
+    lines: &[u8],
+    variables: &Variables,
+    budget: u16,
+    slots: &mut [u16],
+    words: &mut [u16],
+    ask: fn(&Sweep) -> T,
+) -> Result<T, Refusal> {
+    let lines = accepted(lines, budget, slots, words)?;
+    let sweep = Sweep::new(&lines, *variables, budget).ok_or(Refusal::Unfinished)?;
+    words[..COUNTER_WORDS].fill(0);
+    slots[..sweep.trace.len()].copy_from_slice(&sweep.trace);
+    Ok(ask(&sweep))
 }
 
 /// The answer of an accepted run, its trace in the first slots.

@@ -106,7 +106,14 @@ impl<'a> HardenedRun<'a> {
 
     /// Runs until something ends it.
     pub fn run(&mut self, budget: u16, jump: Option<Jump>) -> Outcome {
-        self.run_seen(budget, jump, &mut |_, _| ())
+        loop {
+            if self.steps == budget {
+                return Outcome::BudgetSpent;
+            }
+            if let Err(outcome) = self.strike(jump).and_then(|()| self.step()) {
+                return outcome;
+            }
+        }
     }
 
     /// The same, with each sight shown, and the number of the step.

@@ -1,5 +1,5 @@
-//! Document 01, with the switch and the figures of 02, a second time, written from
-//! the documents alone, to test another implementation against. See README.md.
+//! Document 01, with the switch, the figures and the sweep of 02, a second time, written
+//! from the documents alone, to test another implementation against. See README.md.
 
 pub mod around;
 pub mod calls;
@@ -39,6 +39,7 @@ pub mod replay_fault;
 pub mod replay_measure;
 pub mod replay_read;
 pub mod replay_run;
+pub mod replay_sweep;
 pub mod row;
 pub mod run_call_cases;
 pub mod run_cases;
@@ -49,6 +50,12 @@ pub mod run_words;
 pub mod scene;
 pub mod shape;
 pub mod source_run;
+pub mod sweep;
+pub mod sweep_cases;
+pub mod sweep_programs;
+pub mod sweep_text;
+pub mod sweep_word_cases;
+pub mod sweep_words;
 pub mod switch_limits;
 pub mod switch_places;
 pub mod table;
@@ -58,4 +65,5 @@ pub mod usage;
 pub mod written;
 
 pub use calls::{check, harden, read_back, run_hardened, run_source, Ran, Written};
+pub use calls::{sweep, sweep_other, Swept, SweptOther};
 pub use measure::{hardened_steps, measure, Measured};

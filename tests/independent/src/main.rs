@@ -10,8 +10,8 @@ use std::process::ExitCode;
 use independent::printed::{self, Printed};
 use independent::programs::Program;
 use independent::protocol::Test;
-use independent::{replay, replay_fault, replay_measure, replay_read, replay_run};
-use independent::{run_cases, texts};
+use independent::{replay, replay_fault, replay_measure, replay_read, replay_run, replay_sweep};
+use independent::{run_cases, sweep_cases, texts};
 
 const USAGE: &str = "usage:
   independent harden                            rows on stdin, lines on stdout
@@ -21,12 +21,16 @@ const USAGE: &str = "usage:
   independent texts SEED COUNT DIR              texts for these four, and their answers
   independent run WORDS                         a run of the table on stdin
   independent run-cases SEED COUNT DIR          command lines and inputs for it, and its answers
+  independent sweep WORDS                       a sweep of the hardened table on stdin
+  independent sweep-cases SEED COUNT DIR        command lines and inputs for it, and its answers
   independent replay SEED COUNT DIR             tests of check and harden
   independent replay-fault SEED COUNT DIR       tests of fault
   independent replay-measure SEED COUNT DIR     tests of measure and hardened_steps
   independent replay-read SEED COUNT DIR        tests of reading back
   independent replay-bytes DIR                  one byte of the listing, every way
-  independent replay-run SEED COUNT DIR [long]  tests of runs";
+  independent replay-run SEED COUNT DIR [long]  tests of runs
+  independent replay-sweep SEED COUNT DIR [long]
+                                                tests of sweeps";
 
 fn main() -> ExitCode {
     let given: Vec<OsString> = env::args_os().skip(1).collect();
@@ -74,7 +78,11 @@ fn write_files(given: &[OsString]) -> io::Result<()> {
         }
         ["run-cases", seed, count, to] => {
             let (seed, count) = numbers(seed, count)?;
-            run_cases::write(&run_cases::cases(seed, count), Path::new(to))
+            run_cases::write(Program::Run, &run_cases::cases(seed, count), Path::new(to))
+        }
+        ["sweep-cases", seed, count, to] => {
+            let (seed, count) = numbers(seed, count)?;
+            run_cases::write(Program::Sweep, &sweep_cases::cases(seed, count), Path::new(to))
         }
         ["replay-fault", seed, count, to] => {
             files(replay_fault::tests, seed, count, to, Vec::new())
@@ -88,6 +96,12 @@ fn write_files(given: &[OsString]) -> io::Result<()> {
         ["replay-run", seed, count, to] => files(replay_run::tests, seed, count, to, Vec::new()),
         ["replay-run", seed, count, to, "long"] => {
             files(replay_run::tests, seed, count, to, replay_run::long_tests())
+        }
+        ["replay-sweep", seed, count, to] => {
+            files(replay_sweep::tests, seed, count, to, Vec::new())
+        }
+        ["replay-sweep", seed, count, to, "long"] => {
+            files(replay_sweep::tests, seed, count, to, replay_sweep::long_tests())
         }
         _ => Err(wrong_usage()),
     }

@@ -1,5 +1,5 @@
 //! What a program writes to standard output and to standard error
-//! (docs/PROGRAMS.md, "What all five share").
+//! (docs/PROGRAMS.md, what all programs share).
 
 use std::io;
 

@@ -1,4 +1,4 @@
-//! The five programs by name: what each prints for its words and its input.
+//! The six programs by name: what each prints for its words and its input.
 
 use std::io::{self, Read};
 
@@ -6,6 +6,7 @@ use crate::explain;
 use crate::measure_text;
 use crate::printed::Printed;
 use crate::run_text;
+use crate::sweep_text;
 use crate::text;
 use crate::usage;
 
@@ -16,11 +17,18 @@ pub enum Program {
     Readback,
     Explain,
     Run,
+    Sweep,
 }
 
 impl Program {
-    const ALL: [Program; 5] =
-        [Program::Harden, Program::Measure, Program::Readback, Program::Explain, Program::Run];
+    const ALL: [Program; 6] = [
+        Program::Harden,
+        Program::Measure,
+        Program::Readback,
+        Program::Explain,
+        Program::Run,
+        Program::Sweep,
+    ];
 
     pub fn name(self) -> &'static str {
         match self {
@@ -29,6 +37,7 @@ impl Program {
             Program::Readback => "readback",
             Program::Explain => "explain",
             Program::Run => "run",
+            Program::Sweep => "sweep",
         }
     }
 
@@ -44,6 +53,7 @@ impl Program {
             Program::Readback => of_words_or(words, usage::READBACK, || text::read_back(input)),
             Program::Explain => of_words_or(words, usage::EXPLAIN, || explain::explain(input)),
             Program::Run => run_text::run(words, input),
+            Program::Sweep => sweep_text::sweep(words, input),
         }
     }
 }

@@ -2,10 +2,11 @@
 //! program and the one that is tested. Hexadecimal is lowercase, an empty byte
 //! string is `-`.
 
-use crate::calls::{self, Ran, Written, COUNTER_WORDS};
+use crate::calls::{self, Ran, Swept, SweptOther, Written, COUNTER_WORDS};
 use crate::fault::{self, Fault};
 use crate::machine::Variables;
 use crate::measure::{self, Measured};
+use crate::sweep::Counts;
 use crate::text::hex;
 
 /// A lent output is filled with this byte before the call.
@@ -99,6 +100,54 @@ pub fn hardened(how: Struck, variables: &Variables, lines: &[u8]) -> Test {
     let ask = format!("hardened {budget} {k} {place} {slots} {words} {values} {bytes}");
     let answer = format!("{} {}", ran_answer(&ran, &trace), counter_word(&counters));
     Test { ask, answer }
+}
+
+/// A sweep to be asked for.
+#[derive(Clone, Copy, Debug)]
+pub struct Asked {
+    pub budget: u16,
+    pub slots: usize,
+    pub words: usize,
+}
+
+/// `whole BUDGET SLOTS WORDS V0,..,V15 HEXLINES`, answer `NUMBER ALARMS SAME OTHER
+/// UNFINISHED S0,S1,...`, then `zero`, `kept` or `other`.
+pub fn whole(how: Asked, variables: &Variables, lines: &[u8]) -> Test {
+    let mut trace = vec![SLOT_FILL; how.slots];
+    let mut counters = vec![WORD_FILL; how.words];
+    let swept = calls::sweep(lines, variables, how.budget, &mut trace, &mut counters);
+    let Swept { number, counts: Counts { alarms, same, other, unfinished } } = swept;
+    let answer = format!("{number} {alarms} {same} {other} {unfinished}");
+    sweep_test("whole", how, variables, lines, [answer, buffers(&trace, &counters)])
+}
+
+/// `other BUDGET SLOTS WORDS V0,..,V15 HEXLINES`, answer `NUMBER FOUND S0,S1,...`, then
+/// the same; FOUND is 0 or 1.
+pub fn other(how: Asked, variables: &Variables, lines: &[u8]) -> Test {
+    let mut trace = vec![SLOT_FILL; how.slots];
+    let mut counters = vec![WORD_FILL; how.words];
+    let swept = calls::sweep_other(lines, variables, how.budget, &mut trace, &mut counters);
+    let SweptOther { number, found } = swept;
+    let answer = format!("{number} {}", u8::from(found));
+    sweep_test("other", how, variables, lines, [answer, buffers(&trace, &counters)])
+}
+
+fn sweep_test(
+    word: &str,
+    how: Asked,
+    variables: &Variables,
+    lines: &[u8],
+    answer: [String; 2],
+) -> Test {
+    let Asked { budget, slots, words } = how;
+    let bytes = hex_or_dash(lines);
+    let ask = format!("{word} {budget} {slots} {words} {} {bytes}", numbers(variables));
+    Test { ask, answer: answer.join(" ") }
+}
+
+/// The slots, and what became of the counter words.
+fn buffers(trace: &[u16], counters: &[u16]) -> String {
+    format!("{} {}", numbers(trace), counter_word(counters))
 }
 
 /// What became of the counter words.

@@ -1,5 +1,5 @@
 //! Lines of digits, and what is wrong with the first malformed one
-//! (docs/PROGRAMS.md, "What all five share" and "A malformed line").
+//! (docs/PROGRAMS.md, what all programs share and "A malformed line").
 
 use std::io::{self, Read};
 

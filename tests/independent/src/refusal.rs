@@ -26,6 +26,8 @@ pub enum Refusal {
     NotHardened = 10,
     /// 02: "when a second case of a switch has a number already used there"
     CaseTwice = 11,
+    /// 02: "when the unstruck run doesn't finish in the budget"
+    Unfinished = 13,
 }
 
 impl Refusal {

@@ -1,5 +1,5 @@
 //! Command lines and inputs for the program that runs a table at the bench, and
-//! what it prints for them.
+//! what it prints for them, or another program for its own.
 
 use std::fs;
 use std::io;
@@ -14,11 +14,11 @@ use crate::machine::{Variables, NO_JUMP};
 use crate::make::bytes_of;
 use crate::malformed_texts;
 use crate::program;
+use crate::programs::Program;
 use crate::random::Random;
 use crate::replay_run::{some_budget, some_strike};
 use crate::row::ROW_BYTES;
 use crate::run_call_cases;
-use crate::run_text;
 use crate::run_trace_cases;
 use crate::run_word_cases;
 use crate::switch_limits;
@@ -32,14 +32,14 @@ pub struct Case {
 
 /// Writes each case as `DIR/N.words`, a zero byte behind each word, and
 /// `DIR/N.stdin`; what is printed for it as `DIR/expected/N.out` and `N.err`.
-pub fn write(cases: &[Case], to: &Path) -> io::Result<()> {
+pub fn write(program: Program, cases: &[Case], to: &Path) -> io::Result<()> {
     let expected = to.join("expected");
     fs::create_dir_all(&expected)?;
     for (number, case) in cases.iter().enumerate() {
         let words: Vec<u8> = case.words.iter().flat_map(|word| [word, &[0][..]].concat()).collect();
         fs::write(to.join(format!("{number}.words")), words)?;
         fs::write(to.join(format!("{number}.stdin")), &case.input)?;
-        let printed = run_text::run(&case.words, &case.input[..])?;
+        let printed = program.printed(&case.words, &case.input[..])?;
         fs::write(expected.join(format!("{number}.out")), printed.out)?;
         fs::write(expected.join(format!("{number}.err")), printed.err)?;
     }
@@ -191,7 +191,7 @@ fn unreadable() -> Vec<Case> {
 }
 
 /// Each malformed line behind the right ones.
-fn bad_lines(run: &str, right: &[u8]) -> Vec<Case> {
+pub fn bad_lines(run: &str, right: &[u8]) -> Vec<Case> {
     let first = right.split(|byte| *byte == b'\n').next().expect("a line");
     let good = str::from_utf8(first).expect("digits");
     let bad = malformed_texts::bad_lines(good);
@@ -222,7 +222,7 @@ fn random(rng: &mut Random) -> Case {
 }
 
 /// "the others may stand in any order"
-fn shuffled(rng: &mut Random, words: &str) -> String {
+pub fn shuffled(rng: &mut Random, words: &str) -> String {
     let mut left: Vec<&str> = words.split_whitespace().collect();
     let mut shuffled = Vec::new();
     while !left.is_empty() {
@@ -232,7 +232,7 @@ fn shuffled(rng: &mut Random, words: &str) -> String {
 }
 
 /// The words for these first values; a 0 is left out.
-fn given(variables: &Variables) -> String {
+pub fn given(variables: &Variables) -> String {
     let values = variables.iter().enumerate().filter(|(_, value)| **value != 0);
     values.map(|(k, value)| format!("v{k}={value} ")).collect()
 }

@@ -40,11 +40,12 @@ pub fn read(words: &[Vec<u8>]) -> Result<Asked, Printed> {
     Ok(line.asked())
 }
 
-const TOO_LONG: &str = "at most 4096 bytes";
+/// What is expected in place of a longer one.
+pub const TOO_LONG: &str = "at most 4096 bytes";
 
 /// One line: control characters are shown as question marks, and no more of the
 /// word than its first 4,096 bytes.
-fn wrong(word: &[u8], expected: &str) -> Printed {
+pub fn wrong(word: &[u8], expected: &str) -> Printed {
     let shown = word.iter().take(LONGEST_WORD);
     let mut text = b"wrong word \"".to_vec();
     text.extend(shown.map(|byte| if byte.is_ascii_control() { b'?' } else { *byte }));
@@ -125,7 +126,8 @@ impl Line {
     }
 }
 
-fn once<T>(slot: &mut Option<T>, value: T, name: &str) -> Result<(), String> {
+/// Takes a value that none was given for yet.
+pub fn once<T>(slot: &mut Option<T>, value: T, name: &str) -> Result<(), String> {
     match slot.replace(value) {
         None => Ok(()),
         Some(_) => Err(format!("{name} only once")),
@@ -134,7 +136,7 @@ fn once<T>(slot: &mut Option<T>, value: T, name: &str) -> Result<(), String> {
 
 /// Decimal digits and nothing else, 0 to 65,535. (`parse` alone would take a
 /// plus sign.)
-fn number(digits: &str) -> Option<u16> {
+pub fn number(digits: &str) -> Option<u16> {
     if !digits.bytes().all(|byte| byte.is_ascii_digit()) {
         return None;
     }

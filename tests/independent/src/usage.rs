@@ -1,4 +1,4 @@
-//! The usage of the five programs (docs/PROGRAMS.md, "Usage"), and when it is
+//! The usage of the six programs (docs/PROGRAMS.md, "Usage"), and when it is
 //! printed.
 
 use crate::printed::Printed;
@@ -28,6 +28,12 @@ usage: run source [budget=N] [v0=N .. v15=N] [trace] [show] < rows
        run hardened [budget=N] [v0=N .. v15=N] [jump=STEP:PLACE] [trace] [show] < lines
 N, STEP and PLACE are 0 to 65535. Without budget= it is 65535, without v0= to v15= they are 0, without jump= there is no jump.
 trace lists a trace of more than 20 rows, show lists each step.
+";
+
+pub const SWEEP: &str = "\
+usage: sweep [budget=N] [v0=N .. v15=N] [list] < lines
+N is 0 to 65535. Without budget= it is 65535, without v0= to v15= they are 0.
+list lists each jump across one do that finished with another trace.
 ";
 
 /// "the first word is `--help`"

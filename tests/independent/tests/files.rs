@@ -4,7 +4,17 @@
 use std::collections::BTreeMap;
 
 use independent::protocol::{self, Test};
-use independent::{replay, replay_fault, replay_measure, replay_read, replay_run};
+use independent::{replay, replay_fault, replay_measure, replay_read, replay_run, replay_sweep};
+
+type Maker = fn(u64, usize) -> Vec<Test>;
+
+const MAKERS: [Maker; 5] = [
+    replay::tests,
+    replay_read::tests,
+    replay_run::tests,
+    replay_measure::tests,
+    replay_sweep::tests,
+];
 
 fn size(tests: &[Test]) -> (usize, usize) {
     let sum = |pick: fn(&Test) -> usize| tests.iter().map(|test| pick(test) + 1).sum();
@@ -23,7 +33,7 @@ fn first_words(tests: &[Test], words: usize) -> BTreeMap<String, usize> {
 
 #[test]
 fn same_seed_same_files() {
-    for make in [replay::tests, replay_read::tests, replay_run::tests, replay_measure::tests] {
+    for make in MAKERS {
         assert_eq!(make(5, 60), make(5, 60));
         assert_ne!(make(5, 60), make(6, 60));
         let (few, many) = (make(5, 0), make(5, 60));
@@ -34,10 +44,11 @@ fn same_seed_same_files() {
 #[test]
 fn fixed_tests_come_first() {
     for (make, fixed) in [
-        (replay::tests as fn(u64, usize) -> Vec<Test>, replay::fixed()),
+        (replay::tests as Maker, replay::fixed()),
         (replay_read::tests, replay_read::fixed()),
         (replay_run::tests, replay_run::fixed()),
         (replay_measure::tests, replay_measure::fixed()),
+        (replay_sweep::tests, replay_sweep::fixed()),
     ] {
         assert_eq!(make(77, 10)[..fixed.len()], fixed);
     }
@@ -45,7 +56,7 @@ fn fixed_tests_come_first() {
 
 #[test]
 fn moderate_sizes() {
-    for make in [replay::tests, replay_read::tests, replay_run::tests, replay_measure::tests] {
+    for make in MAKERS {
         for seed in 0..12 {
             let tests = make(seed, 600);
             let (asks, answers) = size(&tests);
@@ -82,6 +93,42 @@ fn every_number_comes() {
     for number in ["0", "1", "2", "3", "4", "5", "6", "7", "9", "10", "11"] {
         assert!(found[number] >= 3, "{found:?}");
     }
+}
+
+/// Both calls about equally, each number, each count above 0 and not.
+#[test]
+fn every_sweep_comes() {
+    let tests = replay_sweep::tests(1, 600);
+    for (what, least) in [("whole", 250), ("other", 250)] {
+        let random = asked(tests[tests.len() - 600..].to_vec(), what);
+        assert!(random.len() > least, "{what} {}", random.len());
+        let found = first_words(&asked(tests.clone(), what), 1);
+        for number in ["0", "9", "10", "13"] {
+            assert!(found[number] >= 20, "{what} {found:?}");
+        }
+    }
+    let found = first_words(&asked(tests.clone(), "other"), 2);
+    assert!(found["0 0"] > 80 && found["0 1"] > 100, "{found:?}");
+    let whole = asked(tests, "whole").into_iter().filter(|test| test.answer.starts_with("0 "));
+    let mut above = [0; 5];
+    let mut accepted = 0;
+    for test in whole {
+        let numbers: Vec<&str> = test.answer.split(' ').collect();
+        (1..5).for_each(|at| above[at] += usize::from(numbers[at] != "0"));
+        accepted += 1;
+    }
+    // the place where a run stands is always the same, and place m nearly always an alarm
+    assert_eq!((above[1], above[2]), (accepted, accepted));
+    assert!(above[3..].iter().all(|count| *count > 100 && *count < accepted - 100), "{above:?}");
+}
+
+/// Answers with a budget of 65,535 are in the long tests only.
+#[test]
+fn long_sweeps() {
+    let tests = replay_sweep::long_tests();
+    let answers: Vec<&str> = tests.iter().map(|test| &test.answer[..10]).collect();
+    assert_eq!(answers[..3], ["0 78 15 2 ", "0 1 1,3,3,", "9 0 0 0 0 "]);
+    assert!(tests.iter().all(|test| test.answer.len() > 300_000));
 }
 
 /// The tests that ask for this.
@@ -151,6 +198,27 @@ fn the_lines_spell_what_the_readme_says() {
     let run = protocol::source(2, 3, &[0; 16], &pair);
     assert_eq!(run.ask, "source 2 3 0,0,0,0,0,0,0,0,0,0,0,0,0,0,0,0 010000000000060000000000");
     assert_eq!(run.answer, "0 1 1 0 0,0,0,0,0,0,0,0,0,0,0,0,0,0,0,0 43690,43690,43690");
+}
+
+#[test]
+fn the_lines_of_a_sweep() {
+    let line = independent::damage::hardened(&[1, 0, 0, 0, 0, 0, 6, 0, 0, 0, 0, 0]);
+    let how = protocol::Asked { budget: 1, slots: 2, words: 1024 };
+    let whole = protocol::whole(how, &[0; 16], &line);
+    let ask = "1 2 1024 0,0,0,0,0,0,0,0,0,0,0,0,0,0,0,0 2800000000000000000001000200000000000000";
+    assert_eq!(whole.ask, format!("whole {ask}"));
+    assert_eq!(whole.answer, "0 1 1 0 0 43690,43690 zero");
+    let other = protocol::other(how, &[0; 16], &line);
+    assert_eq!(other.ask, format!("other {ask}"));
+    assert_eq!(other.answer, "0 0 43690,43690 zero");
+    let none = protocol::Asked { budget: 0, slots: 0, words: 1030 };
+    assert_eq!(protocol::whole(none, &[0; 16], &line).answer, "13 0 0 0 0 - kept");
+    assert_eq!(protocol::other(none, &[0; 16], &line).answer, "13 0 - kept");
+    let few = protocol::Asked { budget: 3, slots: 1, words: 0 };
+    assert_eq!(protocol::whole(few, &[0; 16], &line).answer, "9 0 0 0 0 43690 kept");
+    let empty = protocol::other(few, &[0; 16], &[]);
+    assert!(empty.ask.ends_with(",0 -"), "{}", empty.ask);
+    assert_eq!(empty.answer, "10 0 43690 kept");
 }
 
 #[test]

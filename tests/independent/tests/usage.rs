@@ -1,4 +1,4 @@
-//! The usage of the five programs, copied by hand from docs/PROGRAMS.md, and the
+//! The usage of the six programs, copied by hand from docs/PROGRAMS.md, and the
 //! words for failures.
 
 use std::io::{self, Read};
@@ -6,7 +6,7 @@ use std::io::{self, Read};
 use independent::printed::{self, Printed};
 use independent::programs::Program;
 
-const USAGES: [(Program, &str); 5] = [
+const USAGES: [(Program, &str); 6] = [
     (
         Program::Harden,
         "usage: harden < rows\n\
@@ -38,6 +38,12 @@ const USAGES: [(Program, &str); 5] = [
          N, STEP and PLACE are 0 to 65535. Without budget= it is 65535, without v0= to v15= they \
          are 0, without jump= there is no jump.\n\
          trace lists a trace of more than 20 rows, show lists each step.\n",
+    ),
+    (
+        Program::Sweep,
+        "usage: sweep [budget=N] [v0=N .. v15=N] [list] < lines\n\
+         N is 0 to 65535. Without budget= it is 65535, without v0= to v15= they are 0.\n\
+         list lists each jump across one do that finished with another trace.\n",
     ),
 ];
 
@@ -76,11 +82,13 @@ fn met() {
     assert_eq!(unread(program, &[]), Printed::err(usage));
 }
 
-/// Behind another word of `run` it is a word that is none.
+/// Behind another word of `run` or `sweep` it is a word that is none.
 #[test]
 fn wrong_word() {
     let line = "wrong word \"--help\": expected budget=0..65535, v0..v15=0..65535, trace or show\n";
     assert_eq!(unread(Program::Run, &["source", "--help"]), Printed::err(line));
+    let line = "wrong word \"--help\": expected budget=0..65535, v0..v15=0..65535 or list\n";
+    assert_eq!(unread(Program::Sweep, &["list", "--help"]), Printed::err(line));
 }
 
 #[test]
@@ -92,6 +100,8 @@ fn failures() {
         (Program::Explain, vec![]),
         (Program::Run, vec![b"source".to_vec()]),
         (Program::Run, vec![b"hardened".to_vec()]),
+        (Program::Sweep, vec![]),
+        (Program::Sweep, vec![b"list".to_vec()]),
     ] {
         let error = program.printed(&words, Unread).unwrap_err();
         let line = "cannot read standard input: Is a directory";
