@@ -18,3 +18,5 @@ pub mod Jump
 pub mod Demand
 pub mod Promise
 pub mod Sweep
+pub mod Walk
+pub mod Other

@@ -38,6 +38,7 @@ pub mod TablePromise
 pub mod Demand3
 pub mod Promise
 pub mod Sweep
+pub mod SweepCall
 -- ---- how much a table takes
 pub mod Figures
 -- ---- by computation

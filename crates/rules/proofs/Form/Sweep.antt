@@ -36,7 +36,7 @@ use Rattle.rules.proofs.Form.Struck.{kept, goes-plainly, goes-struck}
 use Rattle.rules.proofs.Form.Trace.{run-over}
 use Rattle.rules.proofs.Form.Jump.{Goes, onward, goes-start, jumped}
 
-run-bound : {C : Type 0} (m : ℕ → State C → Turn C) (b k : ℕ) (s : State C) → (run m b k s) .steps ≤ k + b
+pub run-bound : {C : Type 0} (m : ℕ → State C → Turn C) (b k : ℕ) (s : State C) → (run m b k s) .steps ≤ k + b
 unfolding run
 run-bound m zero k s = omega arith
 run-bound {C} m (suc b) k s = by (m k s) (λ s′. run-bound m b (suc k) s′)

@@ -201,11 +201,11 @@ module _ {H : Type 0} (F : Form H) (ls : List Line) where
       rw (x .step-is, ap (λ z. same (z .trace) (tr ++ rest)) (x .state-is) ∙ same-append tr (y .state .trace) rest)
 
   -- ---- a run in pieces: d steps that do not end it, then b more
-  record Pieces (d b k : ℕ) (s : State H) : Type 0 where
-    goes-on : run (strikingStepOf F ls None) (d + b) k s ≡ run (strikingStepOf F ls None) b (k + d) ((run (strikingStepOf F ls None) d k s) .state)
-    taken : (run (strikingStepOf F ls None) d k s) .steps ≡ k + d
+  pub record Pieces (d b k : ℕ) (s : State H) : Type 0 where
+    pub goes-on : run (strikingStepOf F ls None) (d + b) k s ≡ run (strikingStepOf F ls None) b (k + d) ((run (strikingStepOf F ls None) d k s) .state)
+    pub taken : (run (strikingStepOf F ls None) d k s) .steps ≡ k + d
 
-  pieces : (d b k : ℕ) (s : State H) → outcomeOf ((run (strikingStepOf F ls None) d k s) .step) ≡ 0 → Pieces d b k s
+  pub pieces : (d b k : ℕ) (s : State H) → outcomeOf ((run (strikingStepOf F ls None) d k s) .step) ≡ 0 → Pieces d b k s
   unfolding run
   pieces zero b k s o = record { goes-on = rw (zero-add b, add-zero k); taken = omega arith }
   pieces (suc d) b k s o = by (stepOf F ls s) refl o (λ s′ o′. pieces d b (suc k) s′ o′)
@@ -219,7 +219,7 @@ module _ {H : Type 0} (F : Form H) (ls : List Line) where
       by (ends y g) e o′ ih = absurd (ends-nonzero F ls s y g e o′)
       by (untaken y g) e o′ ih = absurd (never-untaken F ls s y g e)
 
-  went-on : (x : Step) (i : ℕ) → x ≡ Went i → outcomeOf x ≡ 0
+  pub went-on : (x : Step) (i : ℕ) → x ≡ Went i → outcomeOf x ≡ 0
   unfolding outcomeOf
   went-on x i e = ap outcomeOf e
 
