@@ -1,9 +1,10 @@
-/* Finuraho: checks, measures and hardens fee-card programs, reads hardened ones back, and runs both.
+/* Finuraho: checks, measures and hardens fee-card programs, reads hardened ones back, runs both, and counts what every single jump does
+ * to a hardened run.
  *
- * The rules are document 01, "Counter-hardened statement tables for fee cards", and of document 02 No. 1, switches, and No. 2, figures.
- * What each call gives back, for all bytes, numbers and buffers, is proved (crates/finuraho/src/export.rt) to be what Calls.antt,
- * Fault.antt, Measure.antt and Steps.antt of crates/rules/specs say. That this header fits the library is not proved:
- * tests/header/run tests it.
+ * The rules are document 01, "Counter-hardened statement tables for fee cards", and of document 02 No. 1, switches, No. 2, figures, and
+ * No. 4, the sweep. What each call gives back, for all bytes, numbers and buffers, is proved (crates/finuraho/src/export.rt) to be what
+ * Calls.antt, Fault.antt, Measure.antt, Steps.antt and SweepCall.antt of crates/rules/specs say. That this header fits the library is
+ * not proved: tests/header/run tests it.
  *
  * `rt staticlib finuraho` makes target/staticlib/libfinuraho.a, the library to link: into programs for x86-64 Linux. Of the C library
  * it needs memcpy and memset. docs/FORMAT.md has rows, lines, figures, limits and numbers on one page.
@@ -30,8 +31,8 @@ extern "C" {
 #endif
 
 /* The version of this header and of the library that it came with: 10,000 x major + 100 x minor + patch. */
-#define FINURAHO_VERSION 10200
-#define FINURAHO_VERSION_STRING "1.2.0"
+#define FINURAHO_VERSION 10300
+#define FINURAHO_VERSION_STRING "1.3.0"
 
 /* The number of a call: 0, or why it was turned away. After any number but 0 every lent buffer is as it was. */
 #define FINURAHO_ACCEPTED 0
@@ -46,6 +47,7 @@ extern "C" {
 #define FINURAHO_SHORT_ROOM 9         /* fewer trace slots than the budget, or fewer than 1,024 counter words */
 #define FINURAHO_NOT_HARDENED 10      /* no source table hardens to these bytes */
 #define FINURAHO_REPEATED_CASE 11     /* a case with the number of another case of its switch */
+#define FINURAHO_NOT_FINISHED 13      /* the run without a jump, which a sweep strikes, does not finish in the budget */
 
 /* The outcome of an accepted run. The step that ends in an alarm or in too many open functions is counted. */
 #define FINURAHO_BUDGET_SPENT 0  /* exactly the budget was taken */
@@ -123,6 +125,8 @@ extern "C" {
 #define FINURAHO_STACK_RUN_SOURCE 26000
 #define FINURAHO_STACK_RUN_HARDENED 32800
 #define FINURAHO_STACK_HARDENED_STEPS 16
+#define FINURAHO_STACK_SWEEP 40800
+#define FINURAHO_STACK_SWEEP_OTHER 40800
 
 /* The step number that means no jump, whatever the place. */
 #define FINURAHO_NO_JUMP 65535
@@ -155,6 +159,21 @@ typedef struct finuraho_ran {
     uint16_t traced;                        /* the trace's length: that many slots from the front of `trace` */
     uint16_t variables[FINURAHO_VARIABLES]; /* v0 to v15 as the run left them */
 } finuraho_ran;
+
+/* The answer of a sweep: how many of its struck runs ended each way. Turned away: the counts are 0. */
+typedef struct finuraho_swept {
+    uint8_t number;      /* 0, or why the call was turned away: 9, 10 or 13 */
+    uint32_t alarms;     /* with an alarm */
+    uint32_t same;       /* finished, with the trace of the run without a jump */
+    uint32_t other;      /* finished, with another trace: jumps that change it unseen */
+    uint32_t unfinished; /* any other way: the budget spent, or too many open functions */
+} finuraho_swept;
+
+/* The answer of the call that only asks whether the sweep's `other` is above 0. */
+typedef struct finuraho_any_other {
+    uint8_t number; /* 0, or why the call was turned away: 9, 10 or 13 */
+    uint8_t other;  /* 1 where it is, else 0; 0 where the call was turned away */
+} finuraho_any_other;
 
 /* Checks a source table.
  * rows, rows_len: its bytes, 6 a row; only read.
@@ -225,6 +244,27 @@ finuraho_ran finuraho_run_hardened(const uint8_t *lines, size_t lines_len, const
  * Returns the sum of the three, whole. The hardened run of the same table and values finishes in exactly so many steps where its
  *     budget holds them. A sum past 65,535 is no run's: no budget lets the hardened run finish. Nothing is turned away. */
 uint32_t finuraho_hardened_steps(uint16_t steps, uint16_t dos, uint16_t calls);
+
+/* Sweeps a hardened table: strikes its run before each step with each place of the function running then, the place where it stands
+ * included, and counts how the struck runs end. Steps and functions are those of the run without a jump; a function of m lines has the
+ * places 0 to m.
+ * lines, lines_len: its bytes, 20 a line; only read.
+ * variables, budget: as for a run; every run of the sweep has the same.
+ * trace, trace_len: slots, in words; what they hold before does not matter. Accepted: the trace of the run without a jump stands at its
+ *     front, and the slots beyond are as they were; `traced` of that run is its length. Turned away: all slots are as they were.
+ * counters, counters_len: as for a hardened run.
+ * Returns the four counts. They add up to the sum, over the steps, of the places of the function running then.
+ * Turned away with 10, or 9 where trace_len is less than the budget or counters_len less than 1,024, or 13 where the run without a
+ *     jump does not finish in the budget.
+ * It takes a test for each step and place, and for each step before a do or before its tick a run of at most the budget that is left:
+ *     microseconds for a small program, seconds for one of 60,000 steps. */
+finuraho_swept finuraho_sweep(const uint8_t *lines, size_t lines_len, const uint16_t variables[FINURAHO_VARIABLES], uint16_t budget,
+                              uint16_t *trace, size_t trace_len, uint16_t *counters, size_t counters_len);
+
+/* Says only whether the sweep's `other` is above 0, and stops at the first such jump.
+ * It is given, leaves in the buffers and is turned away with the same as the sweep. */
+finuraho_any_other finuraho_sweep_other(const uint8_t *lines, size_t lines_len, const uint16_t variables[FINURAHO_VARIABLES],
+                                        uint16_t budget, uint16_t *trace, size_t trace_len, uint16_t *counters, size_t counters_len);
 
 #ifdef __cplusplus
 }

@@ -2,6 +2,7 @@
 //! with the layout that they have at the C boundary.
 
 use crate::figures::Figures;
+use crate::sweep::{self, Counts};
 use crate::table::{self, Refusal};
 use crate::{figures, harden, hardened_run, read_back, source_run};
 
@@ -42,7 +43,27 @@ pub struct Ran {
     pub variables: Variables,
 }
 
-/// What a run is given besides its table and buffers. A source run has no use for the jump.
+/// How many struck runs of a sweep ended so; where it is turned away, zeros.
+#[repr(C)]
+#[derive(Clone, Copy, Debug, PartialEq, Eq)]
+pub struct Swept {
+    pub number: u8,
+    pub alarms: u32,
+    pub same: u32,
+    pub other: u32,
+    pub unfinished: u32,
+}
+
+/// 1 if a struck run finished with another trace, else 0.
+#[repr(C)]
+#[derive(Clone, Copy, Debug, PartialEq, Eq)]
+pub struct AnyOther {
+    pub number: u8,
+    pub other: u8,
+}
+
+/// What a run or a sweep is given besides its table and buffers. A source run and a sweep have no
+/// use for the jump.
 #[derive(Clone, Copy, Debug)]
 pub struct Start {
     pub variables: Variables,
@@ -72,6 +93,14 @@ pub trait Calls {
         trace: &mut [u16],
         counters: &mut [u16],
     ) -> Ran;
+    fn sweep(&self, lines: &[u8], start: &Start, trace: &mut [u16], counters: &mut [u16]) -> Swept;
+    fn sweep_other(
+        &self,
+        lines: &[u8],
+        start: &Start,
+        trace: &mut [u16],
+        counters: &mut [u16],
+    ) -> AnyOther;
 }
 
 /// The implementation that is written for speed.
@@ -116,6 +145,23 @@ impl Calls for Baseline {
         hardened_run::run(lines, start, trace, counters)
             .unwrap_or_else(|refusal| turned_away(refusal, start))
     }
+
+    fn sweep(&self, lines: &[u8], start: &Start, trace: &mut [u16], counters: &mut [u16]) -> Swept {
+        swept(sweep::sweep(lines, start, trace, counters))
+    }
+
+    fn sweep_other(
+        &self,
+        lines: &[u8],
+        start: &Start,
+        trace: &mut [u16],
+        counters: &mut [u16],
+    ) -> AnyOther {
+        match sweep::any_other(lines, start, trace, counters) {
+            Ok(other) => AnyOther { number: 0, other: other.into() },
+            Err(refusal) => AnyOther { number: refusal as u8, other: 0 },
+        }
+    }
 }
 
 fn number(answer: Result<(), Refusal>) -> u8 {
@@ -140,4 +186,13 @@ fn wrote(answer: Result<usize, Refusal>) -> Wrote {
 fn turned_away(refusal: Refusal, start: &Start) -> Ran {
     let variables = start.variables;
     Ran { number: refusal as u8, outcome: 0, steps: 0, traced: 0, variables }
+}
+
+fn swept(answer: Result<Counts, Refusal>) -> Swept {
+    let (number, counts) = match answer {
+        Ok(counts) => (0, counts),
+        Err(refusal) => (refusal as u8, Counts::default()),
+    };
+    let Counts { alarms, same, other, unfinished } = counts;
+    Swept { number, alarms, same, other, unfinished }
 }

@@ -6,7 +6,7 @@ use crate::harden::{LINE_BYTES, RET};
 use crate::programs::{MOST_IN, MOST_OUT};
 use independent::program::Program;
 use independent::random::Random;
-use independent::{damage, faults, limits, make, program, switch_places};
+use independent::{damage, faults, limits, make, program, sweep_programs, switch_places};
 
 /// Two implementations and how many answers of theirs were compared.
 pub struct Pair<'a> {
@@ -103,6 +103,20 @@ impl<'a> Pair<'a> {
         })
     }
 
+    /// Both calls of a sweep.
+    pub fn sweep(&mut self, lines: &[u8], start: &Start, slots: usize, words: usize) -> Agreed {
+        let what = format!("sweep, {start:?}, {slots} slots, {words} words");
+        let buffers = || (vec![FILL_WORD; slots], vec![FILL_WORD; words]);
+        self.same(&what, lines, |calls| {
+            let (mut trace, mut counters) = buffers();
+            (calls.sweep(lines, start, &mut trace, &mut counters), trace, counters)
+        })?;
+        self.same(&format!("any other by {what}"), lines, |calls| {
+            let (mut trace, mut counters) = buffers();
+            (calls.sweep_other(lines, start, &mut trace, &mut counters), trace, counters)
+        })
+    }
+
     /// The limit tables, then so many random ones of each sort: accepted, faulty, hardened,
     /// damaged.
     pub fn random_tables(&mut self, rng: &mut Random, count: usize) -> Agreed {
@@ -151,6 +165,45 @@ impl<'a> Pair<'a> {
             self.hardened_run(&damage::any(rng, &lines), &start, slots, COUNTER_WORDS)?;
         }
         Ok(())
+    }
+
+    /// Programs by hand and so many random ones, each swept with several budgets and buffers.
+    pub fn random_sweeps(&mut self, rng: &mut Random, count: usize) -> Agreed {
+        for program in sweep_programs::by_hand() {
+            let steps = sweep_programs::finishes_in(&program, 1000);
+            self.sweeps_of(rng, &program, steps)?;
+        }
+        for program in sweep_programs::never_finished() {
+            self.sweeps_of(rng, &program, None)?;
+        }
+        for _ in 0..count {
+            let (program, steps) = sweep_programs::random(rng);
+            self.sweeps_of(rng, &program, steps)?;
+        }
+        Ok(())
+    }
+
+    fn sweeps_of(&mut self, rng: &mut Random, program: &Program, steps: Option<u16>) -> Agreed {
+        let lines = damage::hardened(&program.rows);
+        self.tables += 1;
+        for budget in budgets(rng, steps) {
+            let start = Start::unstruck(program.variables, budget);
+            let slots = some_length(rng, usize::from(budget));
+            let words = some_length(rng, COUNTER_WORDS);
+            self.sweep(&lines, &start, slots, words)?;
+            if rng.percent(20) {
+                self.sweep(&damage::any(rng, &lines), &start, slots, words)?;
+            }
+        }
+        Ok(())
+    }
+}
+
+/// The steps of a run, one fewer, one more, and many more; without any, where it never finishes.
+fn budgets(rng: &mut Random, steps: Option<u16>) -> Vec<u16> {
+    match steps {
+        Some(n) => vec![n, n - 1, n + 1, n + rng.word() % (n + 1), 2 * n + rng.word() % 40],
+        None => vec![0, 1, rng.word() % 150],
     }
 }
 

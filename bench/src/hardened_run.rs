@@ -7,9 +7,9 @@ use crate::read_back;
 use crate::source_run::{FINISHED, MOST_FUNCTIONS_OPEN, SPENT, TOO_MANY_OPEN};
 use crate::table::Refusal;
 
-const ALARM: u8 = 2;
+pub const ALARM: u8 = 2;
 const PLACE_BEYOND: u8 = 4;
-const COUNTERS: usize = 64;
+pub const COUNTERS: usize = 64;
 
 /// Decides whether the bytes are a hardened table and runs it.
 pub fn run(
@@ -21,41 +21,49 @@ pub fn run(
     read_back::source_of(bytes)?;
     let trace = trace.get_mut(..usize::from(start.budget)).ok_or(Refusal::BuffersShort)?;
     let words = counters.get_mut(..COUNTER_WORDS).ok_or(Refusal::BuffersShort)?;
-    words.fill(0);
-    // the first region's base
-    words[0] = 1;
     let (lines, _) = bytes.as_chunks::<LINE_BYTES>();
     let (counters, _) = words.as_chunks_mut::<COUNTERS>();
-    let v = start.variables;
-    let mut memory = Memory { lines, trace, counters, v, back: [0; MOST_FUNCTIONS_OPEN] };
-    let mut now = Registers { at: 0, open: 0, returned: 0, steps: 0, traced: 0 };
+    let (mut memory, mut now) = Memory::begin(lines, start.variables, trace, counters);
     let outcome = memory.whole(&mut now, start);
     let variables = memory.v;
     words.fill(0);
     Ok(Ran { number: 0, outcome, steps: now.steps, traced: now.traced as u16, variables })
 }
 
+/// What a run does with the row of a do, which is its trace's row `at`.
+pub trait Trace {
+    fn put(&mut self, at: usize, row: u16);
+}
+
+/// Records it.
+impl Trace for &mut [u16] {
+    #[inline(always)]
+    fn put(&mut self, at: usize, row: u16) {
+        self[at] = row;
+    }
+}
+
 /// What a run looks up by a number that it reads.
-struct Memory<'a> {
-    lines: &'a [LineBytes],
-    trace: &'a mut [u16],
-    counters: &'a mut [[u16; COUNTERS]],
-    v: Variables,
+pub struct Memory<'a, T> {
+    pub lines: &'a [LineBytes],
+    pub trace: T,
+    pub counters: &'a mut [[u16; COUNTERS]],
+    pub v: Variables,
     /// Where each function that waits goes on.
-    back: [usize; MOST_FUNCTIONS_OPEN],
+    pub back: [usize; MOST_FUNCTIONS_OPEN],
 }
 
 /// The rest, apart from it so that it can stay in registers.
 #[derive(Clone, Copy)]
-struct Registers {
+pub struct Registers {
     /// The line that comes next. Place m is never kept here: a return from there is done at once.
-    at: usize,
+    pub at: usize,
     /// Open functions besides the first.
-    open: usize,
+    pub open: usize,
     /// The body's counter of the function that returned last.
     returned: u16,
-    steps: u16,
-    traced: usize,
+    pub steps: u16,
+    pub traced: usize,
 }
 
 fn word(line: &LineBytes, at: usize) -> u16 {
@@ -83,9 +91,22 @@ fn go(line: &LineBytes) -> usize {
 }
 
 /// A step's end: where it goes on, or the outcome.
-type Next = Result<usize, u8>;
+pub type Next = Result<usize, u8>;
 
-impl Memory<'_> {
+impl<'a, T: Trace> Memory<'a, T> {
+    /// Function 0 is open at line 0, its counters 0 but the body's, which has the first base.
+    pub fn begin(
+        lines: &'a [LineBytes],
+        v: Variables,
+        trace: T,
+        counters: &'a mut [[u16; COUNTERS]],
+    ) -> (Memory<'a, T>, Registers) {
+        counters[0] = [0; COUNTERS];
+        counters[0][0] = 1;
+        let memory = Memory { lines, trace, counters, v, back: [0; MOST_FUNCTIONS_OPEN] };
+        (memory, Registers { at: 0, open: 0, returned: 0, steps: 0, traced: 0 })
+    }
+
     /// The steps before the jump, the jump, and the steps after it.
     fn whole(&mut self, now: &mut Registers, start: &Start) -> u8 {
         if start.step < start.budget && start.step != NO_JUMP {
@@ -121,7 +142,7 @@ impl Memory<'_> {
         Ok(())
     }
 
-    fn until(&mut self, registers: &mut Registers, budget: u16) -> Result<(), u8> {
+    pub fn until(&mut self, registers: &mut Registers, budget: u16) -> Result<(), u8> {
         let mut now = *registers;
         let mut ended = Ok(());
         while now.steps < budget {
@@ -140,7 +161,7 @@ impl Memory<'_> {
     }
 
     #[inline(always)]
-    fn step(&mut self, now: &mut Registers, line: &LineBytes) -> Next {
+    pub fn step(&mut self, now: &mut Registers, line: &LineBytes) -> Next {
         if line[0] == harden::DO {
             return self.do_line(now, line);
         }
@@ -185,7 +206,7 @@ impl Memory<'_> {
             2 => v[p].wrapping_add(v[q]),
             _ => v[p].wrapping_sub(v[q]),
         };
-        self.trace[now.traced] = e(line);
+        self.trace.put(now.traced, e(line));
         now.traced += 1;
         Ok(now.at + 1)
     }

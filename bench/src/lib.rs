@@ -12,4 +12,6 @@ pub mod ours;
 pub mod programs;
 pub mod read_back;
 pub mod source_run;
+pub mod sweep;
+pub mod sweep_programs;
 pub mod table;

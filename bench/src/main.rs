@@ -1,5 +1,8 @@
 //! `bench/run`: compares the answers, then times both implementations and prints how many times
-//! as long the proved calls take. Without the feature `ours` it times the baseline alone.
+//! as long the proved calls take. Without the feature `ours` it times the baseline alone. With the
+//! word `brief` it leaves out the sweep that takes a second.
+
+mod sweep_times;
 
 use finuraho_bench::calls::{Baseline, Calls, Start, COUNTER_WORDS};
 use finuraho_bench::compare::{Agreed, Pair};
@@ -21,9 +24,10 @@ fn implementations() -> Vec<&'static dyn Calls> {
 
 fn main() {
     let implementations = implementations();
+    let brief = std::env::args().skip(1).any(|word| word == "brief");
     if let [ours, baseline] = implementations[..] {
         let mut pair = Pair::new(ours, baseline);
-        if let Err(disagreement) = compare(&mut pair) {
+        if let Err(disagreement) = compare(&mut pair, brief) {
             println!("DISAGREEMENT: {disagreement}");
             std::process::exit(1);
         }
@@ -45,10 +49,11 @@ fn main() {
     for program in programs::all() {
         time_program(&implementations, &program);
     }
+    sweep_times::time(&implementations, brief);
 }
 
-/// Everything that will be timed, and random tables and runs besides.
-fn compare(pair: &mut Pair) -> Agreed {
+/// Everything that will be timed, and random tables, runs and sweeps besides.
+fn compare(pair: &mut Pair, brief: bool) -> Agreed {
     let mut rng = Random::new(20);
     let switches = programs::switches();
     for rows in [programs::mostly_dos(), programs::nested(), chain(&switches), switches] {
@@ -65,7 +70,9 @@ fn compare(pair: &mut Pair) -> Agreed {
         }
     }
     pair.random_tables(&mut rng, COMPARED)?;
-    pair.random_runs(&mut rng, COMPARED)
+    pair.random_runs(&mut rng, COMPARED)?;
+    pair.random_sweeps(&mut rng, COMPARED)?;
+    sweep_times::compare(pair, brief)
 }
 
 fn hardened(rows: &[u8]) -> Vec<u8> {

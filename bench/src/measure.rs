@@ -33,13 +33,28 @@ fn batch_for(call: &mut Timed) -> u32 {
     }
 }
 
-/// The medians of several calls. Their samples take turns, so that a machine that slows down slows
-/// all of them.
-pub fn medians(mut calls: Vec<Timed>) -> Vec<f64> {
+/// The medians of several calls.
+pub fn medians(calls: Vec<Timed>) -> Vec<f64> {
+    medians_of(SAMPLES, calls)
+}
+
+/// The medians of so many samples.
+pub fn medians_of(samples: usize, mut calls: Vec<Timed>) -> Vec<f64> {
     let batches: Vec<u32> = calls.iter_mut().map(batch_for).collect();
-    let mut samples = vec![Vec::with_capacity(SAMPLES); calls.len()];
-    for _ in 0..SAMPLES {
-        for ((call, batch), samples) in calls.iter_mut().zip(&batches).zip(&mut samples) {
+    in_turn(calls, &batches, samples)
+}
+
+/// The same where every sample is one call, and none is made before them.
+pub fn medians_of_single(samples: usize, calls: Vec<Timed>) -> Vec<f64> {
+    let batches = vec![1; calls.len()];
+    in_turn(calls, &batches, samples)
+}
+
+/// The samples of the calls take turns, so that a machine that slows down slows all of them.
+fn in_turn(mut calls: Vec<Timed>, batches: &[u32], count: usize) -> Vec<f64> {
+    let mut samples = vec![Vec::with_capacity(count); calls.len()];
+    for _ in 0..count {
+        for ((call, batch), samples) in calls.iter_mut().zip(batches).zip(&mut samples) {
             samples.push(nanoseconds(call, *batch));
         }
     }

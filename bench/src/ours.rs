@@ -2,7 +2,7 @@
 //!
 //! Nothing checks these declarations against the Rattle source: `compare` does, on many inputs.
 
-use crate::calls::{Calls, Measured, Ran, Start, Variables, Wrote};
+use crate::calls::{AnyOther, Calls, Measured, Ran, Start, Swept, Variables, Wrote};
 
 unsafe extern "C" {
     fn finuraho_check(rows: *const u8, rows_len: usize) -> u8;
@@ -35,6 +35,26 @@ unsafe extern "C" {
         counters: *mut u16,
         counters_len: usize,
     ) -> Ran;
+    fn finuraho_sweep(
+        lines: *const u8,
+        lines_len: usize,
+        variables: *const Variables,
+        budget: u16,
+        trace: *mut u16,
+        trace_len: usize,
+        counters: *mut u16,
+        counters_len: usize,
+    ) -> Swept;
+    fn finuraho_sweep_other(
+        lines: *const u8,
+        lines_len: usize,
+        variables: *const Variables,
+        budget: u16,
+        trace: *mut u16,
+        trace_len: usize,
+        counters: *mut u16,
+        counters_len: usize,
+    ) -> AnyOther;
 }
 
 /// The proved calls. None of them asks anything of its caller, so every wrapper is safe: each
@@ -89,6 +109,42 @@ impl Calls for Ours {
                 start.budget,
                 start.step,
                 start.place,
+                trace.as_mut_ptr(),
+                trace.len(),
+                counters.as_mut_ptr(),
+                counters.len(),
+            )
+        }
+    }
+
+    fn sweep(&self, lines: &[u8], start: &Start, trace: &mut [u16], counters: &mut [u16]) -> Swept {
+        unsafe {
+            finuraho_sweep(
+                lines.as_ptr(),
+                lines.len(),
+                &start.variables,
+                start.budget,
+                trace.as_mut_ptr(),
+                trace.len(),
+                counters.as_mut_ptr(),
+                counters.len(),
+            )
+        }
+    }
+
+    fn sweep_other(
+        &self,
+        lines: &[u8],
+        start: &Start,
+        trace: &mut [u16],
+        counters: &mut [u16],
+    ) -> AnyOther {
+        unsafe {
+            finuraho_sweep_other(
+                lines.as_ptr(),
+                lines.len(),
+                &start.variables,
+                start.budget,
                 trace.as_mut_ptr(),
                 trace.len(),
                 counters.as_mut_ptr(),

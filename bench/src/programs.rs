@@ -13,31 +13,31 @@ pub struct Program {
     pub variables: Variables,
 }
 
-const SET: u8 = 0;
-const ADD: u8 = 2;
-const SUBTRACT: u8 = 3;
-const EQUALS: u8 = 0;
-const DIFFERS: u8 = 1;
-const LESS: u8 = 2;
+pub(crate) const SET: u8 = 0;
+pub(crate) const ADD: u8 = 2;
+pub(crate) const SUBTRACT: u8 = 3;
+pub(crate) const EQUALS: u8 = 0;
+pub(crate) const DIFFERS: u8 = 1;
+pub(crate) const LESS: u8 = 2;
 
-fn bytes(rows: &[Row]) -> Vec<u8> {
+pub(crate) fn bytes(rows: &[Row]) -> Vec<u8> {
     rows.as_flattened().to_vec()
 }
 
-fn row(kind: u8, op: u8, p: u8, q: u8, n: u16) -> Row {
+pub(crate) fn row(kind: u8, op: u8, p: u8, q: u8, n: u16) -> Row {
     let [low, high] = n.to_le_bytes();
     [kind, op, p, q, low, high]
 }
 
-fn plain(kind: u8) -> Row {
+pub(crate) fn plain(kind: u8) -> Row {
     row(kind, 0, 0, 0, 0)
 }
 
-fn add(p: u8, q: u8) -> Row {
+pub(crate) fn add(p: u8, q: u8) -> Row {
     row(DO, ADD, p, q, 0)
 }
 
-fn call(n: usize) -> Row {
+pub(crate) fn call(n: usize) -> Row {
     row(CALL, 0, 0, 0, n as u16)
 }
 
@@ -141,7 +141,7 @@ fn knot(i: usize) -> [Row; 30] {
 }
 
 /// v15 is 1 in every program.
-fn first_values() -> Variables {
+pub(crate) fn first_values() -> Variables {
     let mut variables = [0; 16];
     variables[15] = 1;
     variables

@@ -42,6 +42,7 @@ pub enum Refusal {
     BuffersShort = 9,
     NotHardened = 10,
     RepeatedCase = 11,
+    Unfinished = 13,
 }
 
 /// What is noted of a row.

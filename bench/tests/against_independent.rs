@@ -1,9 +1,12 @@
 //! The implementation that is written for speed answers as tests/independent does.
 
-use finuraho_bench::calls::{Baseline, Calls, Measured, Ran, Start, Wrote, NO_JUMP};
+use finuraho_bench::calls::{
+    AnyOther, Baseline, Calls, Measured, Ran, Start, Swept, Wrote, NO_JUMP,
+};
 use finuraho_bench::compare::Pair;
-use finuraho_bench::programs;
+use finuraho_bench::{programs, sweep_programs};
 use independent::random::Random;
+use independent::sweep::Counts;
 
 struct Independent;
 
@@ -62,6 +65,27 @@ impl Calls for Independent {
     ) -> Ran {
         let Start { variables, budget, step, place } = start;
         ran(independent::run_hardened(lines, variables, *budget, *step, *place, trace, counters))
+    }
+
+    fn sweep(&self, lines: &[u8], start: &Start, trace: &mut [u16], counters: &mut [u16]) -> Swept {
+        let Start { variables, budget, .. } = start;
+        let independent::Swept { number, counts } =
+            independent::sweep(lines, variables, *budget, trace, counters);
+        let Counts { alarms, same, other, unfinished } = counts;
+        Swept { number, alarms, same, other, unfinished }
+    }
+
+    fn sweep_other(
+        &self,
+        lines: &[u8],
+        start: &Start,
+        trace: &mut [u16],
+        counters: &mut [u16],
+    ) -> AnyOther {
+        let Start { variables, budget, .. } = start;
+        let independent::SweptOther { number, found } =
+            independent::sweep_other(lines, variables, *budget, trace, counters);
+        AnyOther { number, other: found.into() }
     }
 }
 
@@ -123,5 +147,35 @@ fn timed_inputs() {
                 assert_eq!((ran.number, ran.outcome, ran.steps), (0, 0, budget));
             }
         }
+    }
+}
+
+#[test]
+fn random_sweeps() {
+    let mut pair = Pair::new(&Baseline, &Independent);
+    pair.random_sweeps(&mut Random::new(4), 400).unwrap();
+    println!("{} programs, {} calls", pair.tables, pair.calls);
+}
+
+/// The programs whose sweeps are timed, with fewer rounds where they have many; and which of them
+/// have a do that gives another trace.
+#[test]
+fn timed_sweeps() {
+    let mut pair = Pair::new(&Baseline, &Independent);
+    for (program, other) in [
+        (sweep_programs::tariff(), 1),
+        (sweep_programs::rounds(1), 1),
+        (sweep_programs::counting(30, 0), 0),
+        (sweep_programs::counting(10, 24), 0),
+        (sweep_programs::weak_first(20), 1),
+    ] {
+        let lines = independent::damage::hardened(&program.rows);
+        for budget in [600, 1300] {
+            let start = Start::unstruck(program.variables, budget);
+            pair.sweep(&lines, &start, budget.into(), 1024).unwrap();
+        }
+        let start = Start::unstruck(program.variables, 1300);
+        let found = Baseline.sweep_other(&lines, &start, &mut [0; 1300], &mut [0; 1024]);
+        assert_eq!(found, AnyOther { number: 0, other }, "{}", program.name);
     }
 }

@@ -1,5 +1,5 @@
 /* Document 01's example program, measured, hardened and run: unstruck, struck by a jump that the counters catch, and by one that they
- * cannot. Then a tariff by bands, written as a switch, the same way, for three numbers of hives. */
+ * cannot; then swept by every single jump. Then a tariff by bands, written as a switch, the same way, for three numbers of hives. */
 #include <finuraho.h>
 #include <stdio.h>
 #include <stdlib.h>
@@ -102,6 +102,17 @@ static void run_hardened(const char *what, struct table table, uint16_t step, ui
     print_run(what, ran, trace);
 }
 
+/* What comes of every single jump. One that ends with another trace goes unseen. */
+static void sweep(struct table table, const uint16_t values[FINURAHO_VARIABLES])
+{
+    uint16_t trace[BUDGET];
+    uint16_t counters[FINURAHO_COUNTER_WORDS];
+    finuraho_swept swept = finuraho_sweep(table.lines, table.length, values, BUDGET, trace, BUDGET, counters, FINURAHO_COUNTER_WORDS);
+    stop_if_refused(swept.number);
+    printf("single jumps: %lu alarms, %lu with the same trace, ", (unsigned long)swept.alarms, (unsigned long)swept.same);
+    printf("%lu with another, %lu unfinished\n", (unsigned long)swept.other, (unsigned long)swept.unfinished);
+}
+
 static void quote(struct table table, uint16_t hives)
 {
     const uint16_t values[FINURAHO_VARIABLES] = {hives};
@@ -111,6 +122,7 @@ static void quote(struct table table, uint16_t hives)
                                              FINURAHO_COUNTER_WORDS);
     stop_if_refused(ran.number);
     printf("%u hives: %s, %u steps, fee %u\n", hives, OUTCOMES[ran.outcome], ran.steps, ran.variables[1]);
+    sweep(table, values);
 }
 
 static void run_example(void)
@@ -123,6 +135,7 @@ static void run_example(void)
     run_hardened("jump before step 4 to place 6", table, 4, 6);
     /* Over line 0 alone, a do: no guard lies between, so the run goes on as if nothing had happened, without row 1. */
     run_hardened("jump before step 0 to place 1", table, 0, 1);
+    sweep(table, VALUES);
     free(table.lines);
 }
 

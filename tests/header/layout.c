@@ -1,4 +1,4 @@
-/* Prints where the header puts each field of the four structs; layout/src/main.rs prints the same from Rust declarations. */
+/* Prints where the header puts each field of the six structs; layout/src/main.rs prints the same from Rust declarations. */
 #include <finuraho.h>
 #include <stddef.h>
 #include <stdio.h>
@@ -22,5 +22,14 @@ int main(void)
     printf("steps %zu\n", offsetof(finuraho_ran, steps));
     printf("traced %zu\n", offsetof(finuraho_ran, traced));
     printf("variables %zu\n", offsetof(finuraho_ran, variables));
+    printf("swept %zu\n", sizeof(finuraho_swept));
+    printf("number %zu\n", offsetof(finuraho_swept, number));
+    printf("alarms %zu\n", offsetof(finuraho_swept, alarms));
+    printf("same %zu\n", offsetof(finuraho_swept, same));
+    printf("other %zu\n", offsetof(finuraho_swept, other));
+    printf("unfinished %zu\n", offsetof(finuraho_swept, unfinished));
+    printf("any_other %zu\n", sizeof(finuraho_any_other));
+    printf("number %zu\n", offsetof(finuraho_any_other, number));
+    printf("other %zu\n", offsetof(finuraho_any_other, other));
     return 0;
 }

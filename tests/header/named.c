@@ -192,6 +192,15 @@ static finuraho_ran run(size_t lines_len, uint16_t budget, uint16_t step, uint16
     return ran;
 }
 
+/* A function that calls itself. */
+static void put_recursion(void)
+{
+    length = 0;
+    put(FINURAHO_ROW_FUNCTION, 0, 0, 0, 0);
+    put(FINURAHO_ROW_CALL, 0, 0, 0, 0);
+    put(FINURAHO_ROW_END, 0, 0, 0, 0);
+}
+
 /* 01's cases (B), (C), (F), (G); no jump, whatever the place; a function that calls itself. */
 static void outcomes(void)
 {
@@ -202,10 +211,7 @@ static void outcomes(void)
     expect("(C)", run(lines_len, BUDGET, 4, 6).outcome, FINURAHO_ALARM);
     expect("(F)", run(lines_len, BUDGET, 0, 8).outcome, FINURAHO_BEYOND);
     expect("(G)", run(lines_len, 11, FINURAHO_NO_JUMP, 0).outcome, FINURAHO_BUDGET_SPENT);
-    length = 0;
-    put(FINURAHO_ROW_FUNCTION, 0, 0, 0, 0);
-    put(FINURAHO_ROW_CALL, 0, 0, 0, 0);
-    put(FINURAHO_ROW_END, 0, 0, 0, 0);
+    put_recursion();
     lines_len = put_hardened();
     expect("a 17th open", run(lines_len, BUDGET, FINURAHO_NO_JUMP, 0).outcome, FINURAHO_TOO_MANY_OPEN);
     expect("its step", run(lines_len, BUDGET, FINURAHO_NO_JUMP, 0).steps, FINURAHO_MAX_OPEN);
@@ -335,6 +341,100 @@ static void hardened_steps(void)
     expect("steps, the most", finuraho_hardened_steps(65535, 65535, 65535), 196605);
 }
 
+/* What slots and counter words hold before a sweep. */
+#define FILL 43690
+
+static void fill(void)
+{
+    size_t i;
+    for (i = 0; i < BUDGET; i++)
+        trace[i] = FILL;
+    for (i = 0; i < FINURAHO_COUNTER_WORDS; i++)
+        counters[i] = FILL;
+}
+
+/* Accepted: the trace at the front of the slots, and words of 0. Turned away: all as they were. */
+static void expect_lent(const char *what, uint8_t number, const uint16_t *dos, size_t traced)
+{
+    size_t i, held = 0;
+    if (number != FINURAHO_ACCEPTED)
+        traced = 0;
+    for (i = 0; i < BUDGET; i++)
+        expect(what, trace[i], i < traced ? dos[i] : FILL);
+    for (i = 0; i < FINURAHO_COUNTER_WORDS; i++)
+        held += counters[i] == (number == FINURAHO_ACCEPTED ? 0 : FILL);
+    expect(what, held, FINURAHO_COUNTER_WORDS);
+}
+
+/* A sweep: by how many bytes the table is too short, what is lent, and what must come back. */
+struct sweep {
+    const char *what;
+    size_t cut;
+    uint16_t budget;
+    size_t slots;
+    size_t words;
+    finuraho_swept must;
+};
+
+/* Both calls on the table that is there; `dos` is the trace of its run without a jump. */
+static void expect_sweep(struct sweep sweep, const uint16_t *dos, size_t traced)
+{
+    size_t lines_len = put_hardened() - sweep.cut;
+    finuraho_swept must = sweep.must, swept;
+    finuraho_any_other any;
+    fill();
+    swept = finuraho_sweep(lines, lines_len, values, sweep.budget, trace, sweep.slots, counters, sweep.words);
+    expect(sweep.what, swept.number, must.number);
+    expect(sweep.what, swept.alarms, must.alarms);
+    expect(sweep.what, swept.same, must.same);
+    expect(sweep.what, swept.other, must.other);
+    expect(sweep.what, swept.unfinished, must.unfinished);
+    expect_lent(sweep.what, must.number, dos, traced);
+    fill();
+    any = finuraho_sweep_other(lines, lines_len, values, sweep.budget, trace, sweep.slots, counters, sweep.words);
+    expect(sweep.what, any.number, must.number);
+    expect(sweep.what, any.other, must.other > 0);
+    expect_lent(sweep.what, must.number, dos, traced);
+}
+
+#define WORDS FINURAHO_COUNTER_WORDS
+
+/* 01's table: 12 steps of 8 places. Of the numbers 10 comes first, then 9, then 13. */
+static const struct sweep EXAMPLE[] = {
+    {"sweep, budget 20", 0, 20, 20, WORDS, {FINURAHO_ACCEPTED, 78, 15, 2, 1}},
+    {"sweep, budget 12", 0, 12, 12, WORDS, {FINURAHO_ACCEPTED, 76, 13, 1, 6}},
+    {"sweep, budget 11", 0, 11, 20, WORDS, {FINURAHO_NOT_FINISHED, 0, 0, 0, 0}},
+    {"sweep, budget 0", 0, 0, 0, WORDS, {FINURAHO_NOT_FINISHED, 0, 0, 0, 0}},
+    {"sweep, one slot fewer", 0, 20, 19, WORDS, {FINURAHO_SHORT_ROOM, 0, 0, 0, 0}},
+    {"sweep, one word fewer", 0, 20, 20, WORDS - 1, {FINURAHO_SHORT_ROOM, 0, 0, 0, 0}},
+    {"sweep, budget 11, one slot fewer", 0, 11, 10, WORDS, {FINURAHO_SHORT_ROOM, 0, 0, 0, 0}},
+    {"sweep, budget 11, one word fewer", 0, 11, 11, WORDS - 1, {FINURAHO_SHORT_ROOM, 0, 0, 0, 0}},
+    {"sweep, all bytes but one", 1, 20, 20, WORDS, {FINURAHO_NOT_HARDENED, 0, 0, 0, 0}},
+    {"sweep, all bytes but one, budget 11", 1, 11, 11, WORDS, {FINURAHO_NOT_HARDENED, 0, 0, 0, 0}},
+    {"sweep, all bytes but one, one slot fewer", 1, 20, 19, WORDS, {FINURAHO_NOT_HARDENED, 0, 0, 0, 0}},
+};
+
+/* One step of 2 places. 18 steps of 23 places and one of 2, with 5 dos to leave out or to do twice. A run that ends, but not by
+ * finishing. */
+static const struct sweep NOTHING = {"sweep, function and end", 0, 1, 1, WORDS, {FINURAHO_ACCEPTED, 1, 1, 0, 0}};
+static const struct sweep EACH = {"sweep, each kind", 0, 20, 20, WORDS, {FINURAHO_ACCEPTED, 387, 19, 10, 0}};
+static const struct sweep DEEP = {"sweep, a 17th open", 0, 20, 20, WORDS, {FINURAHO_NOT_FINISHED, 0, 0, 0, 0}};
+
+static void sweeps(void)
+{
+    static const uint16_t dos[] = {1, 3, 3}, each[] = {1, 2, 3, 4, 5};
+    size_t i;
+    put_example();
+    for (i = 0; i < sizeof EXAMPLE / sizeof EXAMPLE[0]; i++)
+        expect_sweep(EXAMPLE[i], dos, 3);
+    put_dos(0);
+    expect_sweep(NOTHING, NULL, 0);
+    put_each_kind();
+    expect_sweep(EACH, each, 5);
+    put_recursion();
+    expect_sweep(DEEP, NULL, 0);
+}
+
 static void versions(void)
 {
     char spelt[20];
@@ -373,6 +473,8 @@ static void null_tables(void)
     ran = finuraho_run_hardened(NULL, 0, values, 0, FINURAHO_NO_JUMP, 0, NULL, 0, NULL, 0);
     expect("run_hardened, all NULL", ran.number, FINURAHO_NOT_HARDENED);
     expect("its v1", ran.variables[1], 1);
+    expect("sweep, all NULL", finuraho_sweep(NULL, 0, values, 0, NULL, 0, NULL, 0).number, FINURAHO_NOT_HARDENED);
+    expect("sweep_other, all NULL", finuraho_sweep_other(NULL, 0, values, 0, NULL, 0, NULL, 0).number, FINURAHO_NOT_HARDENED);
 }
 
 /* A good table, and nothing lent to write to. */
@@ -391,6 +493,10 @@ static void null_outputs(void)
     expect("its outcome", ran.outcome, FINURAHO_BUDGET_SPENT);
     ran = finuraho_run_hardened(lines, lines_len, values, 0, 0, 6, NULL, 0, NULL, 0);
     expect("run_hardened, no counters", ran.number, FINURAHO_SHORT_ROOM);
+    expect("sweep, budget 0, NULL", finuraho_sweep(lines, lines_len, values, 0, NULL, 0, counters, FINURAHO_COUNTER_WORDS).number,
+           FINURAHO_NOT_FINISHED);
+    expect("sweep, no counters", finuraho_sweep(lines, lines_len, values, 0, NULL, 0, NULL, 0).number, FINURAHO_SHORT_ROOM);
+    expect("sweep_other, no counters", finuraho_sweep_other(lines, lines_len, values, 0, NULL, 0, NULL, 0).number, FINURAHO_SHORT_ROOM);
 }
 
 int main(void)
@@ -405,6 +511,7 @@ int main(void)
     switches();
     figures();
     hardened_steps();
+    sweeps();
     versions();
     short_buffers();
     null_tables();

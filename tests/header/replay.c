@@ -142,14 +142,19 @@ static void print_wrote(finuraho_wrote wrote, size_t out_len)
             stop("bytes behind the output were changed");
 }
 
-static void print_ran(finuraho_ran ran, size_t slots)
+static void print_slots(size_t slots)
 {
-    printf("%u %u %u %u ", ran.number, ran.outcome, ran.steps, ran.traced);
-    print_words(ran.variables, FINURAHO_VARIABLES);
     printf(" ");
     print_words(trace, slots);
     if (!all_are(trace + slots, SPARE, SLOT_FILL))
         stop("words behind the trace were changed");
+}
+
+static void print_ran(finuraho_ran ran, size_t slots)
+{
+    printf("%u %u %u %u ", ran.number, ran.outcome, ran.steps, ran.traced);
+    print_words(ran.variables, FINURAHO_VARIABLES);
+    print_slots(slots);
 }
 
 static const char *counters_after(size_t words)
@@ -273,6 +278,59 @@ static void run_hardened(const char *at)
     printf(" %s", counters_after(words));
 }
 
+/* What both sweeps are given: `BUDGET SLOTS WORDS VALUES LINES` */
+struct given {
+    const uint8_t *lines;
+    uint16_t budget;
+    uint16_t *trace;
+    size_t slots;
+    uint16_t *counters;
+    size_t words;
+};
+
+static struct given take_sweep(const char *at)
+{
+    struct given given;
+    given.budget = (uint16_t)take_number(&at, FINURAHO_MAX_BUDGET);
+    given.slots = take_number(&at, SLOT_ROOM);
+    given.words = take_number(&at, WORD_ROOM);
+    take_variables(&at);
+    take_bytes(at);
+    fill(trace, given.slots + SPARE, SLOT_FILL);
+    fill(counters, given.words + SPARE, WORD_FILL);
+    given.lines = bytes_or_null(bytes, bytes_len);
+    given.trace = words_or_null(trace, given.slots);
+    given.counters = words_or_null(counters, given.words);
+    return given;
+}
+
+static void print_lent(struct given given)
+{
+    print_slots(given.slots);
+    printf(" %s", counters_after(given.words));
+}
+
+/* `whole BUDGET SLOTS WORDS VALUES LINES` */
+static void sweep(const char *at)
+{
+    struct given given = take_sweep(at);
+    finuraho_swept swept = finuraho_sweep(given.lines, bytes_len, variables, given.budget, given.trace, given.slots, given.counters,
+                                          given.words);
+    printf("%u %lu %lu ", swept.number, (unsigned long)swept.alarms, (unsigned long)swept.same);
+    printf("%lu %lu", (unsigned long)swept.other, (unsigned long)swept.unfinished);
+    print_lent(given);
+}
+
+/* `other BUDGET SLOTS WORDS VALUES LINES` */
+static void sweep_other(const char *at)
+{
+    struct given given = take_sweep(at);
+    finuraho_any_other any = finuraho_sweep_other(given.lines, bytes_len, variables, given.budget, given.trace, given.slots,
+                                                  given.counters, given.words);
+    printf("%u %u", any.number, any.other);
+    print_lent(given);
+}
+
 static void answer(void)
 {
     static const struct {
@@ -281,6 +339,7 @@ static void answer(void)
     } calls[] = {
         {"check ", check},    {"fault ", fault},       {"measure ", measure},       {"harden ", harden},
         {"read ", read_back}, {"source ", run_source}, {"hardened ", run_hardened}, {"total ", total},
+        {"whole ", sweep},    {"other ", sweep_other},
     };
     size_t call;
     for (call = 0; call < sizeof calls / sizeof calls[0]; call++) {

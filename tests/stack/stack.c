@@ -65,6 +65,16 @@ static void call_hardened_steps(void)
     finuraho_hardened_steps(65535, 65535, 65535);
 }
 
+static void call_sweep(void)
+{
+    finuraho_sweep(lines, lines_length, values, BUDGET, trace, BUDGET, counters, FINURAHO_COUNTER_WORDS);
+}
+
+static void call_sweep_other(void)
+{
+    finuraho_sweep_other(lines, lines_length, values, BUDGET, trace, BUDGET, counters, FINURAHO_COUNTER_WORDS);
+}
+
 struct measured {
     const char *name;
     void (*call)(void);
@@ -82,6 +92,8 @@ static struct measured calls[] = {
     {"run_source", call_run_source, FINURAHO_STACK_RUN_SOURCE, 0},
     {"run_hardened", call_run_hardened, FINURAHO_STACK_RUN_HARDENED, 0},
     {"hardened_steps", call_hardened_steps, FINURAHO_STACK_HARDENED_STEPS, 0},
+    {"sweep", call_sweep, FINURAHO_STACK_SWEEP, 0},
+    {"sweep_other", call_sweep_other, FINURAHO_STACK_SWEEP_OTHER, 0},
 };
 
 #define CALLS (sizeof calls / sizeof calls[0])
@@ -174,6 +186,46 @@ static void mostly_dos(void)
     measure_table();
 }
 
+/* 1,024 rows in 16 functions, each of which calls the next. The run finishes, so it is swept. */
+static void sixteen_functions(void)
+{
+    uint16_t function;
+    length = 0;
+    for (function = 0; function < FINURAHO_MAX_OPEN; function++) {
+        put(FINURAHO_ROW_FUNCTION, 0, 0, 0, 0);
+        put_many(61, FINURAHO_ROW_DO);
+        if (function < FINURAHO_MAX_OPEN - 1)
+            put(FINURAHO_ROW_CALL, 0, 0, 0, (uint16_t)(function + 1));
+        else
+            put(FINURAHO_ROW_DO, 0, 0, 0, 0);
+        put(FINURAHO_ROW_END, 0, 0, 0, 0);
+    }
+    measure_table();
+}
+
+/* One function of 1,022 dos, the one with the most places. */
+static void one_function(void)
+{
+    length = 0;
+    put(FINURAHO_ROW_FUNCTION, 0, 0, 0, 0);
+    put_many(FINURAHO_MAX_ROWS - 2, FINURAHO_ROW_DO);
+    put(FINURAHO_ROW_END, 0, 0, 0, 0);
+    measure_table();
+}
+
+/* A function that calls itself until 16 are open. No jump leads to another trace, so neither sweep stops early; with the do left out a
+ * 17th would open. */
+static void recursion(void)
+{
+    length = 0;
+    put(FINURAHO_ROW_FUNCTION, 0, 0, 0, 0);
+    put(FINURAHO_ROW_IF, FINURAHO_TEST_DIFFERS, 0, 0, FINURAHO_MAX_OPEN - 1);
+    put(FINURAHO_ROW_DO, FINURAHO_DO_ADD, 0, 1, 0);
+    put(FINURAHO_ROW_CALL, 0, 0, 0, 0);
+    put_many(2, FINURAHO_ROW_END);
+    measure_table();
+}
+
 /* A loop, an if, an if's else part or a switch's case. */
 static void put_opening(char way)
 {
@@ -250,6 +302,9 @@ int main(void)
     tiny();
     example();
     mostly_dos();
+    sixteen_functions();
+    one_function();
+    recursion();
     nested(FINURAHO_MAX_CONSTRUCTS);
     nested(FINURAHO_MAX_CONSTRUCTS + 1);
     switches(FINURAHO_MAX_CONSTRUCTS);

@@ -36,7 +36,18 @@ pub struct Ran {
     pub variables: Variables,
 }
 
-/// The number of a call that was turned away, 1 to 11.
+/// How the runs of a sweep ended, one for each single jump.
+#[repr(C)]
+#[derive(Debug)]
+pub struct Swept {
+    number: u8,
+    pub alarms: u32,
+    pub same: u32,
+    pub other: u32,
+    pub unfinished: u32,
+}
+
+/// The number of a call that was turned away, 1 to 11 or 13.
 #[derive(Debug)]
 pub struct Refused(pub u8);
 
@@ -64,6 +75,16 @@ unsafe extern "C" {
         counters_len: usize,
     ) -> Ran;
     fn finuraho_hardened_steps(steps: u16, dos: u16, calls: u16) -> u32;
+    fn finuraho_sweep(
+        lines: *const u8,
+        lines_len: usize,
+        variables: *const Variables,
+        budget: u16,
+        trace: *mut u16,
+        trace_len: usize,
+        counters: *mut u16,
+        counters_len: usize,
+    ) -> Swept;
 }
 
 /// A jump before step `step` to `place`.
@@ -127,6 +148,27 @@ pub fn run_hardened(
 /// The steps of the hardened run, from a source run that finished.
 pub fn hardened_steps(ran: &Ran, calls: u16) -> u32 {
     unsafe { finuraho_hardened_steps(ran.steps, ran.traced, calls) }
+}
+
+/// Every single jump of the run whose budget is the number of slots.
+pub fn sweep(lines: &[u8], values: &Variables, trace: &mut [u16]) -> Result<Swept, Refused> {
+    let mut counters = [0; COUNTER_WORDS];
+    let swept = unsafe {
+        finuraho_sweep(
+            lines.as_ptr(),
+            lines.len(),
+            values,
+            budget(trace.len()),
+            trace.as_mut_ptr(),
+            trace.len(),
+            counters.as_mut_ptr(),
+            counters.len(),
+        )
+    };
+    match swept.number {
+        0 => Ok(swept),
+        number => Err(Refused(number)),
+    }
 }
 
 /// A run takes at most 65,535 steps.

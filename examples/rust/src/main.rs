@@ -1,12 +1,12 @@
 //! Document 01's example program, measured, hardened and run: unstruck, struck by a jump that the
-//! counters catch, and by one that they cannot. Then a tariff by bands, written as a switch, the
-//! same way, for three numbers of hives.
+//! counters catch, and by one that they cannot; then swept by every single jump. Then a tariff by
+//! bands, written as a switch, the same way, for three numbers of hives.
 
 mod finuraho;
 
 use std::process::ExitCode;
 
-use finuraho::{Jump, Measured, Ran, Refused, Variables, LINE_BYTES};
+use finuraho::{Jump, Measured, Ran, Refused, Swept, Variables, LINE_BYTES};
 
 const BUDGET: usize = 20;
 
@@ -68,7 +68,8 @@ fn example() -> Result<(), Refused> {
     // Over line 0 alone, a do: no guard lies between, so the run goes on as if nothing had
     // happened, without row 1.
     let narrow = Jump { step: 0, place: 1 };
-    run_hardened("jump before step 0 to place 1", lines, Some(narrow))
+    run_hardened("jump before step 0 to place 1", lines, Some(narrow))?;
+    sweep(lines, &VALUES)
 }
 
 fn quote_bands() -> Result<(), Refused> {
@@ -79,6 +80,7 @@ fn quote_bands() -> Result<(), Refused> {
         let ran = finuraho::run_hardened(&lines, &values, None, &mut [0; BUDGET])?;
         let outcome = OUTCOMES[usize::from(ran.outcome)];
         println!("{hives} hives: {outcome}, {} steps, fee {}", ran.steps, ran.variables[1]);
+        sweep(&lines, &values)?;
     }
     Ok(())
 }
@@ -96,6 +98,15 @@ fn run_hardened(what: &str, lines: &[u8], jump: Option<Jump>) -> Result<(), Refu
     let mut trace = [0; BUDGET];
     let ran = finuraho::run_hardened(lines, &VALUES, jump, &mut trace)?;
     show(what, &ran, &trace);
+    Ok(())
+}
+
+/// What comes of every single jump. One that ends with another trace goes unseen.
+fn sweep(lines: &[u8], values: &Variables) -> Result<(), Refused> {
+    let Swept { alarms, same, other, unfinished, .. } =
+        finuraho::sweep(lines, values, &mut [0; BUDGET])?;
+    print!("single jumps: {alarms} alarms, {same} with the same trace, ");
+    println!("{other} with another, {unfinished} unfinished");
     Ok(())
 }
 

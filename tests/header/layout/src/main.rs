@@ -1,9 +1,9 @@
-//! Prints where Rust puts each field of the four answers; ../layout.c prints the same from the
+//! Prints where Rust puts each field of the six answers; ../layout.c prints the same from the
 //! header.
 
 use std::mem::{offset_of, size_of};
 
-use finuraho_bench::calls::{Measured, Ran, Wrote};
+use finuraho_bench::calls::{AnyOther, Measured, Ran, Swept, Wrote};
 
 /// As in crates/rules/src/answer.rt; bench doesn't time this call, so it is declared here.
 #[allow(dead_code)]
@@ -31,4 +31,13 @@ fn main() {
     println!("steps {}", offset_of!(Ran, steps));
     println!("traced {}", offset_of!(Ran, traced));
     println!("variables {}", offset_of!(Ran, variables));
+    println!("swept {}", size_of::<Swept>());
+    println!("number {}", offset_of!(Swept, number));
+    println!("alarms {}", offset_of!(Swept, alarms));
+    println!("same {}", offset_of!(Swept, same));
+    println!("other {}", offset_of!(Swept, other));
+    println!("unfinished {}", offset_of!(Swept, unfinished));
+    println!("any_other {}", size_of::<AnyOther>());
+    println!("number {}", offset_of!(AnyOther, number));
+    println!("other {}", offset_of!(AnyOther, other));
 }
