@@ -16,9 +16,11 @@ use Rattle.rules.specs.State.{goTo, retraced}
 use Rattle.rules.specs.Run.{run}
 use Rattle.rules.specs.Hardened.{Hardened, strikingStep}
 use Rattle.rules.specs.Sweep.{endingOf}
+use Rattle.rules.specs.Settled.{across, StandsBefore}
+use Rattle.rules.specs.Function.{functionAt}
 use Rattle.state.specs.declared.machine.Machine.{Machine}
 use Rattle.state.specs.Machine.{machineAt}
-use Rattle.machine.specs.Stands.{Inside}
+use Rattle.machine.specs.Stands.{Inside, Sound}
 use Rattle.compare.specs.Compared.{Stood, Standing, endsAt}
 
 -- ---- a copy, word by word
@@ -68,3 +70,14 @@ module _ (ls : List Line) (m : Machine) (ws : List ℕ) (y : ℕ) (i : Inside ls
 pub stands-already : (ls : List Line) (m : Machine) (ws known : List ℕ) (left y : ℕ) → y ≡ m .registers .at → (s : Hardened) → Stood ls m ws s → Same ≡ endsAt ls known left y s
 unfolding endsAt
 stands-already ls m ws known left y e s st = rw (eq-eqb y (s .running .at) (e ∙ st .stands [] .at-is))
+
+-- ---- the line where the run stands, and the one across a do
+module _ (ls : List Line) (m : Machine) (ws : List ℕ) (st : Standing ls m ws) (b : StandsBefore ls (m .registers .function) (m .registers .at)) where
+  known : m .registers .function < functionAt ls (length ls)
+  known = subst (λ f. f < functionAt ls (length ls)) (sym (st .stood .stands [] .function-is)) (st .stood .stands [] .inside .known)
+
+  pub line-there : Sound ls → (m .registers .at < length ls) × (m .registers .at < 65535)
+  line-there so = (omega (arith, b .before-end, so .finish-in (m .registers .function) known), omega (arith, b .before-end, so .finish-in (m .registers .function) known, so .within .few-lines))
+
+  pub inside-across : (y : ℕ) → y ≡ across ls (m .registers .at) → Inside ls (m .registers .function) y
+  inside-across y e = record { known = known; not-before = omega (arith, b .across-from); not-after = omega (arith, b .across-to) }

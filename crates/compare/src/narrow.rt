@@ -4,10 +4,13 @@ ghost use lib.ListN.{length};
 ghost use Rattle.rules.specs.Limits.{counterWords};
 ghost use Rattle.rules.specs.Line.{linesIn};
 ghost use Rattle.rules.specs.Hardened.{Hardened};
+ghost use Rattle.rules.specs.Settled.{StandsBefore};
 ghost use Rattle.machine.specs.Step.{mapOf};
 ghost use Rattle.machine.specs.Stands.{Inside, Ready};
 ghost use Rattle.compare.specs.Compared.{pieceSteps, Stood, Standing, endsAt};
+ghost use Rattle.compare.specs.Narrow.{NarrowIs};
 use crate::pieces;
+use places::across::line_across;
 use rules::ending::Ending;
 use rules::limits::FUNCTIONS;
 use rules::limits::LINES;
@@ -26,7 +29,7 @@ fn copy(from: &[u16], to: &mut [u16])
 }
 
 // How the run ends that goes on at this line of the running function; where it stands there already, nothing is run.
-pub fn ending(
+fn ending(
     lines: &[u8],
     starts: &[u16; FUNCTIONS + 1],
     owners: &[u8; LINES + 1],
@@ -59,4 +62,43 @@ pub fn ending(
         spare,
         rows,
     )
+}
+
+// The line across the do, or the line where the run stands, and how the run ends that goes on there.
+pub struct Narrow {
+    pub line: u16,
+    pub ending: Ending,
+}
+
+pub fn across(
+    lines: &[u8],
+    starts: &[u16; FUNCTIONS + 1],
+    owners: &[u8; LINES + 1],
+    home: u16,
+    machine: Machine,
+    left: u16,
+    known: &[u16],
+    counters: &[u16],
+    spare: &mut [u16],
+    rows: &mut [u16],
+) -> Narrow
+    requires { ⌜ (Ready (now lines) (mapOf (now starts) (now owners) home)) × (Standing (linesIn (now lines)) machine (now counters)) × (StandsBefore (linesIn (now lines)) (machine .registers .function) (machine .registers .at)) × (length (now spare) ≡ counterWords) × (length (now rows) ≡ pieceSteps) ⌝ }
+    ensures { λ r. ⌜ NarrowIs (linesIn (now (lines .entry))) machine (now (counters .entry)) (now (known .entry)) left r ⌝ }
+{
+    let h = machine.registers;
+    let line = line_across(lines, h.at);
+    let ending = ending(
+        lines,
+        starts,
+        owners,
+        home,
+        machine,
+        line,
+        left,
+        known,
+        counters,
+        spare,
+        rows,
+    );
+    Narrow { line, ending }
 }

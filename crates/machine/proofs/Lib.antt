@@ -6,6 +6,7 @@ pub mod AgreeGuard
 pub mod AgreeDo
 pub mod AgreeCall
 pub mod Steps
+pub mod Start
 pub mod Runs
 pub mod Sound
 pub mod Survey

@@ -6,7 +6,7 @@ use Rattle.rules.specs.Line.{linesIn}
 use Rattle.machine.specs.Run.{partsIn}
 use Rattle.machine.specs.Stands.{Going}
 use Rattle.machine.proofs.Sound.{sound}
-use Rattle.strike.proofs.Whole.{going-start}
+use Rattle.machine.proofs.Start.{going-start}
 use borrow.Author.Needs.{needs}
 use Rattle.show.proofs.hardened_steps.list_accepted.Statement.{statement}
 use Rattle.show.proofs.hardened_steps.list_accepted.Tie as tie

@@ -8,7 +8,8 @@ use Rattle.machine.specs.Step.{mapOf}
 use Rattle.machine.specs.Run.{partsIn}
 use Rattle.machine.specs.Stands.{Going}
 use Rattle.strike.specs.Struck.{struckOf}
-use Rattle.strike.proofs.Whole.{going-start, answer-is}
+use Rattle.machine.proofs.Start.{going-start}
+use Rattle.strike.proofs.Whole.{answer-is}
 use borrow.Author.Needs.{needs}
 use Rattle.strike.proofs.table.run_mapped.Statement.{statement}
 use Rattle.strike.proofs.table.run_mapped.Tie as tie

@@ -7,7 +7,7 @@ use lib.ListN.{drop}
 use lib.Seq.{length-take-le}
 use Rattle.strike.specs.Struck.{acceptedRun}
 use Rattle.machine.proofs.Sound.{sound}
-use Rattle.strike.proofs.Whole.{words-after}
+use Rattle.guard.proofs.Zeroed.{words-after}
 use borrow.Author.Needs.{needs}
 use Rattle.strike.proofs.table.run_table.Statement.{statement}
 use Rattle.strike.proofs.table.run_table.Tie as tie

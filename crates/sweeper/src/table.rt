@@ -1,0 +1,1 @@
+// A sweep of a table that is known to be hardened.
