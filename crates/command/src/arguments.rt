@@ -1,4 +1,4 @@
-// The command line: which run, and with what.
+// The command line of the program `run`: which run, and with what. The loop over the words is `sweep`'s too.
 ghost use mathlib.Core.Path.{_≡_};
 ghost use lib.ListN.{length};
 use crate::word;
@@ -9,11 +9,13 @@ use console::word::is;
 use rules::limits::NO_STEP;
 use rules::limits::VARIABLES;
 
-// A budget, a jump, `trace` and `show` are given once at most.
+// A budget, a jump, `trace`, `show` and `list` are given once at most. A sweep has no jump, `trace` or `show`, a run no `list`.
 pub struct Asked {
     pub hardened: bool,
+    pub sweep: bool,
     pub trace: bool,
     pub show: bool,
+    pub list: bool,
     pub budgeted: bool,
     pub struck: bool,
     pub budget: u16,
@@ -47,28 +49,34 @@ pub fn read(buffer: &mut [u8], variables: &mut [u16; VARIABLES]) -> Given
         return wrong(Expected::Shorter, 4096);
     }
     if is(&buffer[..n], b"source") {
-        return read_rest(begun(false), buffer, variables);
+        return read_rest(2, begun(false), buffer, variables);
     }
     if is(&buffer[..n], b"hardened") {
-        return read_rest(begun(true), buffer, variables);
+        return read_rest(2, begun(true), buffer, variables);
     }
     wrong(Expected::Run, n)
 }
 
-// The words behind the first.
-fn read_rest(start: Asked, buffer: &mut [u8], variables: &mut [u16; VARIABLES]) -> Given
+// The words from the one with this number on, which is 2 in a run and 1 in a sweep.
+pub fn read_rest(
+    first: usize,
+    start: Asked,
+    buffer: &mut [u8],
+    variables: &mut [u16; VARIABLES],
+) -> Given
     requires { ⌜ 4096 ≡ length (now buffer) ⌝ }
 {
     let count = os::arg_count();
     let mut seen = [0u8; VARIABLES];
     let mut asked = start;
-    let mut i = 2;
+    let mut i = first;
     while i < count {
         let n = os::arg(i, buffer);
         if is_long() {
             return wrong(Expected::Shorter, 4096);
         }
-        match take(word::read(&buffer[..n]), asked, variables, &mut seen) {
+        let w = word::read(&buffer[..n], asked.sweep);
+        match take(w, asked, variables, &mut seen) {
             Taken::Wrong(e) => return wrong(e, n),
             Taken::Right(a) => asked = a,
         }
@@ -87,11 +95,13 @@ fn wrong(expected: Expected, length: usize) -> Given {
 }
 
 // No jump, and the largest budget.
-fn begun(hardened: bool) -> Asked {
+pub fn begun(hardened: bool) -> Asked {
     Asked {
         hardened,
+        sweep: false,
         trace: false,
         show: false,
+        list: false,
         budgeted: false,
         struck: false,
         budget: 65535,
@@ -107,17 +117,28 @@ fn take(w: Word, a: Asked, variables: &mut [u16; VARIABLES], seen: &mut [u8; VAR
         Word::Jump(k, p) => take_jump(k, p, a),
         Word::Trace => take_trace(a),
         Word::Show => take_show(a),
-        Word::Wrong(e) => Taken::Wrong(fitting(e, a.hardened)),
+        Word::List => take_list(a),
+        Word::Wrong(e) => Taken::Wrong(fitting(e, a)),
     }
 }
 
-// A source run has no jump.
-fn fitting(e: Expected, hardened: bool) -> Expected {
-    if hardened {
+// What a sweep, a hardened run or a source run expects there. A source run has no jump.
+fn fitting(e: Expected, a: Asked) -> Expected {
+    if a.sweep {
+        return in_sweep(e);
+    }
+    if a.hardened {
         return in_hardened(e);
     }
     match e {
         Expected::Jump => Expected::NoJump,
+        _ => e,
+    }
+}
+
+fn in_sweep(e: Expected) -> Expected {
+    match e {
+        Expected::Any => Expected::AnyOrList,
         _ => e,
     }
 }
@@ -171,6 +192,15 @@ fn take_show(a: Asked) -> Taken {
     Taken::Right(b)
 }
 
+fn take_list(a: Asked) -> Taken {
+    if a.list {
+        return Taken::Wrong(Expected::OneList);
+    }
+    let mut b = a;
+    b.list = true;
+    Taken::Right(b)
+}
+
 // `seen` has a 1 for each variable that was given.
 fn take_variable(
     k: u16,
@@ -180,7 +210,7 @@ fn take_variable(
     seen: &mut [u8; VARIABLES],
 ) -> Taken {
     if 15 < k {
-        return Taken::Wrong(fitting(Expected::Any, a.hardened));
+        return Taken::Wrong(fitting(Expected::Any, a));
     }
     let Number::Value(x) = value else {
         return Taken::Wrong(Expected::Variable(k));

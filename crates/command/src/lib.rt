@@ -1,4 +1,5 @@
-// The command line of the program `run`: what it asks for, or which word is wrong.
+// The command lines of the programs `run` and `sweep`: what they ask for, or which word is wrong.
 pub mod arguments;
+pub mod sweep_words;
 mod word;
 pub mod wrong;

@@ -1,4 +1,4 @@
-// What one word behind the first says.
+// What one word says, in a sweep or behind the first word of a run.
 use crate::wrong::Expected;
 use console::number::Number;
 use console::number::decimal;
@@ -13,23 +13,42 @@ pub enum Word {
     Jump(u16, u16),
     Trace,
     Show,
+    List,
     Wrong(Expected),
 }
 
-pub fn read(word: &[u8]) -> Word {
+pub fn read(word: &[u8], sweep: bool) -> Word {
+    if sweep {
+        return of_sweep(word);
+    }
+    of_run(word)
+}
+
+fn of_sweep(word: &[u8]) -> Word {
+    if is(word, b"list") {
+        return Word::List;
+    }
+    of_both(word)
+}
+
+fn of_run(word: &[u8]) -> Word {
     if is(word, b"trace") {
         return Word::Trace;
     }
     if is(word, b"show") {
         return Word::Show;
     }
-    let b = skip(word, b"budget=");
-    if 0 < b {
-        return budget(&word[b..]);
-    }
     let j = skip(word, b"jump=");
     if 0 < j {
         return jump(&word[j..]);
+    }
+    of_both(word)
+}
+
+fn of_both(word: &[u8]) -> Word {
+    let b = skip(word, b"budget=");
+    if 0 < b {
+        return budget(&word[b..]);
     }
     let v = skip(word, b"v");
     if 0 < v {

@@ -3,9 +3,10 @@
 pub enum Expected {
     // the first word
     Run,
-    // any other word, in a source run and in a hardened run
+    // any other word, in a source run, in a hardened run and in a sweep
     Any,
     AnyOrJump,
+    AnyOrList,
     // a number, or two
     Budget,
     Variable(u16),
@@ -18,6 +19,7 @@ pub enum Expected {
     OneJump,
     OneTrace,
     OneShow,
+    OneList,
     // so many bytes at most
     Shorter,
 }
@@ -54,6 +56,7 @@ fn expect(expected: Expected) {
         Expected::AnyOrJump => {
             say_word(b"budget=0..65535, v0..v15=0..65535, jump=STEP:PLACE, trace or show")
         }
+        Expected::AnyOrList => say_word(b"budget=0..65535, v0..v15=0..65535 or list"),
         Expected::Budget => say_word(b"budget=0..65535"),
         Expected::Variable(k) => variable(k, b"=0..65535"),
         Expected::Jump => say_word(b"jump=STEP:PLACE, each 0..65535"),
@@ -63,6 +66,7 @@ fn expect(expected: Expected) {
         Expected::OneJump => say_word(b"jump only once"),
         Expected::OneTrace => say_word(b"trace only once"),
         Expected::OneShow => say_word(b"show only once"),
+        Expected::OneList => say_word(b"list only once"),
         Expected::Shorter => say_word(b"at most 4096 bytes"),
     }
 }

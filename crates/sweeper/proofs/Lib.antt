@@ -1,3 +1,5 @@
 pub mod Settling
 pub mod Walking
 pub mod Sweeping
+pub mod Trial
+pub mod Answers

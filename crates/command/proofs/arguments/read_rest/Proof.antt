@@ -7,10 +7,10 @@ use Rattle.command.proofs.arguments.read_rest.Statement.{statement}
 use Rattle.command.proofs.arguments.read_rest.Tie as tie
 
 abbrev Inv-loop : tie.InvT-loop
-Inv-loop buffer₀ variables₀ count seen₀ asked₀ i₀ buffer variables seen asked i = length buffer ≡ 4096
+Inv-loop first buffer₀ variables₀ count seen₀ asked₀ i₀ buffer variables seen asked i = length buffer ≡ 4096
 
 abbrev μ-loop : tie.MeasureT-loop
-μ-loop buffer₀ variables₀ count seen₀ asked₀ i₀ buffer variables seen asked i = count - i
+μ-loop first buffer₀ variables₀ count seen₀ asked₀ i₀ buffer variables seen asked i = count - i
 
 arg-count-requires : tie.Need-arg-count-requires Inv-loop μ-loop
 arg-count-requires c κs = search needs
