@@ -7,10 +7,14 @@ ghost use Rattle.rules.specs.TablePromise.{HardenPromise, CheckHardenedPromise,
 ghost use Rattle.rules.specs.Promise.{HardenedPromise};
 ghost use Rattle.rules.specs.Measure.{MeasurePromise};
 ghost use Rattle.rules.specs.Steps.{StepsPromise};
+ghost use Rattle.rules.specs.SweepCall.{SweepPromise, SweepOtherPromise};
+ghost use Rattle.sweeper.specs.Call.{sweeps, asks};
 ghost use Rattle.finuraho.specs.Given.{writes, runs, hardenedRuns};
+use rules::answer::AnyOther;
 use rules::answer::Fault;
 use rules::answer::Measured;
 use rules::answer::Ran;
+use rules::answer::Swept;
 use rules::answer::Wrote;
 use rules::limits::VARIABLES;
 
@@ -88,4 +92,30 @@ pub extern "C" fn finuraho_run_hardened(
     ensures { λ r. ⌜ HardenedPromise (now (lines .entry)) (now (variables .entry)) budget step place (now (trace .entry)) (now (counters .entry)) (hardenedRuns r (now (trace .exit)) (now (counters .exit))) ⌝ }
 {
     crate::run_hardened(lines, *variables, budget, step, place, trace, counters)
+}
+
+#[no_mangle]
+pub extern "C" fn finuraho_sweep(
+    lines: &[u8],
+    variables: &[u16; VARIABLES],
+    budget: u16,
+    trace: &mut [u16],
+    counters: &mut [u16],
+) -> Swept
+    ensures { λ r. ⌜ SweepPromise (now (lines .entry)) (now (variables .entry)) budget (now (trace .entry)) (now (counters .entry)) (sweeps r (now (trace .exit)) (now (counters .exit))) ⌝ }
+{
+    crate::sweep(lines, *variables, budget, trace, counters)
+}
+
+#[no_mangle]
+pub extern "C" fn finuraho_sweep_other(
+    lines: &[u8],
+    variables: &[u16; VARIABLES],
+    budget: u16,
+    trace: &mut [u16],
+    counters: &mut [u16],
+) -> AnyOther
+    ensures { λ r. ⌜ SweepOtherPromise (now (lines .entry)) (now (variables .entry)) budget (now (trace .entry)) (now (counters .entry)) (asks r (now (trace .exit)) (now (counters .exit))) ⌝ }
+{
+    crate::sweep_other(lines, *variables, budget, trace, counters)
 }

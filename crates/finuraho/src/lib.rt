@@ -1,7 +1,8 @@
-// The public calls. Each promises one equation with its definition in rules/specs (Calls, Fault, Measure, and Match for the steps): number,
+// The public calls. Each promises one equation with its definition in rules/specs (Calls, Fault, Measure, SweepCall, and Match for the steps): number,
 // lengths and every lent buffer, for every input; none has a `requires`. Beside it hardening and reading back promise demand 2 of the call's
 // own bytes (TablePromise), a hardened run demand 3 of its own bytes, values, budget and jump (Promise), measuring what hardening then
-// shows (Measure), and the sum of steps what running then shows (Steps).
+// shows (Measure), the sum of steps what running then shows (Steps), and the sweeps that the four counts add up and that the second call
+// tells of the third (SweepCall).
 ghost use mathlib.Core.Path.{_≡_};
 ghost use Rattle.rules.specs.declared.refusal.Verdict.the-variants.{Accepted};
 ghost use Rattle.rules.specs.Calls.{checkCall, runSourceCall, shortOutput, writing};
@@ -11,6 +12,8 @@ ghost use Rattle.rules.specs.Promise.{HardenedPromise};
 ghost use Rattle.rules.specs.Given.{givenVerdict};
 ghost use Rattle.rules.specs.Measure.{measureCall, MeasurePromise};
 ghost use Rattle.rules.specs.Steps.{StepsPromise};
+ghost use Rattle.rules.specs.SweepCall.{SweepPromise, SweepOtherPromise};
+ghost use Rattle.sweeper.specs.Call.{sweeps, asks};
 ghost use Rattle.finuraho.specs.Given.{writes, refusedWith, runs, hardenedRuns};
 
 pub mod export;
@@ -19,9 +22,11 @@ mod switched;
 
 use fault::Found;
 use rows::WIDTH;
+use rules::answer::AnyOther;
 use rules::answer::Fault;
 use rules::answer::Measured;
 use rules::answer::Ran;
+use rules::answer::Swept;
 use rules::answer::Wrote;
 use rules::limits::VARIABLES;
 use rules::number;
@@ -194,4 +199,38 @@ pub fn run_hardened(
         return run::hardened_run(lines, variables, budget, step, place, trace, counters);
     }
     run::refused(Refusal::NotHardened, variables)
+}
+
+// Strikes each step of the unstruck run with each place of the function running then, place m included, and counts how the struck runs end:
+// with an alarm, finished with the trace of the unstruck run, finished with another, not finished. 13 where the unstruck run does not finish
+// in the budget. The slots then hold its trace, and the first 1,024 counter words are 0.
+pub fn sweep(
+    lines: &[u8],
+    variables: [u16; VARIABLES],
+    budget: u16,
+    trace: &mut [u16],
+    counters: &mut [u16],
+) -> Swept
+    ensures { λ r. ⌜ SweepPromise (now (lines .entry)) variables budget (now (trace .entry)) (now (counters .entry)) (sweeps r (now (trace .exit)) (now (counters .exit))) ⌝ }
+{
+    if reader::is_hardened(lines) {
+        return sweeper::call::sweep(lines, variables, budget, trace, counters);
+    }
+    sweeper::call::refused(Refusal::NotHardened)
+}
+
+// Whether any of these runs finishes with another trace: it stops at the first.
+pub fn sweep_other(
+    lines: &[u8],
+    variables: [u16; VARIABLES],
+    budget: u16,
+    trace: &mut [u16],
+    counters: &mut [u16],
+) -> AnyOther
+    ensures { λ r. ⌜ SweepOtherPromise (now (lines .entry)) variables budget (now (trace .entry)) (now (counters .entry)) (asks r (now (trace .exit)) (now (counters .exit))) ⌝ }
+{
+    if reader::is_hardened(lines) {
+        return sweeper::call::sweep_other(lines, variables, budget, trace, counters);
+    }
+    sweeper::call::refused_any(Refusal::NotHardened)
 }

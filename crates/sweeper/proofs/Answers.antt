@@ -16,8 +16,8 @@ use Rattle.rules.specs.Sweep.{anyOther}
 use Rattle.rules.specs.SweepCall.{unstruckOf, countsOf}
 use Rattle.machine.specs.Step.{mapOf}
 use Rattle.machine.specs.Stands.{Sound, Ready}
-use Rattle.sweeper.specs.declared.table.Swept.the-variants.{NotFinished, Counted}
-use Rattle.sweeper.specs.declared.table.Asked.the-variants as asked
+use Rattle.sweeper.specs.declared.table.Count.the-variants as count
+use Rattle.sweeper.specs.declared.table.Search.the-variants as search
 use Rattle.sweeper.specs.declared.table.Prepared.{Prepared}
 use Rattle.sweeper.specs.declared.table.Prepared.the-variants as prepared
 use Rattle.sweeper.specs.Steps.{Finishes}
@@ -29,10 +29,10 @@ module _ (bs vs : List ℕ) (b : ℕ) (slots words starts owners slots′ words�
     kept : PreparedBy bs vs b slots words slots′ words′ prepared.NotFinished
     kept = subst (PreparedBy bs vs b slots words slots′ words′) e (p .is)
 
-    pub swept-not : sweptWith NotFinished slots′ words′ ≡ sweptOf bs vs b slots words
+    pub swept-not : sweptWith count.NotFinished slots′ words′ ≡ sweptOf bs vs b slots words
     swept-not = rw (ne-eqb (outcomeIn bs vs b) 1 (kept .0)) (rw (kept .1, kept .2))
 
-    pub asked-not : askedWith asked.NotFinished slots′ words′ ≡ askedOf bs vs b slots words
+    pub asked-not : askedWith search.NotFinished slots′ words′ ≡ askedOf bs vs b slots words
     asked-not = rw (ne-eqb (outcomeIn bs vs b) 1 (kept .0)) (rw (kept .1, kept .2))
 
   -- ---- it finishes
@@ -58,8 +58,8 @@ module _ (bs vs : List ℕ) (b : ℕ) (slots words starts owners slots′ words�
     pub finishes : Finishes (linesIn bs) vs b (take n slots′)
     finishes = record { finished = done .0; trace-is = ap (λ i. take i slots′) rows-are ∙ ap (take (length trace)) slots-are ∙ take-append-seam trace (drop (length trace) slots) }
 
-    pub swept-is : (c : Counts) → c ≡ countsOf bs vs b → (ws : List ℕ) → ws ≡ zeros counterWords → sweptWith (Counted c) slots′ ws ≡ sweptOf bs vs b slots words
+    pub swept-is : (c : Counts) → c ≡ countsOf bs vs b → (ws : List ℕ) → ws ≡ zeros counterWords → sweptWith (count.Of c) slots′ ws ≡ sweptOf bs vs b slots words
     swept-is c q ws z = rw (eq-eqb (outcomeIn bs vs b) 1 (done .0)) (rw (q, slots-are, z))
 
-    pub asked-is : (y : Bool) → y ≡ anyOther (countsOf bs vs b) → (ws : List ℕ) → ws ≡ zeros counterWords → askedWith (asked.Any y) slots′ ws ≡ askedOf bs vs b slots words
+    pub asked-is : (y : Bool) → y ≡ anyOther (countsOf bs vs b) → (ws : List ℕ) → ws ≡ zeros counterWords → askedWith (search.Found y) slots′ ws ≡ askedOf bs vs b slots words
     asked-is y q ws z = rw (eq-eqb (outcomeIn bs vs b) 1 (done .0)) (rw (q, slots-are, z))

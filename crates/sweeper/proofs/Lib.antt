@@ -3,3 +3,4 @@ pub mod Walking
 pub mod Sweeping
 pub mod Trial
 pub mod Answers
+pub mod Giving

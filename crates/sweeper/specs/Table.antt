@@ -16,10 +16,10 @@ use Rattle.rules.specs.Calls.{over, zeros}
 use Rattle.rules.specs.Sweep.{anyOther}
 use Rattle.rules.specs.SweepCall.{unstruckOf, countsOf}
 use Rattle.machine.specs.Stands.{Located}
-use Rattle.sweeper.specs.declared.table.Swept.{Swept}
-use Rattle.sweeper.specs.declared.table.Swept.the-variants.{NotFinished, Counted}
-use Rattle.sweeper.specs.declared.table.Asked as Asked
-use Rattle.sweeper.specs.declared.table.Asked.the-variants as asked
+use Rattle.sweeper.specs.declared.table.Count as Count
+use Rattle.sweeper.specs.declared.table.Count.the-variants as count
+use Rattle.sweeper.specs.declared.table.Search as Search
+use Rattle.sweeper.specs.declared.table.Search.the-variants as search
 use Rattle.sweeper.specs.declared.table.Prepared as Prepared
 use Rattle.sweeper.specs.declared.table.Prepared.the-variants as prepared
 
@@ -58,29 +58,29 @@ pub record PreparedIs (lines vars : List ℕ) (budget : ℕ) (slots words starts
 
 -- ---- the answers, with the slots and the words after them
 pub record Sweeping : Type 0 where
-  pub answer : Swept
+  pub answer : Count.Count
   pub slots : List ℕ
   pub words : List ℕ
 
-abbrev pub sweptWith : Swept → (slots words : List ℕ) → Sweeping
+abbrev pub sweptWith : Count.Count → (slots words : List ℕ) → Sweeping
 sweptWith r slots words = record { answer = r; slots = slots; words = words }
 
 abbrev pub sweptOf : (lines vars : List ℕ) → (budget : ℕ) → (slots words : List ℕ) → Sweeping
 sweptOf bs vs b slots words =
     cond (eqb (outcomeIn bs vs b) 1)
-    (sweptWith (Counted (countsOf bs vs b)) (over ((unstruckOf bs vs b) .state .trace) slots) (zeros counterWords))
-    (sweptWith NotFinished slots words)
+    (sweptWith (count.Of (countsOf bs vs b)) (over ((unstruckOf bs vs b) .state .trace) slots) (zeros counterWords))
+    (sweptWith count.NotFinished slots words)
 
 pub record Asking : Type 0 where
-  pub answer : Asked.Asked
+  pub answer : Search.Search
   pub slots : List ℕ
   pub words : List ℕ
 
-abbrev pub askedWith : Asked.Asked → (slots words : List ℕ) → Asking
+abbrev pub askedWith : Search.Search → (slots words : List ℕ) → Asking
 askedWith r slots words = record { answer = r; slots = slots; words = words }
 
 abbrev pub askedOf : (lines vars : List ℕ) → (budget : ℕ) → (slots words : List ℕ) → Asking
 askedOf bs vs b slots words =
     cond (eqb (outcomeIn bs vs b) 1)
-    (askedWith (asked.Any (anyOther (countsOf bs vs b))) (over ((unstruckOf bs vs b) .state .trace) slots) (zeros counterWords))
-    (askedWith asked.NotFinished slots words)
+    (askedWith (search.Found (anyOther (countsOf bs vs b))) (over ((unstruckOf bs vs b) .state .trace) slots) (zeros counterWords))
+    (askedWith search.NotFinished slots words)

@@ -27,14 +27,14 @@ use rules::limits::LINES;
 use rules::limits::VARIABLES;
 use state::machine::begun;
 
-pub enum Swept {
+pub enum Count {
     NotFinished,
-    Counted(Counts),
+    Of(Counts),
 }
 
-pub enum Asked {
+pub enum Search {
     NotFinished,
-    Any(bool),
+    Found(bool),
 }
 
 // Where the run finishes: the a of function 0's ret, and how long its trace is.
@@ -132,7 +132,7 @@ pub fn sweep(
     budget: u16,
     trace: &mut [u16],
     words: &mut [u16],
-) -> Swept
+) -> Count
     requires { ⌜ (isHardened (now lines) ≡ true) × (budget ≤ length (now trace)) × (length (now words) ≡ counterWords) ⌝ }
     ensures { λ r. ⌜ sweptWith r (now (trace .exit)) (now (words .exit)) ≡ sweptOf (now (lines .entry)) variables budget (now (trace .entry)) (now (words .entry)) ⌝ }
 {
@@ -152,7 +152,7 @@ pub fn sweep(
         &mut rows,
     );
     let Prepared::Traced(home, n) = p else {
-        return Swept::NotFinished;
+        return Count::NotFinished;
     };
     let length = n as usize;
     let c = steps::count(
@@ -168,7 +168,7 @@ pub fn sweep(
         &mut rows,
     );
     counters::clear(words);
-    Swept::Counted(c)
+    Count::Of(c)
 }
 
 // Whether the third count is above 0.
@@ -178,7 +178,7 @@ pub fn sweep_other(
     budget: u16,
     trace: &mut [u16],
     words: &mut [u16],
-) -> Asked
+) -> Search
     requires { ⌜ (isHardened (now lines) ≡ true) × (budget ≤ length (now trace)) × (length (now words) ≡ counterWords) ⌝ }
     ensures { λ r. ⌜ askedWith r (now (trace .exit)) (now (words .exit)) ≡ askedOf (now (lines .entry)) variables budget (now (trace .entry)) (now (words .entry)) ⌝ }
 {
@@ -198,7 +198,7 @@ pub fn sweep_other(
         &mut rows,
     );
     let Prepared::Traced(home, n) = p else {
-        return Asked::NotFinished;
+        return Search::NotFinished;
     };
     let length = n as usize;
     let any = steps::any(
@@ -214,5 +214,5 @@ pub fn sweep_other(
         &mut rows,
     );
     counters::clear(words);
-    Asked::Any(any)
+    Search::Found(any)
 }
