@@ -4,3 +4,4 @@ pub mod Sweeping
 pub mod Trial
 pub mod Answers
 pub mod Giving
+pub mod Cases

@@ -185,3 +185,8 @@ pub search-on : {bs : List ℕ} {mp : Map} {b : ℕ} {tr vs : List ℕ} {left : 
     → Searching bs mp b tr vs (left - 1) m′ ws′ (at + x .machine .registers .traced)
 search-on w rows long x ws′ rows′ e i z m′ q r n y ye yf =
     record { k = suc (w .k); sweeping = sweep-on (w .sweeping) rows long x ws′ rows′ e i z m′ q; none = none-yet (w .sweeping) (w .none) r n y ye yf }
+
+-- ---- the steps alone
+pub record Stepping (bs : List ℕ) (mp : Map) (b : ℕ) (tr vs : List ℕ) (left : ℕ) (m : Machine) (ws : List ℕ) (at : ℕ) : Type 0 where
+  pub k : ℕ
+  pub sweeping : Sweeping bs mp b tr vs k left m ws at

@@ -1,4 +1,4 @@
 // The whole sweep of a hardened table (02, No. 4).
 pub mod call;
 pub mod steps;
-mod table;
+pub mod table;

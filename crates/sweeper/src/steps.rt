@@ -106,7 +106,7 @@ pub fn count(
     c
 }
 
-fn is_other(e: Ending) -> bool
+pub fn is_other(e: Ending) -> bool
     ensures { λ r. ⌜ r ≡ isOther e ⌝ }
 {
     match e {

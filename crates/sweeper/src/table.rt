@@ -43,7 +43,7 @@ pub enum Prepared {
     Traced(u16, u16),
 }
 
-fn no_words() -> [u16; COUNTERS]
+pub fn no_words() -> [u16; COUNTERS]
     ensures { λ r. ⌜ length r ≡ counterWords ⌝ }
 {
     [0; COUNTERS]
@@ -102,7 +102,7 @@ fn record_trace(
 }
 
 // Where the functions are, and the trace of the unstruck run, where that finishes.
-fn prepare(
+pub fn prepare(
     lines: &[u8],
     variables: [u16; VARIABLES],
     budget: u16,

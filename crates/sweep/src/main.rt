@@ -1,0 +1,113 @@
+// Sweeps a hardened table at the bench (02, No. 4):
+//
+//     sweep [budget=N] [v0=N .. v15=N] [list] < lines
+//
+// It prints how many of the struck runs ended with an alarm, finished with the trace of the unstruck run, finished with another, and did not
+// finish, each on a line of its own, and with `list` each jump across one do that finished with another trace before them; or `refused N`,
+// or `unreadable`, as the other programs do. docs/PROGRAMS.md has every word of it.
+ghost use mathlib.Core.Path.{_≡_};
+ghost use lib.ListN.{length};
+
+mod jump;
+mod list;
+
+use command::sweep_words;
+use command::sweep_words::SweepAsked;
+use command::sweep_words::SweepGiven;
+use command::wrong;
+use console::input;
+use console::input::Read;
+use console::output;
+use console::print;
+use console::start;
+use rules::answer::Swept;
+use rules::limits::COUNTERS;
+use rules::limits::VARIABLES;
+
+// Slots for the longest trace.
+fn slots() -> [u16; 65535] {
+    [0; 65535]
+}
+
+fn main() {
+    if start::asks_help() {
+        start::tell(
+            b"usage: sweep [budget=N] [v0=N .. v15=N] [list] < lines
+N is 0 to 65535. Without budget= it is 65535, without v0= to v15= they are 0.
+list lists each jump across one do that finished with another trace.
+",
+        );
+        return;
+    }
+    take_words();
+}
+
+fn take_words() {
+    let mut buffer = io::buffer();
+    let mut variables = [0u16; VARIABLES];
+    match sweep_words::read(&mut buffer, &mut variables) {
+        SweepGiven::Wrong(f) => {
+            let expected = f.expected;
+            let n = output::within(f.length, &buffer);
+            wrong::say(&mut buffer[..n], expected);
+        }
+        SweepGiven::Right(a) => {
+            let mut bytes = io::large_buffer();
+            take_lines(a, variables, &mut buffer, &mut bytes);
+        }
+    }
+}
+
+fn take_lines(a: SweepAsked, variables: [u16; VARIABLES], chunk: &mut [u8], bytes: &mut [u8])
+    requires { ⌜ 65536 ≡ length (now bytes) ⌝ }
+{
+    match input::take_lines(chunk, bytes) {
+        Read::Bytes(n) => {
+            let all = output::within(n, bytes);
+            sweep(a, &bytes[..all], variables);
+        }
+        Read::Nothing => {}
+    }
+}
+
+fn sweep(a: SweepAsked, lines: &[u8], variables: [u16; VARIABLES]) {
+    let mut text = io::large_buffer();
+    let mut trace = slots();
+    let mut counters = [0u16; COUNTERS];
+    let r = finuraho::sweep(lines, variables, a.budget, &mut trace, &mut counters);
+    if r.number != 0 {
+        output::refused(r.number, &mut text);
+        return;
+    }
+    let at = listed(a, lines, variables, &mut trace, &mut counters, &mut text);
+    tell(r, at, &mut text);
+}
+
+// With the word `list`: how many bytes the buffer then holds.
+fn listed(
+    a: SweepAsked,
+    lines: &[u8],
+    variables: [u16; VARIABLES],
+    trace: &mut [u16; 65535],
+    counters: &mut [u16; COUNTERS],
+    text: &mut [u8; 65536],
+) -> usize {
+    if !a.list {
+        return 0;
+    }
+    list::list(lines, variables, a.budget, trace, counters, text)
+}
+
+fn count(name: &[u8], x: u32, at: usize, text: &mut [u8; 65536]) -> usize {
+    let named = print::word(name, at, text);
+    let number = print::number(x as u64, named, text);
+    print::put(b'\n', number, text)
+}
+
+fn tell(r: Swept, at: usize, text: &mut [u8; 65536]) {
+    let alarms = count(b"alarm ", r.alarms, at, text);
+    let same = count(b"same ", r.same, alarms, text);
+    let other = count(b"other ", r.other, same, text);
+    let all = count(b"unfinished ", r.unfinished, other, text);
+    print::flush(all, text);
+}
