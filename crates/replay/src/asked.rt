@@ -39,6 +39,8 @@ fn bytes_after(kind: u8) -> u8 {
         b'm' => 1,
         b's' => 4,
         b't' => 4,
+        b'w' => 5,
+        b'o' => 5,
         b'H' => 7,
         _ => 2,
     }

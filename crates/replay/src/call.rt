@@ -7,6 +7,7 @@ use crate::asked::Asked;
 use crate::asked::size;
 use crate::runs;
 use crate::show;
+use crate::sweeps;
 use rules::answer::Wrote;
 
 pub fn answer(
@@ -26,6 +27,10 @@ pub fn answer(
     }
     if s.kind == b'H' {
         runs::hardened(&bytes[..n], numbers, trace, counters);
+        return;
+    }
+    if sweeps::is_sweep(s.kind) {
+        sweeps::either(s.kind, &bytes[..n], numbers, trace, counters);
         return;
     }
     if s.kind == b't' {

@@ -9,6 +9,7 @@ mod asked;
 mod call;
 mod runs;
 mod show;
+mod sweeps;
 
 use asked::Asked;
 

@@ -6,13 +6,13 @@ use crate::asked::size;
 use crate::show;
 use rules::answer::Ran;
 
-// What slots and counter words hold before a run.
-const SLOT: u16 = 43690;
+// What slots and counter words hold before a run or a sweep.
+pub const SLOT: u16 = 43690;
 
-const WORD: u16 = 21845;
+pub const WORD: u16 = 21845;
 
 // Sixteen of the numbers, as the first values.
-fn values(numbers: &[u16], from: usize) -> [u16; 16]
+pub fn values(numbers: &[u16], from: usize) -> [u16; 16]
     requires { ⌜ from + 16 ≤ length (now numbers) ⌝ }
 {
     let mut all = [0u16; 16];
@@ -24,7 +24,7 @@ fn values(numbers: &[u16], from: usize) -> [u16; 16]
     all
 }
 
-fn fill(words: &mut [u16], x: u16) {
+pub fn fill(words: &mut [u16], x: u16) {
     let mut at = 0;
     while at < words.len() {
         words[at] = x;
@@ -111,7 +111,7 @@ fn all_are(words: &[u16], x: u16) -> bool {
 }
 
 // What became of the counter words: `zero`, the first 1,024 of them; `kept`; `other`.
-fn words_after(counters: &[u16]) {
+pub fn words_after(counters: &[u16]) {
     if all_are(counters, WORD) {
         io::write_all(1, b" kept");
         return;

@@ -12,6 +12,8 @@ use Rattle.replay.proofs.call.tables.Reads as tables-reads
 use Rattle.replay.proofs.runs.hardened.Reads as hardened-reads
 use Rattle.replay.proofs.runs.source.Reads as source-reads
 use Rattle.replay.proofs.runs.total.Reads as total-reads
+use Rattle.replay.proofs.sweeps.either.Reads as either-reads
+use Rattle.replay.proofs.sweeps.is_sweep.Reads as is-sweep-reads
 
 slice-aggregate-source : tie.Need-slice-aggregate-source
 slice-aggregate-source c = sym (length-take-le _ _ (omega arith))
@@ -40,11 +42,29 @@ same-length-3 c = search needs
 returns-2 : tie.Need-returns-2
 returns-2 c = search needs
 
-total-requires : tie.Need-total-requires
-total-requires c κs = search needs
+is-sweep-requires : tie.Need-is-sweep-requires
+is-sweep-requires c κs = search needs
+
+slice-aggregate-either : tie.Need-slice-aggregate-either
+slice-aggregate-either c = sym (length-take-le _ _ (omega arith))
+
+either-requires : tie.Need-either-requires
+either-requires c κs = search needs
+
+same-length-4 : tie.Need-same-length-4
+same-length-4 c = search needs
+
+same-length-5 : tie.Need-same-length-5
+same-length-5 c = search needs
 
 returns-3 : tie.Need-returns-3
 returns-3 c = search needs
+
+total-requires : tie.Need-total-requires
+total-requires c κs = search needs
+
+returns-4 : tie.Need-returns-4
+returns-4 c = search needs
 
 slice-aggregate-tables : tie.Need-slice-aggregate-tables
 slice-aggregate-tables c = sym (length-take-le _ _ (omega arith))
@@ -58,11 +78,11 @@ size-requires c κs = search needs
 tables-requires : tie.Need-tables-requires
 tables-requires c κs = search needs
 
-same-length-4 : tie.Need-same-length-4
-same-length-4 c = search needs
+same-length-6 : tie.Need-same-length-6
+same-length-6 c = search needs
 
-returns-4 : tie.Need-returns-4
-returns-4 c = search needs
+returns-5 : tie.Need-returns-5
+returns-5 c = search needs
 
 pub answer-spec : {M : Type 1} → statement M
 answer-spec =
@@ -77,11 +97,17 @@ answer-spec =
     same-length-2
     same-length-3
     returns-2
-    total-requires
+    is-sweep-requires
+    slice-aggregate-either
+    either-requires
+    same-length-4
+    same-length-5
     returns-3
+    total-requires
+    returns-4
     slice-aggregate-tables
     shared-slice-read-size
     size-requires
     tables-requires
-    same-length-4
-    returns-4)
+    same-length-6
+    returns-5)
