@@ -19,13 +19,13 @@ pub fn tests(seed: u64, count: usize) -> Vec<Test> {
     tests
 }
 
-/// The budget 65,535 and as many slots, one fewer, one more: answers that spell all slots
+/// The budget 65,535 and as many slots, or one fewer: answers that spell all slots
 /// are longer than the other lines may be.
 pub fn long_tests() -> Vec<Test> {
     let how = |slots| Asked { slots, ..exact(65_535) };
     let mut tests = both(how(65_535), &sweep_programs::listing()).to_vec();
     tests.extend(both(how(65_534), &sweep_programs::listing()));
-    tests.extend(both(how(65_536), &by_recursion()));
+    tests.extend(both(how(65_535), &by_recursion()));
     tests.extend(both(how(65_535), &never_finished()));
     tests
 }
