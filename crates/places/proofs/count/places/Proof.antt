@@ -25,7 +25,7 @@ loop-holds c = (counted-start _ _ _, omega (arith, c .before .pre .0))
 
 -- src/count.rt:99:20
 ending-at-requires : tie.Need-ending-at-requires Inv-loop μ-loop
-ending-at-requires c κs = (c .loop-test .taken, c .before .before .before .pre .2)
+ending-at-requires c κs = (omega (arith, c .loop-test .taken), c .before .before .before .pre .2)
 
 -- src/count.rt:99:9
 add-requires : tie.Need-add-requires Inv-loop μ-loop

@@ -24,11 +24,11 @@ home-of-requires c κs = ((sound (now (c .before .before .before .before .before
 
 -- src/table.rt:121:8
 finishes-requires : tie.Need-finishes-requires
-finishes-requires c κs = ((record { sound = (sound (now (c .before .before .before .before .before .before .before .before .before .before .before .before .before .before .before .args .lines)) (record { each = λ i. omega (arith, c .before .before .before .before .before .before .before .before .before .before .before .before .before .before .shared-slice-known .given i) }) (c .before .before .before .before .before .before .before .before .before .before .before .before .before .before .before .pre .0)); mapped = record { located = c .before .before .before .before .before .before .before .survey .ensures; home-is = c .before .before .before .before .home-of .ensures } }), c .before .before .before .before .before .before .before .before .before .before .before .before .before .before .before .pre .5, c .before .before .before .before .before .before .before .before .before .before .before .before .before .before .before .pre .6)
+finishes-requires c κs = ((record { sound = (sound (now (c .before .before .before .before .before .before .before .before .before .before .before .before .before .before .before .args .lines)) (record { each = λ i. omega (arith, c .before .before .before .before .before .before .before .before .before .before .before .before .before .before .shared-slice-known .given i) }) (c .before .before .before .before .before .before .before .before .before .before .before .before .before .before .before .pre .0)); mapped = record { located = c .before .before .before .before .before .before .before .survey .ensures; home-is = c .before .before .before .before .home-of .ensures } }), omega (arith, c .before .before .before .before .before .before .before .before .before .before .before .before .before .before .before .pre .2, c .before .before .before .before .before .before .before .before .before .before .before .before .before .before .before .pre .5), c .before .before .before .before .before .before .before .before .before .before .before .before .before .before .before .pre .6)
 
 -- src/table.rt:122:13
 record-trace-requires : tie.Need-record-trace-requires
-record-trace-requires c κs = ((record { sound = (sound (now (c .before .before .before .before .before .before .before .before .before .before .before .before .before .before .before .before .before .before .before .before .before .before .before .before .before .args .lines)) (record { each = λ i. omega (arith, c .before .before .before .before .before .before .before .before .before .before .before .before .before .before .before .before .before .before .before .before .before .before .before .before .shared-slice-known .given i) }) (c .before .before .before .before .before .before .before .before .before .before .before .before .before .before .before .before .before .before .before .before .before .before .before .before .before .pre .0)); mapped = record { located = c .before .before .before .before .before .before .before .before .before .before .before .before .before .before .before .before .before .survey .ensures; home-is = c .before .before .before .before .before .before .before .before .before .before .before .before .before .before .home-of .ensures } }), c .before .before .before .before .before .before .before .before .before .before .before .before .before .before .before .before .before .before .before .before .before .before .before .before .before .pre .1, c .before .before .before .before .before .before .before .before .before .before .before .before .before .before .before .before .before .before .before .before .before .before .before .before .before .pre .2)
+record-trace-requires c κs = ((record { sound = (sound (now (c .before .before .before .before .before .before .before .before .before .before .before .before .before .before .before .before .before .before .before .before .before .before .before .before .before .args .lines)) (record { each = λ i. omega (arith, c .before .before .before .before .before .before .before .before .before .before .before .before .before .before .before .before .before .before .before .before .before .before .before .before .shared-slice-known .given i) }) (c .before .before .before .before .before .before .before .before .before .before .before .before .before .before .before .before .before .before .before .before .before .before .before .before .before .pre .0)); mapped = record { located = c .before .before .before .before .before .before .before .before .before .before .before .before .before .before .before .before .before .survey .ensures; home-is = c .before .before .before .before .before .before .before .before .before .before .before .before .before .before .home-of .ensures } }), c .before .before .before .before .before .before .before .before .before .before .before .before .before .before .before .before .before .before .before .before .before .before .before .before .before .pre .1, search needs)
 
 -- src/table.rt:123:9
 same-length : tie.Need-same-length
