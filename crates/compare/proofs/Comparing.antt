@@ -1,10 +1,9 @@
 -- A run made in pieces beside a known trace: what the loop over the pieces keeps. Assumes a hardened table.
 use mathlib.Core.Path.{_≡_, refl, sym, ap, _∙_, subst}
 use mathlib.Core.Logic.{_≢_}
-use mathlib.Core.Bool.{Bool, true, false, _&&_}
-use mathlib.Core.List.{List, [], _++_}
-use Prim.Native.Nat.{ℕ, zero, suc, _+_, _-_, _≤_, _<_}
-use native.Mathlib.Nat.{zero-add}
+use mathlib.Core.Bool.{Bool, true, false, cond, _&&_}
+use mathlib.Core.List.{List, []}
+use Prim.Native.Nat.{ℕ, _+_, _-_, _≤_, _<_}
 use native.Mathlib.Omega.{arith}
 use lib.Dec.{eqb, ltb}
 use lib.ListN.{length, take, drop, length-append, length-drop}
@@ -12,21 +11,19 @@ use lib.Seq.{take-append-seam}
 use borrow.Author.Tests.{ltb-true, ltb-false}
 use Rattle.rules.specs.declared.ending.Ending.{Ending}
 use Rattle.rules.specs.declared.ending.Ending.the-variants.{Unfinished}
-use Rattle.rules.specs.declared.step.Step.{Step}
-use Rattle.rules.specs.declared.step.Step.the-variants.{Went, Finished, Alarm, TooManyOpen, Beyond}
+use Rattle.rules.specs.declared.step.Step.the-variants.{Went}
 use Rattle.rules.specs.declared.strike.Strike.the-variants.{None}
 use Rattle.rules.specs.Bytes.{same}
 use Rattle.rules.specs.Line.{Line, linesIn}
 use Rattle.rules.specs.State.{retraced}
 use Rattle.rules.specs.Run.{Answer, run, outcomeOf}
-use Rattle.rules.specs.Calls.{over}
 use Rattle.rules.specs.Hardened.{Counters, Hardened, counterForm, strikingStep}
 use Rattle.rules.specs.Sweep.{endingOf}
-use Rattle.rules.proofs.Form.Trace.{run-retraced, run-on, run-over}
+use Rattle.rules.proofs.Form.Trace.{run-retraced, run-on, run-on-steps, run-over}
 use Rattle.state.specs.declared.machine.Machine.{Machine}
 use Rattle.state.specs.declared.machine.Stopped.{Stopped}
 use Rattle.state.specs.Machine.{machineAfresh}
-use Rattle.state.proofs.Ends.{IsEnd}
+use Rattle.state.proofs.Ends.{IsEnd, end-not-zero}
 use Rattle.machine.specs.Step.{Map}
 use Rattle.machine.specs.Run.{partsIn, stoppedWith, runOf}
 use Rattle.machine.specs.Stands.{Ready, Stands, Going}
@@ -56,7 +53,7 @@ pub piece-few : (left : ℕ) → pieceOf left ≤ pieceSteps
 unfolding pieceOf
 piece-few left = by (ltb left pieceSteps) refl
   where
-    by : (v : Bool) → ltb left pieceSteps ≡ v → mathlib.Core.Bool.cond v left pieceSteps ≤ pieceSteps
+    by : (v : Bool) → ltb left pieceSteps ≡ v → cond v left pieceSteps ≤ pieceSteps
     by true e = omega (arith, ltb-true left pieceSteps e)
     by false e = omega arith
 
@@ -64,7 +61,7 @@ pub piece-left : (left : ℕ) → pieceOf left ≤ left
 unfolding pieceOf
 piece-left left = by (ltb left pieceSteps) refl
   where
-    by : (v : Bool) → ltb left pieceSteps ≡ v → mathlib.Core.Bool.cond v left pieceSteps ≤ left
+    by : (v : Bool) → ltb left pieceSteps ≡ v → cond v left pieceSteps ≤ left
     by true e = omega arith
     by false e = omega (arith, ltb-false left pieceSteps e)
 
@@ -72,7 +69,7 @@ pub piece-some : (left : ℕ) → 0 < left → 0 < pieceOf left
 unfolding pieceOf
 piece-some left h = by (ltb left pieceSteps)
   where
-    by : (v : Bool) → 0 < mathlib.Core.Bool.cond v left pieceSteps
+    by : (v : Bool) → 0 < cond v left pieceSteps
     by true = h
     by false = omega arith
 
@@ -148,7 +145,7 @@ module _ (bs : List ℕ) (k : Map) (rd : Ready bs k) (known : List ℕ) (budget 
     goes-on = ap (λ y. plainly ls y (c .here)) all-is ∙ run-on (counterForm ls) ls n (left - n) 0 (retraced [] (c .here)) i went
 
     traced-few : x .machine .registers .traced ≤ n
-    traced-few = omega (arith, ended .traced-few i went, ended .steps-are, Rattle.rules.proofs.Form.Trace.run-on-steps (counterForm ls) ls n 0 (retraced [] (c .here)) i went)
+    traced-few = omega (arith, ended .traced-few i went, ended .steps-are, run-on-steps (counterForm ls) ls n 0 (retraced [] (c .here)) i went)
 
     ends-so : endsBeside ok known at (plainly ls left (c .here)) ≡ endsBeside fits known (at + x .machine .registers .traced) rest
     ends-so =
@@ -178,15 +175,7 @@ module _ (bs : List ℕ) (k : Map) (rd : Ready bs k) (known : List ℕ) (budget 
 
   -- where it ended
   ends-not-zero : IsEnd (x .step) → outcomeOf (got .step) ≢ 0
-  unfolding outcomeOf
-  ends-not-zero h q = by (x .step) refl (ap outcomeOf (ended .step-is) ∙ q)
-    where
-      by : (o : Step) → x .step ≡ o → outcomeOf o ≡ 0 → ⊥
-      by (Went j) z y = h j z
-      by Finished z y = omega arith
-      by Alarm z y = omega arith
-      by (TooManyOpen j) z y = omega arith
-      by (Beyond j) z y = omega arith
+  ends-not-zero h q = end-not-zero (x .step) h (ap outcomeOf (ended .step-is) ∙ q)
 
   over-by : IsEnd (x .step) → endedBy (outcomeOf (x .step)) (fits && eqb (at + x .machine .registers .traced) (length known)) ≡ endingOf known (plainly ls budget start)
   over-by h =

@@ -3,7 +3,7 @@
 ghost use mathlib.Core.Path.{_≡_};
 ghost use mathlib.Core.Bool.{_&&_};
 ghost use mathlib.Core.List.{[]};
-ghost use Prim.Native.Nat.{_+_, _<_};
+ghost use Prim.Native.Nat.{_≤_};
 ghost use lib.ListN.{length};
 ghost use Rattle.rules.specs.declared.strike.Strike.the-variants.{None};
 ghost use Rattle.rules.specs.Line.{linesIn};
@@ -43,7 +43,7 @@ fn piece_of(left: u16) -> u16
 
 // Whether the known trace goes on with these rows, from its row `at`.
 fn goes_on(rows: &[u16], known: &[u16], at: usize) -> bool
-    requires { ⌜ at + length (now rows) < 1000000 ⌝ }
+    requires { ⌜ (at ≤ 65535) × (length (now rows) ≤ pieceSteps) ⌝ }
     ensures { λ r. ⌜ r ≡ goesOn (now (rows .entry)) (now (known .entry)) at ⌝ }
 {
     if known.len() < at + rows.len() {

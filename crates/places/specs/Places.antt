@@ -45,6 +45,10 @@ wideOf bs y last d left = cond (ltb 1 left) Alarmed (cond (lateLast bs y last d)
 abbrev pub endingAt : (lines : List ℕ) → (last at across depth : ℕ) → (narrow : Ending) → (left line : ℕ) → Ending
 endingAt bs last at across d narrow left y = cond (eqb y at) Same (cond (eqb y across) narrow (wideOf bs y last d left))
 
+-- the most that 32 bits hold
+abbrev pub maxCount : ℕ
+maxCount = 4294967295
+
 -- the counts with one more for each of the endings 0 to n - 1
 unfoldable pub countedTo : Counts → (n : ℕ) → (ℕ → Ending) → Counts
 countedTo c zero f = c

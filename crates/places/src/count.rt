@@ -4,8 +4,7 @@ ghost use Prim.Native.Nat.{_+_, _*_, _-_, _≤_, _<_};
 ghost use lib.ListN.{length};
 ghost use Rattle.rules.specs.Line.{lineWidth};
 ghost use Rattle.rules.specs.Sweep.{counts, one, plus, total};
-ghost use Rattle.places.specs.Places.{endingAt, countedTo};
-use crate::across::line_across;
+ghost use Rattle.places.specs.Places.{endingAt, maxCount, countedTo};
 use crate::wide;
 use rules::ending::Counts;
 use rules::ending::Ending;
@@ -24,7 +23,7 @@ pub fn nothing() -> Counts
 
 // One run more.
 fn add(c: Counts, e: Ending) -> Counts
-    requires { ⌜ total c < 4294967295 ⌝ }
+    requires { ⌜ total c < maxCount ⌝ }
     ensures { λ r. ⌜ r ≡ plus c (one e) ⌝ }
 {
     match e {
@@ -90,7 +89,7 @@ pub fn places(
     left: u16,
     begun: Counts,
 ) -> Counts
-    requires { ⌜ (first ≤ last) × (last < 65535) × (lineWidth * last ≤ length (now lines)) × (total begun + (last - first) + 1 ≤ 4294967295) ⌝ }
+    requires { ⌜ (first ≤ last) × (last < 65535) × (lineWidth * last ≤ length (now lines)) × (total begun + (last - first) + 1 ≤ maxCount) ⌝ }
     ensures { λ r. ⌜ r ≡ countedTo begun (last - first + 1) (λ p. endingAt (now (lines .entry)) last at across depth narrow left (first + p)) ⌝ }
 {
     let mut c = begun;

@@ -2,7 +2,7 @@
 -- run finishes, a jump to the place where the run stands changes nothing; the theorem settles every wide jump: alarm, or not finished where
 -- the budget ends first. What is left is the jump across one do: past it from its place, or back to it from its tick's.
 -- proofs/Form/Sweep.antt proves the statement of every form that meets demand 3.
-use Prim.Native.Nat.{ℕ, suc, _+_, _-_, _≤_, _<_}
+use Prim.Native.Nat.{ℕ, suc, _-_, _≤_, _<_}
 use mathlib.Core.Path.{_≡_}
 use mathlib.Core.Bool.{Bool, true, false, cond}
 use mathlib.Core.List.{List}

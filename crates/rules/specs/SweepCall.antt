@@ -17,7 +17,7 @@ use Rattle.rules.specs.Run.{Answer, outcomeOf}
 use Rattle.rules.specs.Hardened.{Counters, counterForm}
 use Rattle.rules.specs.Chained.{TenExactly}
 use Rattle.rules.specs.Calls.{over, countersAfter, hardenedVerdict}
-use Rattle.rules.specs.Sweep.{total, sumTo, unstruckRun, placesAt, sweepOf, anyOther}
+use Rattle.rules.specs.Sweep.{sumTo, unstruckRun, placesAt, sweepOf, anyOther}
 
 -- the unstruck run and the sweep of bytes that are a hardened table
 abbrev pub unstruckOf : (lines vars : List ℕ) → (budget : ℕ) → Answer Counters

@@ -1,7 +1,7 @@
 -- The sweep of 01's listing (02, No. 4) in worked cases, as calls, from bytes. crates/sweeper/proofs/Cases.antt closes them by computation.
 use Prim.Native.Nat.{ℕ, _-_}
 use mathlib.Core.Path.{_≡_}
-use mathlib.Core.Bool.{Bool, true, false}
+use mathlib.Core.Bool.{Bool, true}
 use mathlib.Core.List.{List, [], _∷_, _++_}
 use lib.ListN.{length}
 use Rattle.rules.specs.Limits.{counterWords}

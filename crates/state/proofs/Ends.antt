@@ -1,5 +1,5 @@
 -- Steps that end a run, and steps that go on. Assumes nothing.
-use mathlib.Core.Logic.{⊎-elim}
+use mathlib.Core.Logic.{_≢_, ⊎-elim}
 use mathlib.Core.Path.{_≡_, refl, ap}
 use mathlib.Core.List.{[], _∷_}
 use Prim.Native.Nat.{ℕ}
@@ -9,6 +9,7 @@ use denote.Enum.Declared.{tagOf}
 use Rattle.rules.proofs.step.Step.{the-type}
 use Rattle.rules.specs.declared.step.Step.{Step}
 use Rattle.rules.specs.declared.step.Step.the-variants.{Went, Finished, Alarm, TooManyOpen, Beyond}
+use Rattle.rules.specs.Run.{outcomeOf}
 use Rattle.state.specs.Machine.{onward}
 
 abbrev pub IsEnd : Step → Type 0
@@ -32,6 +33,15 @@ onward-end Finished n f z = refl
 onward-end Alarm n f z = refl
 onward-end (TooManyOpen k) n f z = refl
 onward-end (Beyond k) n f z = refl
+
+-- its outcome is not 0
+pub end-not-zero : (o : Step) → IsEnd o → outcomeOf o ≢ 0
+unfolding outcomeOf
+end-not-zero (Went k) n e = n k refl
+end-not-zero Finished n e = omega arith
+end-not-zero Alarm n e = omega arith
+end-not-zero (TooManyOpen k) n e = omega arith
+end-not-zero (Beyond k) n e = omega arith
 
 -- an arm of a `match` that is none of the first variant's
 pub not-went : (s : Step) → OneOf (1 ∷ 2 ∷ 3 ∷ 4 ∷ []) (tagOf the-type s) → IsEnd s

@@ -1,10 +1,9 @@
 -- The lines that are told of a jump across one do. Assumes what the loop over the steps keeps.
-use mathlib.Core.Path.{_≡_, refl, ap}
+use mathlib.Core.Path.{ap}
 use mathlib.Core.List.{List, []}
-use Prim.Native.Nat.{ℕ, _-_, _≤_, _<_}
+use Prim.Native.Nat.{ℕ, _-_, _≤_}
 use native.Mathlib.Omega.{arith}
 use lib.ListN.{length, take, drop}
-use Rattle.rules.specs.declared.step.Step.the-variants.{Went}
 use Rattle.rules.specs.Line.{linesIn}
 use Rattle.rules.specs.Function.{startOf}
 use Rattle.line.proofs.Decode.{line-bytes}

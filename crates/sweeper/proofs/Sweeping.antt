@@ -1,8 +1,8 @@
 -- What the two loops over the steps keep, and what each of their steps does to it. Assumes nothing.
 use mathlib.Core.Path.{_≡_, refl, sym, ap, _∙_, subst}
-use mathlib.Core.Bool.{Bool, true, false, _||_}
+use mathlib.Core.Bool.{Bool, true, false}
 use mathlib.Core.List.{List, []}
-use Prim.Native.Nat.{ℕ, zero, suc, _+_, _*_, _-_, _≤_, _<_}
+use Prim.Native.Nat.{ℕ, zero, suc, _+_, _-_, _≤_}
 use native.Mathlib.Nat.{add-zero, add-suc}
 use native.Mathlib.Omega.{arith}
 use lib.ListN.{length, take, drop}
@@ -15,7 +15,6 @@ use Rattle.rules.specs.Sweep.{counts, total, sumCounts, sweepStep, sweepOf, any
 use Rattle.rules.specs.Settled.{narrowEnding, StandsBefore, isOther, SweepLaw}
 use Rattle.rules.proofs.SweepSums.{anyTo}
 use Rattle.rules.proofs.Form.Other.{any-other, total-bound}
-use Rattle.rules.proofs.Form.Walk.{few-steps}
 use Rattle.rules.proofs.Sweep.{sweeps}
 use Rattle.line.proofs.Decode.{length-lines}
 use Rattle.state.specs.declared.machine.Machine.{Machine}
@@ -30,7 +29,7 @@ use Rattle.machine.specs.Stands.{Ready, Going}
 use Rattle.compare.specs.declared.narrow.Narrow.{Narrow}
 use Rattle.compare.specs.Compared.{pieceSteps, Standing}
 use Rattle.compare.specs.Narrow.{NarrowIs}
-use Rattle.sweeper.specs.Steps.{Finishes, firstOf, lastOf, InTable, placesOf}
+use Rattle.sweeper.specs.Steps.{Finishes, InTable, placesOf}
 use Rattle.sweeper.proofs.Settling.{first-is, last-is, step-is}
 use Rattle.sweeper.proofs.Walking as Walking
 use Rattle.sweeper.proofs.Walking.{form, unstruck, stateOf, Walking, walk-starts, from-there}

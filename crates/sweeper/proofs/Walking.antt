@@ -1,34 +1,31 @@
 -- The walk over the steps of an unstruck run that finishes: what the loops keep. Assumes a hardened table.
 use mathlib.Core.Path.{_≡_, refl, sym, ap, _∙_, subst}
 use mathlib.Core.Logic.{_≢_}
-use mathlib.Core.Bool.{Bool, true, false, _||_}
+use mathlib.Core.Bool.{cond}
 use mathlib.Core.List.{List, []}
-use Prim.Native.Nat.{ℕ, zero, suc, _+_, _*_, _-_, _≤_, _<_}
+use Prim.Native.Nat.{ℕ, suc, _+_, _-_, _≤_, _<_}
 use native.Mathlib.Omega.{arith}
-use lib.ListN.{length, take, drop, length-drop}
+use lib.ListN.{length, take, drop, length-append, length-drop}
 use lib.Seq.{take-length}
 use lib.Dec.{eqb}
-use Rattle.rules.specs.declared.ending.Ending.{Ending}
 use Rattle.rules.specs.declared.ending.Ending.the-variants.{Same}
-use Rattle.rules.specs.declared.ending.Counts.{Counts}
-use Rattle.rules.specs.declared.step.Step.{Step}
-use Rattle.rules.specs.declared.step.Step.the-variants.{Went, Finished, Alarm, TooManyOpen, Beyond}
+use Rattle.rules.specs.declared.step.Step.the-variants.{Went}
 use Rattle.rules.specs.declared.strike.Strike.the-variants.{None}
-use Rattle.rules.specs.Line.{Line, linesIn}
+use Rattle.rules.specs.Line.{linesIn}
 use Rattle.rules.specs.State.{retraced}
 use Rattle.rules.specs.Run.{Answer, run, outcomeOf}
 use Rattle.rules.specs.Form.{Form}
 use Rattle.rules.specs.Hardened.{Counters, Hardened, counterForm, strikingStep}
 use Rattle.rules.specs.RunPromise.{stateAt}
-use Rattle.rules.specs.Sweep.{endingOf, unstruckRun, sumCounts, sweepStep, sweepOf}
-use Rattle.rules.specs.Settled.{across, goingOn, narrowEnding, StandsBefore, SweepLaw}
+use Rattle.rules.specs.Sweep.{unstruckRun}
+use Rattle.rules.specs.Settled.{across, narrowEnding, StandsBefore, SweepLaw}
 use Rattle.rules.proofs.Form.Trace.{run-on-steps}
-use Rattle.rules.proofs.Form.Walk.{few-steps, some-step, start-is, in-budget, known-trace, narrow-rest, walk-over, WalksOn, walks-on}
+use Rattle.rules.proofs.Form.Walk.{some-step, start-is, in-budget, known-trace, narrow-rest, walk-over, WalksOn, walks-on}
 use Rattle.state.specs.declared.machine.Machine.{Machine}
 use Rattle.state.specs.declared.machine.Stopped.{Stopped}
 use Rattle.state.specs.Machine.{machineAfresh, begunAt}
 use Rattle.state.proofs.Begun.{begins}
-use Rattle.state.proofs.Ends.{IsEnd}
+use Rattle.state.proofs.Ends.{IsEnd, end-not-zero}
 use Rattle.guard.specs.Counters.{freshAt}
 use Rattle.machine.specs.Step.{Map}
 use Rattle.machine.specs.Run.{partsIn, stoppedWith, runOf}
@@ -39,7 +36,6 @@ use Rattle.compare.specs.declared.narrow.Narrow.{Narrow}
 use Rattle.compare.specs.Compared.{pieceSteps, Stood, Standing, endsAt}
 use Rattle.compare.specs.Narrow.{NarrowIs}
 use Rattle.compare.proofs.Comparing.{restand, going-piece}
-use Rattle.sweeper.specs.Steps.{Finishes}
 
 abbrev pub form : (bs : List ℕ) → Form Counters
 form bs = counterForm (linesIn bs)
@@ -92,7 +88,7 @@ module _ (bs vs : List ℕ) (b k left : ℕ) (m : Machine) (ws : List ℕ) (at :
 
   -- the rows behind it are in the trace
   pub at-in : at ≤ length ((unstruck bs vs b) .state .trace)
-  at-in = omega (arith, w .at-is, ap length (known-trace (form bs) (linesIn bs) vs b k (w .going)), lib.ListN.length-append ((stateOf bs vs k) .trace) (drop (length ((stateOf bs vs k) .trace)) ((unstruck bs vs b) .state .trace)))
+  at-in = omega (arith, w .at-is, ap length (known-trace (form bs) (linesIn bs) vs b k (w .going)), length-append ((stateOf bs vs k) .trace) (drop (length ((stateOf bs vs k) .trace)) ((unstruck bs vs b) .state .trace)))
 
   -- how the narrow jump ends
   pub narrow-is : (tr : List ℕ) → tr ≡ (unstruck bs vs b) .state .trace → (known : List ℕ) → known ≡ drop at tr → (r : Narrow) → NarrowIs (linesIn bs) m ws known left r
@@ -104,7 +100,7 @@ module _ (bs vs : List ℕ) (b k left : ℕ) (m : Machine) (ws : List ℕ) (at :
       n .ending-is s (w .stood) ∙ ap (λ x. endsAt (linesIn bs) known left x s) (n .line-is ∙ ap (across (linesIn bs)) (w .stood .stands [] .at-is))
       ∙ ap (λ x. endsAt (linesIn bs) x left y s) (ke ∙ ap (drop at) te ∙ ap (λ i. drop i ((unstruck bs vs b) .state .trace)) (w .at-is))
       ∙ ap (λ x. endsAt (linesIn bs) (drop (length (s .trace)) ((unstruck bs vs b) .state .trace)) x y s) (w .left-is)
-      ∙ ap (mathlib.Core.Bool.cond (eqb y (s .running .at)) Same) (sym (narrow-rest (form bs) (linesIn bs) vs b k (w .going) y))
+      ∙ ap (cond (eqb y (s .running .at)) Same) (sym (narrow-rest (form bs) (linesIn bs) vs b k (w .going) y))
 
   -- ---- one step
   pub going-one : (rows : List ℕ) → length rows ≡ pieceSteps → Going (linesIn bs) 1 (partsIn m ws rows)
@@ -145,15 +141,7 @@ module _ (bs vs : List ℕ) (b k left : ℕ) (m : Machine) (ws : List ℕ) (at :
           }
 
     ends-not-zero : IsEnd (x .step) → outcomeOf (got .step) ≢ 0
-    unfolding outcomeOf
-    ends-not-zero h q = by (x .step) refl (ap outcomeOf (ended .step-is) ∙ q)
-      where
-        by : (o : Step) → x .step ≡ o → outcomeOf o ≡ 0 → ⊥
-        by (Went j) z y = h j z
-        by Finished z y = omega arith
-        by Alarm z y = omega arith
-        by (TooManyOpen j) z y = omega arith
-        by (Beyond j) z y = omega arith
+    ends-not-zero h q = end-not-zero (x .step) h (ap outcomeOf (ended .step-is) ∙ q)
 
     pub walked-all : IsEnd (x .step) → (unstruck bs vs b) .steps ≡ suc k
     walked-all h = walk-over (form bs) (linesIn bs) vs b k (w .going) (ends-not-zero h)

@@ -11,7 +11,7 @@ use Rattle.rules.specs.Run.{outcomeOf}
 use Rattle.rules.specs.Hardened.{counterForm}
 use Rattle.rules.specs.Sweep.{total, unstruckRun}
 use Rattle.state.specs.declared.machine.Registers.{Registers}
-use Rattle.places.specs.Places.{endingAt, countedTo}
+use Rattle.places.specs.Places.{endingAt, maxCount, countedTo}
 
 -- the unstruck run finishes in the budget, with this trace
 pub record Finishes (ls : List Line) (vars : List ℕ) (budget : ℕ) (trace : List ℕ) : Type 0 where
@@ -31,7 +31,7 @@ pub record InTable (lines starts : List ℕ) (h : Registers) (c : Counts) : Type
   pub in-order : firstOf starts h ≤ lastOf starts h
   pub few : lastOf starts h < 65535
   pub in-lines : lineWidth * lastOf starts h ≤ length lines
-  pub room : total c + (lastOf starts h - firstOf starts h) + 1 ≤ 4294967295
+  pub room : total c + (lastOf starts h - firstOf starts h) + 1 ≤ maxCount
 
 -- the counts with those of its places
 abbrev pub placesOf : (lines starts : List ℕ) → Registers → (across : ℕ) → (narrow : Ending) → (left : ℕ) → Counts → Counts

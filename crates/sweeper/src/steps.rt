@@ -2,13 +2,12 @@
 // settles a place, and the jump across one do is run.
 ghost use mathlib.Core.Path.{_≡_};
 ghost use mathlib.Core.Bool.{true};
-ghost use Prim.Native.Nat.{_≤_};
 ghost use lib.ListN.{length};
 ghost use Rattle.rules.specs.Limits.{counterWords};
 ghost use Rattle.rules.specs.Line.{linesIn};
 ghost use Rattle.rules.specs.ReadBack.{isHardened};
 ghost use Rattle.rules.specs.Hardened.{counterForm};
-ghost use Rattle.rules.specs.Sweep.{total, sweepOf, anyOther};
+ghost use Rattle.rules.specs.Sweep.{sweepOf, anyOther};
 ghost use Rattle.rules.specs.Settled.{isOther};
 ghost use Rattle.machine.specs.Step.{mapOf};
 ghost use Rattle.machine.specs.Stands.{Ready};

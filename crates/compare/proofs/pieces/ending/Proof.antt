@@ -1,19 +1,13 @@
 -- `compare::pieces::ending` meets its contract. Assumes nothing.
-use mathlib.Core.Path.{_≡_, refl, sym, ap, _∙_}
-use mathlib.Core.Bool.{_&&_}
-use Prim.Native.Nat.{_+_}
+use mathlib.Core.Path.{_≡_, refl, sym, _∙_}
 use native.Mathlib.Omega.{arith}
-use denote.Ref.{now}
 use borrow.Author.Needs.{needs}
-use lib.Dec.{eqb}
 use lib.ListN.{length}
 use lib.Seq.{length-take-le}
 use Rattle.rules.specs.Line.{linesIn}
 use Rattle.rules.specs.Hardened.{Hardened}
-use Rattle.machine.specs.Step.{mapOf}
-use Rattle.machine.specs.Run.{partsIn, runOf}
 use Rattle.state.proofs.Ends.{not-went}
-use Rattle.compare.specs.Compared.{Stood, endedBy}
+use Rattle.compare.specs.Compared.{Stood}
 use Rattle.compare.proofs.Comparing.{Comparing, piece-few, piece-left, piece-some, going-piece, compare-starts, recorded-in, compares-on, compares-over, compare-spent}
 use Rattle.compare.proofs.pieces.ending.Statement.{statement}
 use Rattle.compare.proofs.pieces.ending.Tie as tie
@@ -60,7 +54,7 @@ slice-aggregate-goes-on c = sym (length-take-le _ (c .before .before .before .be
 
 -- src/pieces.rt:117:27
 goes-on-requires : tie.Need-goes-on-requires Inv-loop μ-loop
-goes-on-requires c κs = omega (arith, (c .before .before .before .before .before .before .before .before .before .before .before .loop .inv .0 (c .before .before .before .before .before .before .before .before .before .before .before .before .before .before .before .before .pre .1 .state) (c .before .before .before .before .before .before .before .before .before .before .before .before .before .before .before .before .pre .1 .stood)) .few, c .before .before .before .before .before .before .before .before .before .before .before .before .before .before .before .before .fits, length-take-le _ (c .before .before .before .before .before .before .run-lines .last .1 .1 .1 .1 .1 .1 .1 .0) (recorded-in _ _ (c .before .before .before .before .before .before .before .before .before .before .before .before .before .before .before .before .pre .0) _ _ _ _ _ _ _ _ (c .before .before .before .before .before .before .before .before .before .before .before .loop .inv .0 (c .before .before .before .before .before .before .before .before .before .before .before .before .before .before .before .before .pre .1 .state) (c .before .before .before .before .before .before .before .before .before .before .before .before .before .before .before .before .pre .1 .stood)) _ (c .before .before .before .before .before .before .before .before .before .before .before .loop .inv .2 ∙ c .before .before .before .before .before .before .before .before .before .before .before .before .before .before .before .before .pre .2) _ _ _ _ (c .before .before .before .before .before .before .before .before .before .piece-of .ensures) (c .before .before .before .before .before .before .run-lines .ensures) (c .before .before .before .before .before .before .run-lines .kept .1 .1 .1 .1 .1 .1 .1 .0)), recorded-in _ _ (c .before .before .before .before .before .before .before .before .before .before .before .before .before .before .before .before .pre .0) _ _ _ _ _ _ _ _ (c .before .before .before .before .before .before .before .before .before .before .before .loop .inv .0 (c .before .before .before .before .before .before .before .before .before .before .before .before .before .before .before .before .pre .1 .state) (c .before .before .before .before .before .before .before .before .before .before .before .before .before .before .before .before .pre .1 .stood)) _ (c .before .before .before .before .before .before .before .before .before .before .before .loop .inv .2 ∙ c .before .before .before .before .before .before .before .before .before .before .before .before .before .before .before .before .pre .2) _ _ _ _ (c .before .before .before .before .before .before .before .before .before .piece-of .ensures) (c .before .before .before .before .before .before .run-lines .ensures) (c .before .before .before .before .before .before .run-lines .kept .1 .1 .1 .1 .1 .1 .1 .0), c .before .before .before .before .before .before .run-lines .kept .1 .1 .1 .1 .1 .1 .1 .0, c .before .before .before .before .before .before .before .before .before .before .before .loop .inv .2, c .before .before .before .before .before .before .before .before .before .before .before .before .before .before .before .before .pre .2)
+goes-on-requires c κs = (omega (arith, (c .before .before .before .before .before .before .before .before .before .before .before .loop .inv .0 (c .before .before .before .before .before .before .before .before .before .before .before .before .before .before .before .before .pre .1 .state) (c .before .before .before .before .before .before .before .before .before .before .before .before .before .before .before .before .pre .1 .stood)) .few, c .before .before .before .before .before .before .before .before .before .before .before .before .before .before .before .before .fits, length-take-le _ (c .before .before .before .before .before .before .run-lines .last .1 .1 .1 .1 .1 .1 .1 .0) (recorded-in _ _ (c .before .before .before .before .before .before .before .before .before .before .before .before .before .before .before .before .pre .0) _ _ _ _ _ _ _ _ (c .before .before .before .before .before .before .before .before .before .before .before .loop .inv .0 (c .before .before .before .before .before .before .before .before .before .before .before .before .before .before .before .before .pre .1 .state) (c .before .before .before .before .before .before .before .before .before .before .before .before .before .before .before .before .pre .1 .stood)) _ (c .before .before .before .before .before .before .before .before .before .before .before .loop .inv .2 ∙ c .before .before .before .before .before .before .before .before .before .before .before .before .before .before .before .before .pre .2) _ _ _ _ (c .before .before .before .before .before .before .before .before .before .piece-of .ensures) (c .before .before .before .before .before .before .run-lines .ensures) (c .before .before .before .before .before .before .run-lines .kept .1 .1 .1 .1 .1 .1 .1 .0)), recorded-in _ _ (c .before .before .before .before .before .before .before .before .before .before .before .before .before .before .before .before .pre .0) _ _ _ _ _ _ _ _ (c .before .before .before .before .before .before .before .before .before .before .before .loop .inv .0 (c .before .before .before .before .before .before .before .before .before .before .before .before .before .before .before .before .pre .1 .state) (c .before .before .before .before .before .before .before .before .before .before .before .before .before .before .before .before .pre .1 .stood)) _ (c .before .before .before .before .before .before .before .before .before .before .before .loop .inv .2 ∙ c .before .before .before .before .before .before .before .before .before .before .before .before .before .before .before .before .pre .2) _ _ _ _ (c .before .before .before .before .before .before .before .before .before .piece-of .ensures) (c .before .before .before .before .before .before .run-lines .ensures) (c .before .before .before .before .before .before .run-lines .kept .1 .1 .1 .1 .1 .1 .1 .0), c .before .before .before .before .before .before .run-lines .kept .1 .1 .1 .1 .1 .1 .1 .0, c .before .before .before .before .before .before .before .before .before .before .before .loop .inv .2, c .before .before .before .before .before .before .before .before .before .before .before .before .before .before .before .before .pre .2), omega (arith, (c .before .before .before .before .before .before .before .before .before .before .before .loop .inv .0 (c .before .before .before .before .before .before .before .before .before .before .before .before .before .before .before .before .pre .1 .state) (c .before .before .before .before .before .before .before .before .before .before .before .before .before .before .before .before .pre .1 .stood)) .few, c .before .before .before .before .before .before .before .before .before .before .before .before .before .before .before .before .fits, length-take-le _ (c .before .before .before .before .before .before .run-lines .last .1 .1 .1 .1 .1 .1 .1 .0) (recorded-in _ _ (c .before .before .before .before .before .before .before .before .before .before .before .before .before .before .before .before .pre .0) _ _ _ _ _ _ _ _ (c .before .before .before .before .before .before .before .before .before .before .before .loop .inv .0 (c .before .before .before .before .before .before .before .before .before .before .before .before .before .before .before .before .pre .1 .state) (c .before .before .before .before .before .before .before .before .before .before .before .before .before .before .before .before .pre .1 .stood)) _ (c .before .before .before .before .before .before .before .before .before .before .before .loop .inv .2 ∙ c .before .before .before .before .before .before .before .before .before .before .before .before .before .before .before .before .pre .2) _ _ _ _ (c .before .before .before .before .before .before .before .before .before .piece-of .ensures) (c .before .before .before .before .before .before .run-lines .ensures) (c .before .before .before .before .before .before .run-lines .kept .1 .1 .1 .1 .1 .1 .1 .0)), recorded-in _ _ (c .before .before .before .before .before .before .before .before .before .before .before .before .before .before .before .before .pre .0) _ _ _ _ _ _ _ _ (c .before .before .before .before .before .before .before .before .before .before .before .loop .inv .0 (c .before .before .before .before .before .before .before .before .before .before .before .before .before .before .before .before .pre .1 .state) (c .before .before .before .before .before .before .before .before .before .before .before .before .before .before .before .before .pre .1 .stood)) _ (c .before .before .before .before .before .before .before .before .before .before .before .loop .inv .2 ∙ c .before .before .before .before .before .before .before .before .before .before .before .before .before .before .before .before .pre .2) _ _ _ _ (c .before .before .before .before .before .before .before .before .before .piece-of .ensures) (c .before .before .before .before .before .before .run-lines .ensures) (c .before .before .before .before .before .before .run-lines .kept .1 .1 .1 .1 .1 .1 .1 .0), c .before .before .before .before .before .before .run-lines .kept .1 .1 .1 .1 .1 .1 .1 .0, c .before .before .before .before .before .before .before .before .before .before .before .loop .inv .2, c .before .before .before .before .before .before .before .before .before .before .before .before .before .before .before .before .pre .2))
 
 -- src/pieces.rt:117:9
 both-requires : tie.Need-both-requires Inv-loop μ-loop

@@ -1,5 +1,4 @@
 -- `compare::pieces::finished` meets its contract. Assumes nothing.
-use mathlib.Core.Path.{sym, ap}
 use Rattle.compare.specs.Compared.{endedBy}
 use Rattle.compare.proofs.pieces.finished.Statement.{statement}
 use Rattle.compare.proofs.pieces.finished.Tie as tie

@@ -17,7 +17,7 @@ abbrev μ-loop : tie.MeasureT-loop
 
 -- src/pieces.rt:49:22
 add-if1 : tie.Need-add-if1 Inv-loop μ-loop
-add-if1 c = omega (arith, c .pre)
+add-if1 c = omega (arith, c .pre .0, c .pre .1)
 
 -- src/pieces.rt:50:9
 returns : tie.Need-returns Inv-loop μ-loop
@@ -29,7 +29,7 @@ loop-holds c = λ h. matched-start _ _ _ h
 
 -- src/pieces.rt:54:12
 mul-if2 : tie.Need-mul-if2 Inv-loop μ-loop
-mul-if2 c = omega (arith, c .loop-test .taken, c .before .before .before .pre)
+mul-if2 c = omega (arith, c .loop-test .taken, c .before .before .before .pre .0, c .before .before .before .pre .1)
 
 -- src/pieces.rt:54:12
 shared-slice-read-if2 : tie.Need-shared-slice-read-if2 Inv-loop μ-loop
@@ -37,11 +37,11 @@ shared-slice-read-if2 c = c .before .loop-test .taken
 
 -- src/pieces.rt:54:29
 add-if2 : tie.Need-add-if2 Inv-loop μ-loop
-add-if2 c = omega (arith, c .before .loop-test .taken, c .before .before .before .before .pre)
+add-if2 c = omega (arith, c .before .loop-test .taken, c .before .before .before .before .pre .0, c .before .before .before .before .pre .1)
 
 -- src/pieces.rt:54:23
 mul-if2-2 : tie.Need-mul-if2-2 Inv-loop μ-loop
-mul-if2-2 c = omega (arith, c .before .loop-test .taken, c .before .before .before .before .pre)
+mul-if2-2 c = omega (arith, c .before .loop-test .taken, c .before .before .before .before .pre .0, c .before .before .before .before .pre .1)
 
 -- src/pieces.rt:54:23
 shared-slice-read-if2-2 : tie.Need-shared-slice-read-if2-2 Inv-loop μ-loop
@@ -53,7 +53,7 @@ returns-2 c = matched-not _ _ _ (c .before .before .before .before .before .if1 
 
 -- src/pieces.rt:57:9
 add-i : tie.Need-add-i Inv-loop μ-loop
-add-i c = omega (arith, c .before .before .before .loop-test .taken, c .before .before .before .before .before .before .pre)
+add-i c = omega (arith, c .before .before .before .loop-test .taken, c .before .before .before .before .before .before .pre .0, c .before .before .before .before .before .before .pre .1)
 
 -- src/pieces.rt:53:5
 loop-less : tie.Need-loop-less Inv-loop μ-loop
