@@ -42,7 +42,7 @@ endedBy o same = cond (eqb o 2) Alarmed (cond (eqb o 1) (cond same Same Other) U
 
 -- the steps of a piece
 abbrev pub pieceSteps : ℕ
-pieceSteps = 256
+pieceSteps = 1024
 
 unfoldable pub pieceOf : (left : ℕ) → ℕ
 pieceOf n = cond (ltb n pieceSteps) n pieceSteps

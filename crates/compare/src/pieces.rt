@@ -23,7 +23,7 @@ use state::machine::Machine;
 use state::machine::afresh;
 
 // The steps of a piece, and so the rows that it may record.
-pub const PIECE: usize = 256;
+pub const PIECE: usize = 1024;
 
 pub fn no_rows() -> [u16; PIECE]
     ensures { λ r. ⌜ length r ≡ pieceSteps ⌝ }
@@ -35,10 +35,10 @@ pub fn no_rows() -> [u16; PIECE]
 fn piece_of(left: u16) -> u16
     ensures { λ r. ⌜ r ≡ pieceOf left ⌝ }
 {
-    if left < 256 {
+    if left < 1024 {
         return left;
     }
-    256
+    1024
 }
 
 // Whether the known trace goes on with these rows, from its row `at`.
