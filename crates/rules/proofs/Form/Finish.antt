@@ -1,6 +1,5 @@
 -- Demand 3, finishing: a source run that finishes in n steps with t dos and c calls finishes hardened in n + t + c steps.
 -- Assumes that the table is accepted.
-use mathlib.Core.Logic.{inl, inr}
 use mathlib.Core.Path.{_≡_, refl, ap, _∙_, subst}
 use mathlib.Core.Bool.{cond}
 use mathlib.Core.List.{List}
@@ -9,9 +8,6 @@ use native.Mathlib.Omega.{arith}
 use Rattle.rules.specs.declared.strike.Strike.the-variants.{None}
 use Rattle.rules.specs.declared.kind.Kind.{Kind}
 use Rattle.rules.specs.declared.kind.Kind.the-variants.{Function, Do, If, Else, Loop, End, Break, Continue, Call, Unknown}
-use Rattle.rules.specs.declared.step.Step.{Step}
-use Rattle.rules.specs.declared.step.Step.the-variants.{TooManyOpen}
-use Rattle.rules.specs.Limits.{maxOpen}
 use Rattle.rules.specs.Row.{Table, kindAt}
 use Rattle.rules.specs.Check.{isCall}
 use Rattle.rules.specs.Harden.{harden}
@@ -23,7 +19,7 @@ use Rattle.rules.specs.Match.{isDo, dosIn, callsIn}
 use Rattle.rules.specs.Demands.{Finishing}
 use Rattle.rules.proofs.Accepted.{Proper}
 use Rattle.rules.proofs.Form.Settles.{Settles}
-use Rattle.rules.proofs.Form.Relation.{Related, Both, both-on, both-end, extra}
+use Rattle.rules.proofs.Form.Relation.{Related, finish, early, Both, both-on, both-end, extra}
 use Rattle.rules.proofs.Form.Simulate.{extraAt, Next, moves, waits, next, start}
 use Rattle.rules.proofs.Form.Unstruck.{sourceMachine, lineMachine}
 
@@ -58,10 +54,6 @@ record Finishes {H : Type 0} {t : Table} {F : Form H} (S : Settles t F) (b k d j
 abbrev Goal : {H : Type 0} {t : Table} {F : Form H} → Settles t F → ℕ → Type 0
 Goal {H} {t} S b = (s : Source) (d k j x : ℕ) (h : State H) → Related S d s h → outcomeOf ((run (sourceMachine t) b k s) .step) ≡ 1 → Finishes S b k d j x s h
 
-not-one : (o : Step) → o ≡ TooManyOpen maxOpen → outcomeOf o ≡ 1 → ⊥
-unfolding outcomeOf
-not-one o e q = omega (arith, ap outcomeOf e)
-
 both-step : {H : Type 0} {t : Table} {F : Form H} (S : Settles t F) (b d k j x : ℕ) (s : Source) (h : State H) → Goal S b → Both S (d + extraAt t s) (sourceStep t s) (stepOf F (harden t) h)
     → outcomeOf ((run (sourceMachine t) (suc b) k s) .step) ≡ 1 → Finishes S (suc b) k d j x s h
 unfolding run tally outcomeOf
@@ -76,8 +68,7 @@ both-step {H} {t} {F} S b d k j x s h ih (both-on s′ h′ es eh r) o =
       finishes = rw (es, e, eh) (f .finishes);
       in-steps = rw (es, e, eh) (omega (arith, f .in-steps, extra-is kd));
     }
-both-step {H} {t} {F} S b d k j x s h ih (both-end o′ s′ h′ es eh sm (inl q) fin) o =
-    let z = fin q in
+both-step {H} {t} {F} S b d k j x s h ih (both-end o′ s′ h′ es eh sm (finish q z)) o =
     let e : 1 + 0 + 0 + d + x ≡ suc x = omega arith in
     record {
       n = 1;
@@ -85,7 +76,7 @@ both-step {H} {t} {F} S b d k j x s h ih (both-end o′ s′ h′ es eh sm (inl 
       finishes = rw (es, e, eh) (ap outcomeOf q);
       in-steps = rw (es, e, eh) (omega arith);
     }
-both-step {H} {t} {F} S b d k j x s h ih (both-end o′ s′ h′ es eh sm (inr q) fin) o = absurd (not-one o′ q (rw es at o))
+both-step {H} {t} {F} S b d k j x s h ih (both-end o′ s′ h′ es eh sm (early y z w)) o = absurd (z (rw es at o))
 
 -- first the ticks and backs that are due, then a step of both
 step-by : (t : Table) → Proper t → {H : Type 0} {F : Form H} (S : Settles t F) → (b : ℕ) → Goal S b → (d : ℕ) (s : Source) (k j x : ℕ) (h : State H) → Related S d s h → outcomeOf ((run (sourceMachine t) (suc b) k s) .step) ≡ 1
@@ -111,13 +102,13 @@ step-by t ok {H = H} S b ih (suc d) s k j x h r o = by (next t ok S (suc d) s h 
           in-steps = rw (e, eh) (omega (arith, f .in-steps));
         }
 
-finish : (t : Table) → Proper t → {H : Type 0} {F : Form H} (S : Settles t F) → (b : ℕ) → Goal S b
+finishes-from : (t : Table) → Proper t → {H : Type 0} {F : Form H} (S : Settles t F) → (b : ℕ) → Goal S b
 unfolding run outcomeOf
-finish t ok S zero s d k j x h r o = absurd (bad o)
+finishes-from t ok S zero s d k j x h r o = absurd (bad o)
   where
     bad : _≡_ {A = ℕ} 0 1 → ⊥
     bad y = omega arith
-finish t ok S (suc b) s d k j x h r o = step-by t ok S b (finish t ok S b) d s k j x h r o
+finishes-from t ok S (suc b) s d k j x h r o = step-by t ok S b (finishes-from t ok S b) d s k j x h r o
 
 -- ---- from the start
 pub finishing : (t : Table) → Proper t → {H : Type 0} {F : Form H} (S : Settles t F) → (vs : List ℕ) (b c : ℕ) → Finishing F (harden t) t vs b c
@@ -129,7 +120,7 @@ finishing t ok {H = H} {F = F} S vs b c = record { finishes = λ o l. (by o l) .
         × ((runOf F (harden t) None c vs) .steps ≡ (sourceRun t b vs) .steps + dosIn t b vs + callsIn t b vs)
     by o l =
         let x = c - ((sourceRun t b vs) .steps + dosIn t b vs + callsIn t b vs) in
-        let f = finish t ok S b (sourceStart vs) 0 0 0 x (startBy F vs) (start t ok S vs) o in
+        let f = finishes-from t ok S b (sourceStart vs) 0 0 0 x (startBy F vs) (start t ok S vs) o in
         let e : c ≡ f .n + dosIn t b vs + callsIn t b vs + 0 + x = omega (arith, f .takes-n) in (
           ap (λ y. outcomeOf ((runOf F (harden t) None y vs) .step)) e ∙ f .finishes,
           ap (λ y. (runOf F (harden t) None y vs) .steps) e ∙ f .in-steps ∙ omega (arith, f .takes-n),

@@ -1,6 +1,6 @@
 -- How an unstruck hardened run stands to its source's run: the same function, variables and trace; the line of the source's row, or
 -- the tick or back that follows; what the form settles there is kept. Assumes that the table is accepted, where it says so.
-use mathlib.Core.Logic.{_⊎_}
+use mathlib.Core.Logic.{_≢_}
 use mathlib.Core.Path.{_≡_, refl, ap, _∙_, subst}
 use mathlib.Core.List.{List, [], _∷_}
 use Prim.Native.Nat.{ℕ, suc, _+_, _-_, _<_}
@@ -10,8 +10,7 @@ use borrow.Author.Tests.{ne-eqb}
 use Rattle.rules.specs.declared.kind.Kind.{Kind}
 use Rattle.rules.specs.declared.kind.Kind.the-variants.{Function, Do, If, Else, Loop, End, Break, Continue, Call, Unknown}
 use Rattle.rules.specs.declared.step.Step.{Step}
-use Rattle.rules.specs.declared.step.Step.the-variants.{Finished, TooManyOpen}
-use Rattle.rules.specs.Limits.{maxOpen}
+use Rattle.rules.specs.declared.step.Step.the-variants.{Finished}
 use Rattle.rules.specs.Row.{Table, kindAt, operandsAt}
 use Rattle.rules.specs.Scan.{Open, openAt}
 use Rattle.rules.specs.Value.{value, valueIn}
@@ -19,7 +18,7 @@ use Rattle.rules.specs.Line.{Line, lineAt}
 use Rattle.rules.specs.Harden.{lineCount, lineOf, rowLines, harden}
 use Rattle.rules.specs.Function.{finishOf}
 use Rattle.rules.specs.State.{Frame, State, frame}
-use Rattle.rules.specs.Run.{Turn, on, ends}
+use Rattle.rules.specs.Run.{Turn, on, ends, outcomeOf}
 use Rattle.rules.specs.Source.{Source, rowStep, sourceStep}
 use Rattle.rules.specs.Form.{Form, lineStepOf, stepOf}
 use Rattle.rules.proofs.Accepted.{Proper}
@@ -118,9 +117,14 @@ pub record Same {H : Type 0} {t : Table} {F : Form H} (S : Settles t F) (s : Sou
   pub s-is : s ≡ src n i rest vs tr
   pub h-is : h ≡ hard n k c (lineBacks S rest) l vs tr
 
+-- an end that both runs share: the finish, where nothing is owed any more, or one before it that is no alarm
+pub data SharedEnd (d : ℕ) (o : Step) : Type 0 where
+  finish : o ≡ Finished → d ≡ 0 → SharedEnd d o
+  early : outcomeOf o ≢ 0 → outcomeOf o ≢ 1 → outcomeOf o ≢ 2 → SharedEnd d o
+
 pub data Both {H : Type 0} {t : Table} {F : Form H} (S : Settles t F) (d : ℕ) (a : Turn (Unit {0})) (b : Turn H) : Type 0 where
   both-on : (s : Source) (h : State H) → a ≡ on s → b ≡ on h → Related S d s h → Both S d a b
-  both-end : (o : Step) (s : Source) (h : State H) → a ≡ ends o s → b ≡ ends o h → Same S s h → (o ≡ Finished) ⊎ (o ≡ TooManyOpen maxOpen) → (o ≡ Finished → d ≡ 0) → Both S d a b
+  both-end : (o : Step) (s : Source) (h : State H) → a ≡ ends o s → b ≡ ends o h → Same S s h → SharedEnd d o → Both S d a b
 
 pub owing : {H : Type 0} {t : Table} {F : Form H} {S : Settles t F} {d e : ℕ} {a : Turn (Unit {0})} {b : Turn H} → d ≡ e → Both S d a b → Both S e a b
 owing {H} {t} {F} {S} {d} {e} {a} {b} q x = subst (λ y. Both S y a b) q x

@@ -1,6 +1,5 @@
 -- The two runs side by side at a call and at a function's end, and the hardened run alone at a tick and a back.
 -- Assumes that the table is accepted.
-use mathlib.Core.Logic.{inl, inr}
 use mathlib.Core.Path.{_≡_, refl, sym, ap, _∙_}
 use mathlib.Core.Bool.{Bool, true, false, cond}
 use mathlib.Core.List.{List, [], _∷_}
@@ -9,8 +8,7 @@ use native.Mathlib.Omega.{arith}
 use lib.ListN.{length}
 use lib.Dec.{ltb}
 use Rattle.rules.specs.declared.kind.Kind.the-variants.{Do, End, Call}
-use Rattle.rules.specs.declared.step.Step.{Step}
-use Rattle.rules.specs.declared.step.Step.the-variants.{Went, Finished, Alarm, TooManyOpen, Beyond}
+use Rattle.rules.specs.declared.step.Step.the-variants.{Finished, TooManyOpen}
 use Rattle.rules.specs.Limits.{maxOpen}
 use Rattle.rules.specs.Row.{Table, kindAt, operandsAt}
 use Rattle.rules.specs.Scan.{body, Open, regions, functionCount, functionRow}
@@ -19,7 +17,7 @@ use Rattle.rules.specs.Line.{Line, tickLine, callLine, backLine, retLine
 use Rattle.rules.specs.Harden.{lineOf, ownRegion, endLine, callOf, backOf, rowLines, harden}
 use Rattle.rules.specs.Function.{functionAt}
 use Rattle.rules.specs.State.{Frame, State, frame}
-use Rattle.rules.specs.Run.{on, ends}
+use Rattle.rules.specs.Run.{on, ends, outcomeOf}
 use Rattle.rules.specs.Source.{returnRow, endRow, rowStep, sourceStep}
 use Rattle.rules.specs.Form.{Form, must, leavesOf, turnBy, lineStepOf, stepOf}
 use Rattle.rules.proofs.Accepted.{Proper}
@@ -31,7 +29,7 @@ use Rattle.rules.proofs.Place.{callee}
 use Rattle.rules.proofs.Words.{word-at}
 use Rattle.rules.proofs.Parts.{body-below}
 use Rattle.rules.proofs.Form.Settles.{Settles, bodyPart, is-tick, is-call}
-use Rattle.rules.proofs.Form.Relation.{Back, waiting, sourceBacks, lineBacks, backs-length, src, hard, here, Linked, ready, backing, Related, Both, both-on, both-end, owing, source-step, line-step, ready-at}
+use Rattle.rules.proofs.Form.Relation.{Back, waiting, sourceBacks, lineBacks, backs-length, src, hard, here, Linked, ready, backing, Related, SharedEnd, finish, early, Both, both-on, both-end, owing, source-step, line-step, ready-at}
 
 -- ---- call
 call-line : {H : Type 0} (F : Form H) (ls : List Line) (n k : ℕ) (c : H) (rest : List (Frame H)) (l : H) (vs tr : List ℕ) (r e a b go : ℕ) → F .guard k (callLine r e a b go) .passes c l ≡ true
@@ -40,15 +38,9 @@ call-line : {H : Type 0} (F : Form H) (ls : List Line) (n k : ℕ) (c : H) (rest
 unfolding turnBy
 call-line F ls n k c rest l vs tr r e a b go h y z = rw (h, z)
 
-not-finished : TooManyOpen maxOpen ≡ Finished → {d : ℕ} → d ≡ 0
-not-finished e {d} = absurd (let z : _≡_ {A = ℕ} 0 1 = ap number e in omega arith)
-  where
-    number : Step → ℕ
-    number (Went k) = 0
-    number Finished = 1
-    number Alarm = 0
-    number (TooManyOpen k) = 0
-    number (Beyond k) = 0
+too-many-early : {d : ℕ} → SharedEnd d (TooManyOpen maxOpen)
+unfolding outcomeOf
+too-many-early = early (omega arith) (omega arith) (omega arith)
 
 module _ (t : Table) (ok : Proper t) {H : Type 0} {F : Form H} (S : Settles t F) (n i : ℕ) (f : Open) (fs : List Open) (m : InFunction t n i f fs) (rest : List Back) (lk : Linked t n rest) (l : H) (vs tr : List ℕ) (e : kindAt t i ≡ Call) where
   abbrev called : ℕ
@@ -118,7 +110,7 @@ module _ (t : Table) (ok : Proper t) {H : Type 0} {F : Form H} (S : Settles t F)
       by false ey = both-end (TooManyOpen maxOpen) _ _ (row-is false ey)
           (line-is ∙ call-line F (harden t) n _ _ (lineBacks S rest) l vs tr _ _ _ _ _ (S .steady-passes _ f fs _ _ _ _ (body-below t m) (is-call _ _)) false (room false ey))
           (record { n = n; i = i; k = lineOf t i; l = l; rest = rest; c = S .at (lineOf t i) (f ∷ fs) (value t (f .region) i); vs = vs; tr = tr; s-is = refl; h-is = refl })
-          (inr refl) (λ x. not-finished x)
+          too-many-early
 
 -- ---- a function's end
 ret-line : {H : Type 0} (F : Form H) (ls : List Line) (n k : ℕ) (c : H) (rest : List (Frame H)) (l : H) (vs tr : List ℕ) (e a : ℕ) → F .guard k (retLine e a) .passes c l ≡ true
@@ -143,7 +135,7 @@ module _ (t : Table) (ok : Proper t) {H : Type 0} {F : Form H} (S : Settles t F)
   step-return [] lk = both-end Finished _ _ (row-is [])
       (line-is [] ∙ ap (λ y. must y (hard n (lineOf t i) ended [] l vs tr) (ends Finished (hard n (lineOf t i) ended [] l vs tr)))
       (S .host-agrees (zero-known lk) ended (S .ret-ends m e ∙ ap (S .end) lk)))
-      (record { n = n; i = i; k = lineOf t i; l = l; rest = []; c = ended; vs = vs; tr = tr; s-is = refl; h-is = refl }) (inl refl) (λ x. refl)
+      (record { n = n; i = i; k = lineOf t i; l = l; rest = []; c = ended; vs = vs; tr = tr; s-is = refl; h-is = refl }) (finish refl refl)
     where
       zero-known : n ≡ 0 → 0 < functionCount t
       zero-known q = omega (arith, m .known)

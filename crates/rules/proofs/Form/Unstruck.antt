@@ -1,14 +1,13 @@
 -- Demand 3, unstruck: the whole hardened run without a jump is the source's run at the matching step, and never an alarm.
 -- Assumes that the table is accepted.
-use mathlib.Core.Logic.{_≢_, _⊎_, inl, inr}
+use mathlib.Core.Logic.{_≢_}
 use mathlib.Core.Path.{_≡_, refl, sym, ap, _∙_}
 use mathlib.Core.List.{List, [], _∷_, _++_}
 use Prim.Native.Nat.{ℕ, zero, suc, _+_}
 use native.Mathlib.Omega.{arith}
 use Rattle.rules.specs.declared.strike.Strike.the-variants.{None}
 use Rattle.rules.specs.declared.step.Step.{Step}
-use Rattle.rules.specs.declared.step.Step.the-variants.{Finished, TooManyOpen}
-use Rattle.rules.specs.Limits.{maxOpen}
+use Rattle.rules.specs.declared.step.Step.the-variants.{Finished}
 use Rattle.rules.specs.Row.{Table}
 use Rattle.rules.specs.Harden.{harden}
 use Rattle.rules.specs.State.{State, numbersOf, openFunctions}
@@ -19,7 +18,7 @@ use Rattle.rules.specs.Match.{Shown, shown, quietAt, matching}
 use Rattle.rules.specs.Demands.{Unstruck}
 use Rattle.rules.proofs.Accepted.{Proper}
 use Rattle.rules.proofs.Form.Settles.{Settles}
-use Rattle.rules.proofs.Form.Relation.{Back, sourceBacks, lineBacks, Related, Same, both-on, both-end}
+use Rattle.rules.proofs.Form.Relation.{Back, sourceBacks, lineBacks, Related, Same, SharedEnd, finish, early, both-on, both-end}
 use Rattle.rules.proofs.Form.Simulate.{Next, moves, waits, next, start}
 
 -- ---- the two machines, as a run takes them
@@ -53,10 +52,10 @@ pub record Simulates {H : Type 0} {t : Table} {F : Form H} (S : Settles t F) (b 
   pub alike : shown (run (lineMachine S) b k h) ≡ shown (run (sourceMachine t) m j s)
   pub no-alarm : outcomeOf ((run (lineMachine S) b k h) .step) ≢ 2
 
-end-not-alarm : (o : Step) → (o ≡ Finished) ⊎ (o ≡ TooManyOpen maxOpen) → outcomeOf o ≢ 2
+end-not-alarm : (d : ℕ) (o : Step) → SharedEnd d o → outcomeOf o ≢ 2
 unfolding outcomeOf
-end-not-alarm o (inl e) = omega (arith, ap outcomeOf e)
-end-not-alarm o (inr e) = omega (arith, ap outcomeOf e)
+end-not-alarm d o (finish e z) = omega (arith, ap outcomeOf e)
+end-not-alarm d o (early a b c) = c
 
 pub simulates : (t : Table) → Proper t → {H : Type 0} {F : Form H} (S : Settles t F) → (b k j d : ℕ) (s : Source) (h : State H) → Related S d s h → Simulates S b k j s h
 unfolding run tally outcomeOf
@@ -76,13 +75,13 @@ simulates t ok {H = H} S (suc b) k j d s h r =
           alike = rw (eh, es) (x .alike);
           no-alarm = rw eh (x .no-alarm);
         }
-    by (moves q (both-end o s′ h′ es eh same which fin)) both-go line-goes =
+    by (moves q (both-end o s′ h′ es eh same which)) both-go line-goes =
         record {
           m = 1;
           counted = rw eh (omega arith);
           took = rw es (omega arith);
           alike = rw (eh, es) (same-shown S (outcomeOf o) s′ h′ same);
-          no-alarm = rw eh (end-not-alarm o which);
+          no-alarm = rw eh (end-not-alarm _ o which);
         }
     by (waits q h′ d′ eh r′ de) both-go line-goes =
         let x = line-goes d′ h′ r′ in
