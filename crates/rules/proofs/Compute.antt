@@ -10,7 +10,7 @@ use Rattle.rules.specs.Line.{lineBytes, linesBytes, lineIn, linesFrom, l
 use Rattle.rules.specs.Harden.{lineOf, testOf, endValue, rowLines, hardenTo, hardenedBytes}
 use Rattle.rules.specs.Function.{functionAt, startOf}
 use Rattle.rules.specs.ReadBack.{rowFor, unreadTo, sourceBytes, isHardened}
-use Rattle.rules.specs.Variables.{doneOn, holdsOn}
+use Rattle.rules.specs.Variables.{computed, holdsOn}
 use Rattle.rules.specs.Run.{outcomeOf, run}
 use Rattle.rules.specs.Source.{falseRow, rowStep, sourceStep}
 use Rattle.rules.specs.Form.{turnBy, stepOf}
@@ -18,5 +18,5 @@ use Rattle.rules.specs.Calls.{writing, hardenCall, readBackCall, running
 use Rattle.rules.specs.Listing.{digits, listed, words}
 
 unfoldable pub compute : Unit {0}
-unfolding givenAs givenFrom givenOf thingsAt chainTo chainBytes givenFits strays repeats spanVerdict givenRowVerdict givenRowsVerdict givenTableVerdict givenVerdict digits listed words same first kindOf kindByte rowIn rowsFrom tableOf rowBytes tableBytes fieldsFit regions openAt endOf elseOf functions functionRow misplacedIn oneTooMany rowVerdict rowsVerdict callsVerdict tableVerdict verdictOf taken base value lineBytes linesBytes lineIn linesFrom linesIn lineOf testOf endValue rowLines hardenTo hardenedBytes functionAt startOf rowFor unreadTo sourceBytes isHardened doneOn holdsOn outcomeOf run falseRow rowStep sourceStep turnBy stepOf writing hardenCall readBackCall running runSourceCall zeros countersAfter hardenedVerdict runHardenedCall
+unfolding givenAs givenFrom givenOf thingsAt chainTo chainBytes givenFits strays repeats spanVerdict givenRowVerdict givenRowsVerdict givenTableVerdict givenVerdict digits listed words same first kindOf kindByte rowIn rowsFrom tableOf rowBytes tableBytes fieldsFit regions openAt endOf elseOf functions functionRow misplacedIn oneTooMany rowVerdict rowsVerdict callsVerdict tableVerdict verdictOf taken base value lineBytes linesBytes lineIn linesFrom linesIn lineOf testOf endValue rowLines hardenTo hardenedBytes functionAt startOf rowFor unreadTo sourceBytes isHardened computed holdsOn outcomeOf run falseRow rowStep sourceStep turnBy stepOf writing hardenCall readBackCall running runSourceCall zeros countersAfter hardenedVerdict runHardenedCall
 compute = tt

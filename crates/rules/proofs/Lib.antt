@@ -49,5 +49,6 @@ pub mod Report
 pub mod Worked
 pub mod Refusals
 pub mod Arithmetic
+pub mod OverflowCases
 pub mod Checks
 pub mod LineFigures

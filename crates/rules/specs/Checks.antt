@@ -6,7 +6,7 @@ use mathlib.Core.Bool.{Bool, true, false}
 use mathlib.Core.List.{[], _∷_}
 use lib.ListN.{replicate}
 use Rattle.rules.specs.declared.step.Step.{Step}
-use Rattle.rules.specs.declared.step.Step.the-variants.{Went, Finished, Alarm, TooManyOpen, Beyond}
+use Rattle.rules.specs.declared.step.Step.the-variants.{Went, Finished, Alarm, TooManyOpen, Beyond, Overflow}
 use Rattle.rules.specs.State.{frame}
 use Rattle.rules.specs.Run.{Turn, on, ends, untaken}
 use Rattle.rules.specs.Line.{Line, tickLine, testLine, leaveLine, outLine, callLine, backLine, retLine, noOperands}
@@ -19,6 +19,7 @@ isAlarm Finished = false
 isAlarm Alarm = true
 isAlarm (TooManyOpen n) = false
 isAlarm (Beyond m) = false
+isAlarm (Overflow i) = false
 
 abbrev pub alarms : Turn Counters → Bool
 alarms (on s) = false

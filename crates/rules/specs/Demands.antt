@@ -4,7 +4,8 @@
 -- from line 0 of function 0 to wherever it stops:
 --
 -- Unstruck. Without the jump the run stops with the outcome, trace, variables and open functions of its source's run whose
--- budget is the matching step; that source run takes exactly the matching step; the outcome is never an alarm.
+-- budget is the matching step; that source run takes exactly the matching step; the outcome is never an alarm. So where a do of the
+-- source overflows, both end with 5 at the matching step.
 --
 -- Finishing. Where the source's run finishes in n steps with t dos and c calls, the hardened run finishes in n + t + c steps,
 -- if the budget holds them.
@@ -13,9 +14,10 @@
 --
 -- Beyond. A jump that strikes and goes beyond place m ends the run with outcome 4 after k steps, with nothing more done.
 --
--- Caught. After a jump that strikes and is wide, the alarm comes in step k if the place is before a guard, or is m with one
--- function open, and else in step k + 1; a budget that ends before that step gives outcome 0. Trace and variables are what the
--- first k steps left, with the do at that place, if one stands there, done on them once.
+-- Caught. A jump that strikes and is wide, to a place before a do that overflows on the variables which the first k steps left, ends the
+-- run with 5 in step k, with the trace and variables that those steps left. To every other place the alarm comes in step k if the place
+-- is before a guard, or is m with one function open, and else in step k + 1; a budget that ends before that step gives outcome 0. Trace
+-- and variables are what the first k steps left, with the do at that place, if one stands there, done on them once.
 --
 -- The "source's run" is that of the table which the bytes are read back to.
 --
@@ -35,6 +37,7 @@ use Rattle.rules.specs.Row.{Table, tableOf}
 use Rattle.rules.specs.Line.{Line, doLine, tickLine, testLine, leaveLine, outLine, callLine, backLine, retLine, lineAt, isGuard, linesIn}
 use Rattle.rules.specs.Function.{lastPlace}
 use Rattle.rules.specs.ReadBack.{sourceBytes, isHardened}
+use Rattle.rules.specs.Variables.{overflows}
 use Rattle.rules.specs.State.{State, did, depth}
 use Rattle.rules.specs.Run.{Answer, outcomeOf}
 use Rattle.rules.specs.Source.{sourceRun}
@@ -107,9 +110,29 @@ alarmIn x b s =
       variables = s .vars;
     }
 
--- "After a wide jump out of an unstruck run"
+-- "lands before such a do": one that overflows on the variables of s
+abbrev pub overflowsBy : {H : Type 0} → Line → State H → Bool
+overflowsBy (doLine o e) s = overflows o (s .vars)
+overflowsBy (tickLine r e a) s = false
+overflowsBy (testLine o r s t e a b c go) now = false
+overflowsBy (leaveLine r s e a b go) now = false
+overflowsBy (outLine r s t e a go) now = false
+overflowsBy (callLine r e a b go) s = false
+overflowsBy (backLine r e a b) s = false
+overflowsBy (retLine e a) s = false
+
+unfoldable pub overflowsAt : {H : Type 0} → List Line → (place : ℕ) → State H → Bool
+overflowsAt ls p s =
+    cond (eqb p (lastPlace ls (s .running .function))) false (overflowsBy (lineAt ls (placeLine ls p s)) s)
+
+-- outcome 5 in step k, nothing changed
+abbrev pub overflowIn : {H : Type 0} → (k : ℕ) → State H → Struck
+overflowIn k s = record { outcome = 5; steps = suc k; trace = s .trace; variables = s .vars }
+
+-- "After a wide jump out of an unstruck run". 02, No. 5: "A run struck across a guard therefore ends with 5, in the step struck, exactly if
+-- it lands before such a do, where it met the alarm or spent its budget before; otherwise demand 3 stays."
 unfoldable pub caughtFrom : {H : Type 0} → List Line → (b k place : ℕ) → State H → Struck
-caughtFrom ls b k p s = alarmIn (alarmStep ls p k s) b (doneAt ls p s)
+caughtFrom ls b k p s = cond (overflowsAt ls p s) (overflowIn k s) (alarmIn (alarmStep ls p k s) b (doneAt ls p s))
 
 pub record Jumped {H : Type 0} (F : Form H) (ls : List Line) (vs : List ℕ) (b k p : ℕ) : Type 0 where
   pub not-struck : strikes F ls vs b k ≡ false → runOf F ls (strikeBy k p) b vs ≡ runOf F ls None b vs

@@ -9,8 +9,8 @@ use Rattle.rules.specs.declared.strike.Strike.{Strike}
 use Rattle.rules.specs.declared.strike.Strike.the-variants.{None, Jump}
 use Rattle.rules.specs.Limits.{maxOpen, noStep}
 use Rattle.rules.specs.Variables.{holdsOn}
-use Rattle.rules.specs.State.{Frame, State, begin, goTo, did, opening, returning, depth}
-use Rattle.rules.specs.Run.{Turn, on, ends, untaken, next, Answer, run}
+use Rattle.rules.specs.State.{Frame, State, begin, goTo, opening, returning, depth}
+use Rattle.rules.specs.Run.{Turn, on, ends, untaken, next, doing, Answer, run}
 use Rattle.rules.specs.Line.{Line, doLine, tickLine, testLine, leaveLine, outLine, callLine, backLine, retLine, lineAt}
 use Rattle.rules.specs.Function.{functionAt, startOf, finishOf, lastPlace}
 
@@ -53,7 +53,7 @@ leavesOf F s (f ∷ fs) = on (returning f fs s)
 -- The column "Step" of 01's table of lines: what line k does, where g is what it compares and changes.
 unfoldable pub turnBy : {H : Type 0} → Form H → List Line → (k : ℕ) → Line → Guard H → State H → Turn H
 -- 21 do: "does it, next line"
-turnBy F ls k (doLine o e) g now = moved (suc k) (λ x. x) (did o e now)
+turnBy F ls k (doLine o e) g now = next (doing o e now) (λ s. moved (suc k) (λ x. x) s)
 -- 22 tick: the next line
 turnBy F ls k (tickLine r e a) g now = guarded g now (moved (suc k) (g .moves true) now)
 -- 23 test: "check, then the test. True: .. next line. False: .. go"

@@ -45,3 +45,4 @@ pub mod Steps
 pub mod LineFigures
 pub mod FigureCases
 pub mod SweepCases
+pub mod OverflowCases

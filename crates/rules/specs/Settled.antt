@@ -1,12 +1,12 @@
 -- The sweep by one test for each place, and at most one struck run for each step: how it is found, and that it is found so. Where the unstruck
 -- run finishes, a jump to the place where the run stands changes nothing; the theorem settles every wide jump: alarm, or not finished where
--- the budget ends first. What is left is the jump across one do: past it from its place, or back to it from its tick's.
+-- the budget ends first or a do overflows. What is left is the jump across one do: past it from its place, or back to it from its tick's.
 -- proofs/Form/Sweep.antt proves the statement of every form that meets demand 3.
 use Prim.Native.Nat.{ℕ, suc, _-_, _≤_, _<_}
 use mathlib.Core.Path.{_≡_}
 use mathlib.Core.Bool.{Bool, true, false, cond}
 use mathlib.Core.List.{List}
-use lib.Dec.{eqb, ltb}
+use lib.Dec.{eqb}
 use Rattle.rules.specs.declared.ending.Ending.{Ending}
 use Rattle.rules.specs.declared.ending.Ending.the-variants.{Alarmed, Same, Other, Unfinished}
 use Rattle.rules.specs.declared.strike.Strike.the-variants.{None}
@@ -18,7 +18,7 @@ use Rattle.rules.specs.State.{State, goTo}
 use Rattle.rules.specs.Run.{Answer, run, outcomeOf}
 use Rattle.rules.specs.Form.{Form, placeLine, strikingStepOf}
 use Rattle.rules.specs.Hardened.{counterForm}
-use Rattle.rules.specs.Demands.{alarmStep}
+use Rattle.rules.specs.Demands.{caughtFrom}
 use Rattle.rules.specs.RunPromise.{stateAt}
 use Rattle.rules.specs.Sweep.{endingOf, total, sumTo, unstruckRun, placesAt, struckEnding, sweepOf}
 
@@ -46,9 +46,9 @@ narrowEnding F ls trace b k s =
     let y = across ls (s .running .at) in
     cond (eqb y (s .running .at)) Same (endingOf trace (goingOn F ls b k y s))
 
--- "the alarm comes in step .."; "A budget that ends before that step gives outcome 0."
+-- how a wide jump ends: it never finishes
 unfoldable pub wideEnding : {H : Type 0} → List Line → (budget k p : ℕ) → State H → Ending
-wideEnding ls b k p s = cond (ltb (alarmStep ls p k s) b) Alarmed Unfinished
+wideEnding ls b k p s = cond (eqb ((caughtFrom ls b k p s) .outcome) 2) Alarmed Unfinished
 
 -- a jump to place p out of state s, before step k
 unfoldable pub settledEnding : {H : Type 0} → Form H → List Line → (unstruck : List ℕ) → (budget k : ℕ) → State H → (p : ℕ) → Ending

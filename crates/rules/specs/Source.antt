@@ -10,8 +10,8 @@ use Rattle.rules.specs.Limits.{maxOpen}
 use Rattle.rules.specs.Row.{Table, kindAt, operandsAt}
 use Rattle.rules.specs.Scan.{Part, body, thenPart, elsePart, loopBody, Open, openAt, partOf, openerOf, fromLoop, endOf, elseOf, hasElse, functionRow}
 use Rattle.rules.specs.Variables.{holdsOn}
-use Rattle.rules.specs.State.{Frame, State, begin, goTo, did, opening, returning, depth}
-use Rattle.rules.specs.Run.{Turn, on, ends, Answer, run}
+use Rattle.rules.specs.State.{Frame, State, begin, goTo, opening, returning, depth}
+use Rattle.rules.specs.Run.{Turn, on, ends, next, doing, Answer, run}
 
 -- a source run's functions have nothing of their own
 abbrev pub Source : Type 0
@@ -46,7 +46,7 @@ callRow t i n s =
 -- end". A function row, or a row of no kind, is never reached.
 unfoldable pub rowStep : Table → (i : ℕ) → List Open → Kind → Source → Turn (Unit {0})
 rowStep t i fs Function s = on (toRow (suc i) s)
-rowStep t i fs Do s = on (toRow (suc i) (did (operandsAt t i) i s))
+rowStep t i fs Do s = next (doing (operandsAt t i) i s) (λ s'. on (toRow (suc i) s'))
 rowStep t i fs If s = on (toRow (cond (holdsOn (operandsAt t i) (s .vars)) (suc i) (falseRow t i)) s)
 rowStep t i fs Else s = on (toRow (suc (endOf t (openerOf fs))) s)
 rowStep t i fs Loop s = on (toRow (cond (holdsOn (operandsAt t i) (s .vars)) (suc i) (suc (endOf t i))) s)

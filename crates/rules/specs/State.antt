@@ -31,7 +31,7 @@ abbrev pub goTo : {C : Type 0} → (k : ℕ) → (c : C) → State C → State C
 goTo k c s =
     record { running = frame (s .running .function) k c; callers = s .callers; last = s .last; vars = s .vars; trace = s .trace }
 
--- the do of this row is done: "The trace is the do row numbers in order."
+-- the do of this row is done, where it does not overflow: "The trace is the do row numbers in order."
 abbrev pub did : {C : Type 0} → Operands → (row : ℕ) → State C → State C
 did o i s =
     record { running = s .running; callers = s .callers; last = s .last; vars = doneOn o (s .vars); trace = s .trace ++ (i ∷ []) }

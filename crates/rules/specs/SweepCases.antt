@@ -35,10 +35,10 @@ abbrev pub sweptBy : (budget count : ℕ) → Sweeping
 sweptBy b n = sweepCall lines given b (slots n) words
 
 pub record SweepCases : Type 0 where
-  -- 12 steps with 8 places each
-  pub budget-20 : sweptBy 20 20 ≡ swept 20 78 15 2 1 (1 ∷ 3 ∷ 3 ∷ [])
+  -- 12 steps with 8 places each; where v0 is 0, a jump before the do that takes 1 away ends with 5
+  pub budget-20 : sweptBy 20 20 ≡ swept 20 74 15 2 5 (1 ∷ 3 ∷ 3 ∷ [])
   -- the run's last step is the budget's: a do done twice does not finish, nor do the late alarms before the two dos
-  pub budget-12 : sweptBy 12 12 ≡ swept 12 76 13 1 6 (1 ∷ 3 ∷ 3 ∷ [])
+  pub budget-12 : sweptBy 12 12 ≡ swept 12 73 13 1 9 (1 ∷ 3 ∷ 3 ∷ [])
   -- 13, and nothing is changed
   pub budget-11 : sweptBy 11 20 ≡ refused 20 13
   -- 9 before 13

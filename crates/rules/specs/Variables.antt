@@ -1,30 +1,46 @@
--- What a do and a test do with the variables (01, "The source table").
-use Prim.Native.Nat.{ℕ, _+_, _-_, _%_}
-use mathlib.Core.Bool.{Bool, cond, not}
+-- What a do and a test do with the variables (01, "The source table"; 02, No. 5).
+use Prim.Native.Nat.{ℕ, _+_, _-_}
+use mathlib.Core.Bool.{Bool, true, false, cond, not}
 use mathlib.Core.List.{List}
-use lib.Dec.{eqb, ltb}
+use lib.Dec.{eqb, ltb, leb}
 use lib.ListN.{getD, set}
+use Rattle.rules.specs.declared.computed.Computed.{Computed}
+use Rattle.rules.specs.declared.computed.Computed.the-variants.{Fits, Overflows}
 use Rattle.rules.specs.declared.operands.Operands.{Operands}
 
--- "2 and 3 modulo 65,536"
-abbrev pub sum : ℕ → ℕ → ℕ
-sum x y = (x + y) % 65536
+-- 02, No. 5: "A do whose sum passes 65,535 or whose difference falls below 0"
+abbrev pub sum : ℕ → ℕ → Computed
+sum x y = cond (leb (x + y) 65535) (Fits (x + y)) Overflows
 
-abbrev pub difference : ℕ → ℕ → ℕ
-difference x y = (x + (65536 - y)) % 65536
+abbrev pub difference : ℕ → ℕ → Computed
+difference x y = cond (leb y x) (Fits (x - y)) Overflows
 
 -- the value of variable p
 abbrev pub variable : List ℕ → (p : ℕ) → ℕ
 variable vs p = getD vs p 0
 
--- "op 0: vp = n; 1: vp = vq; 2: vp = vp + vq; 3: vp = vp - vq"
-unfoldable pub doneOn : Operands → List ℕ → List ℕ
-doneOn o vs =
-    set vs (o .p)
-    (cond (eqb (o .op) 0) (o .n)
-    (cond (eqb (o .op) 1) (variable vs (o .q))
+-- what vp gets: "op 0: vp = n; 1: vp = vq; 2: vp = vp + vq; 3: vp = vp - vq"
+unfoldable pub computed : Operands → List ℕ → Computed
+computed o vs =
+    cond (eqb (o .op) 0) (Fits (o .n))
+    (cond (eqb (o .op) 1) (Fits (variable vs (o .q)))
     (cond (eqb (o .op) 2) (sum (variable vs (o .p)) (variable vs (o .q)))
-    (difference (variable vs (o .p)) (variable vs (o .q))))))
+    (difference (variable vs (o .p)) (variable vs (o .q)))))
+
+abbrev pub isOverflow : Computed → Bool
+isOverflow (Fits x) = false
+isOverflow Overflows = true
+
+abbrev pub overflows : Operands → List ℕ → Bool
+overflows o vs = isOverflow (computed o vs)
+
+-- the variables after the do; one that overflows changes none
+abbrev pub assigned : Computed → (p : ℕ) → List ℕ → List ℕ
+assigned (Fits x) p vs = set vs p x
+assigned Overflows p vs = vs
+
+abbrev pub doneOn : Operands → List ℕ → List ℕ
+doneOn o vs = assigned (computed o vs) (o .p) vs
 
 -- "test op 0: vp = n; 1: vp differs from n; 2: vp less than vq, unsigned"
 unfoldable pub holdsOn : Operands → List ℕ → Bool

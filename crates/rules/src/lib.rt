@@ -1,6 +1,7 @@
 // The types that the definitions and the code share, what reads a word, and the numbers of the causes.
 pub mod answer;
 pub mod bytes;
+pub mod computed;
 pub mod ending;
 pub mod kind;
 pub mod limits;

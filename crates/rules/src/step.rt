@@ -8,4 +8,6 @@ pub enum Step {
     TooManyOpen(u16),
     // The place of the jump is beyond this last place of the running function.
     Beyond(u16),
+    // The sum or difference of this row's do does not fit (02, No. 5).
+    Overflow(u16),
 }

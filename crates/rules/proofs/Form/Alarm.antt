@@ -1,8 +1,9 @@
--- The step that a wide jump strikes, in every strict form: the alarm comes at once before a guard and
--- at place m with one function open, and one step later before a do and at place m with more open. Assumes that the table is accepted.
+-- The step that a wide jump strikes, in every strict form: it ends the run before a do that overflows; the alarm comes at once before a
+-- guard and at place m with one function open, and one step later before any other do and at place m with more open. Assumes that the
+-- table is accepted.
 use mathlib.Core.Logic.{_⊎_, inl, inr}
 use mathlib.Core.Path.{_≡_, refl, sym, ap, _∙_, subst}
-use mathlib.Core.Bool.{true, false}
+use mathlib.Core.Bool.{Bool, true, false, cond}
 use mathlib.Core.List.{List, [], _∷_, _++_}
 use Prim.Native.Nat.{ℕ, suc, _+_, _≤_, _<_}
 use native.Mathlib.Nat.{eq-or-lt-of-le}
@@ -11,19 +12,19 @@ use lib.ListN.{length}
 use lib.Dec.{eqb}
 use borrow.Author.Tests.{eq-eqb, ne-eqb}
 use Rattle.rules.specs.declared.kind.Kind.the-variants.{Do}
-use Rattle.rules.specs.declared.step.Step.the-variants.{Finished, Alarm}
+use Rattle.rules.specs.declared.step.Step.the-variants.{Finished, Alarm, Overflow}
 use Rattle.rules.specs.Row.{Table, kindAt, operandsAt}
 use Rattle.rules.specs.Scan.{Open}
 use Rattle.rules.specs.Line.{Line, doLine, tickLine, backLine, lineAt, isGuard}
 use Rattle.rules.specs.Harden.{lineCount, lineOf, backOf, rowLines, harden}
 use Rattle.rules.specs.Function.{startOf, finishOf, lastPlace}
-use Rattle.rules.specs.Variables.{doneOn}
+use Rattle.rules.specs.Variables.{doneOn, overflows}
 use Rattle.rules.specs.State.{Frame, State}
-use Rattle.rules.specs.Run.{ends}
+use Rattle.rules.specs.Run.{on, ends}
 use Rattle.rules.specs.Source.{Source}
 use Rattle.rules.specs.Form.{Form, must, leavesOf, turnBy, lineStepOf, stepOf, placeLine}
 use Rattle.rules.specs.Match.{guardBetween}
-use Rattle.rules.specs.Demands.{alarmStep, doneBy, doneAt}
+use Rattle.rules.specs.Demands.{alarmStep, doneBy, doneAt, overflowsBy, overflowsAt}
 use Rattle.rules.proofs.Logic.{clash}
 use Rattle.rules.proofs.Accepted.{Proper}
 use Rattle.rules.proofs.Harden.{line-at}
@@ -32,7 +33,7 @@ use Rattle.rules.proofs.Place.{start-finish, before-finish, line-of}
 use Rattle.rules.proofs.Form.Settles.{Settles}
 use Rattle.rules.proofs.Form.Relation.{Back, waiting, lineBacks, hard, Linked, Related, step-at}
 use Rattle.rules.proofs.Guard.{Sort, a-do, a-guard, sort}
-use Rattle.rules.proofs.Form.Struck.{landedAt, Caught, at-once, one-later}
+use Rattle.rules.proofs.Form.Struck.{landedAt, Caught, at-once, one-later, overflowing}
 use Rattle.rules.proofs.Form.Strict.{Strict}
 use Rattle.rules.proofs.Between.{Between, up, down, between}
 use Rattle.rules.proofs.Form.Where.{Stands, stands}
@@ -66,6 +67,16 @@ guard-keeps (Line.callLine r e a b go) g s = refl
 guard-keeps (backLine r e a b) g s = refl
 guard-keeps (Line.retLine e a) g s = refl
 
+guard-fits : {H : Type 0} (ℓ : Line) → isGuard ℓ ≡ true → (s : State H) → overflowsBy ℓ s ≡ false
+guard-fits (doLine o e) g s = clash g refl
+guard-fits (tickLine r e a) g s = refl
+guard-fits (Line.testLine o r s′ u e a b c go) g s = refl
+guard-fits (Line.leaveLine r s′ e a b go) g s = refl
+guard-fits (Line.outLine r s′ u e a go) g s = refl
+guard-fits (Line.callLine r e a b go) g s = refl
+guard-fits (backLine r e a b) g s = refl
+guard-fits (Line.retLine e a) g s = refl
+
 -- a guard between k and a do is also between k and the line after the do
 past-do : (ls : List Line) (k k′ : ℕ) → isGuard (lineAt ls k′) ≡ false → Between ls k k′ → Between ls k (suc k′)
 past-do ls k k′ d (up x a b g) = up x a (omega arith) g
@@ -86,12 +97,16 @@ module _ (t : Table) (ok : Proper t) {H : Type 0} {F : Form H} (S : Settles t F)
   unfolding doneAt
   done-last rest e = rw (eq-eqb p (lastPlace (harden t) n) e)
 
+  fits-last : (rest : List (Frame H)) → p ≡ lastPlace (harden t) n → overflowsAt (harden t) p (from rest) ≡ false
+  unfolding overflowsAt
+  fits-last rest e = rw (eq-eqb p (lastPlace (harden t) n) e)
+
   abbrev at : ℕ
   at = startOf (harden t) n + p
 
   caught-last : p ≡ lastPlace (harden t) n → (bs : List Back) → Linked t n bs → Caught F (harden t) p (from (lineBacks S bs))
   unfolding alarmStep rowLines
-  caught-last e [] lk = at-once (λ k. rw (eq-eqb p (lastPlace (harden t) n) e)) (landedAt (harden t) p (from []))
+  caught-last e [] lk = at-once (fits-last [] e) (λ k. rw (eq-eqb p (lastPlace (harden t) n) e)) (landedAt (harden t) p (from []))
       (step-finish F t n at cn [] l vs tr (omega (arith, start-finish t ok n (st .in-function .known)))
       ∙ ap (λ x. must x (landedAt (harden t) p (from [])) (ends Finished (landedAt (harden t) p (from []))))
       (R .not-host k w f fs (subst (λ x. Stands t x k w f fs) lk st)))
@@ -103,7 +118,7 @@ module _ (t : Table) (ok : Proper t) {H : Type 0} {F : Form H} (S : Settles t F)
       let back-is : lineAt (harden t) (suc (lineOf t (b .row))) ≡ backOf t (b .row) (cl .top ∷ cl .others) n
       = ap (lineAt (harden t)) (let z : suc (lineOf t (b .row)) ≡ lineOf t (b .row) + 1 = omega arith in z) ∙ line-at t (b .row) 1 (cl .in-function .within) (omega (arith, ct))
       ∙ ap (λ s. lineAt (rowLines t (b .row) s (kindAt t (b .row))) 1) (cl .in-function .open-is) ∙ ap (λ x. lineAt (rowLines t (b .row) (cl .top ∷ cl .others) x) 1) (cl .calls) ∙ ap (backOf t (b .row) (cl .top ∷ cl .others)) (cl .callee) in
-      one-later (λ k. rw (eq-eqb p (lastPlace (harden t) n) e, ne-eqb (suc (suc (length (lineBacks S bs)))) 1 (λ x. bad x))) h h
+      one-later (fits-last (lineBacks S (b ∷ bs)) e) (λ k. rw (eq-eqb p (lastPlace (harden t) n) e, ne-eqb (suc (suc (length (lineBacks S bs)))) 1 (λ x. bad x))) h h
       (step-finish F t n at cn (lineBacks S (b ∷ bs)) l vs tr (omega (arith, start-finish t ok n (st .in-function .known))))
       (omega (arith, before-finish t ok (cl .in-function), ct))
       (step-at S (b .function) (suc (lineOf t (b .row))) _ (omega (arith, before-finish t ok (cl .in-function), ct)) back-is _ _ cn vs tr
@@ -119,23 +134,35 @@ module _ (t : Table) (ok : Proper t) {H : Type 0} {F : Form H} (S : Settles t F)
     not-last = ne-eqb p (lastPlace (harden t) n) (omega arith)
 
     caught-guard : (ℓ : Line) → lineAt (harden t) at ≡ ℓ → isGuard ℓ ≡ true → Caught F (harden t) p (from rest)
-    unfolding alarmStep doneAt
-    caught-guard ℓ q g = at-once (λ k. rw (not-last, q, g)) (landedAt (harden t) p (from rest))
+    unfolding alarmStep doneAt overflowsAt
+    caught-guard ℓ q g = at-once (rw (not-last, q) (guard-fits ℓ g (from rest))) (λ k. rw (not-last, q, g)) (landedAt (harden t) p (from rest))
         (step-at S n at ℓ (omega arith) q cn rest l vs tr
         ∙ check-fails F (harden t) ℓ n at cn rest l vs tr g (subst (λ x. F .guard at x .passes cn l ≡ false) q (R .refuses n k w f fs st at (omega arith) (omega arith) (ap isGuard q ∙ g) wide l)))
         (rw (not-last, q, guard-keeps ℓ g (from rest)) (record { vars-are = refl; trace-is = refl }))
 
-    caught-do : (j : ℕ) (h : Open) (hs : List Open) → InFunction t n j h hs → at ≡ lineOf t j → kindAt t j ≡ Do → lineAt (harden t) at ≡ doLine (operandsAt t j) j → Caught F (harden t) p (from rest)
-    unfolding alarmStep doneAt rowLines turnBy
-    caught-do j h hs mj is r q =
+    -- a do, by whether it overflows on the variables of the run
+    does : (j : ℕ) → lineAt (harden t) at ≡ doLine (operandsAt t j) j → (y : Bool) → overflows (operandsAt t j) vs ≡ y
+        → stepOf F (harden t) (landedAt (harden t) p (from rest)) ≡ cond y (ends (Overflow j) (landedAt (harden t) p (from rest))) (on (hard n (suc at) cn rest l (doneOn (operandsAt t j) vs) (tr ++ (j ∷ []))))
+    unfolding turnBy
+    does j q true o = step-at S n at _ (omega arith) q cn rest l vs tr ∙ rw o
+    does j q false o = step-at S n at _ (omega arith) q cn rest l vs tr ∙ rw o
+
+    caught-overflow : (j : ℕ) → lineAt (harden t) at ≡ doLine (operandsAt t j) j → overflows (operandsAt t j) vs ≡ true → Caught F (harden t) p (from rest)
+    unfolding overflowsAt
+    caught-overflow j q o = overflowing (rw (not-last, q) o) j (landedAt (harden t) p (from rest)) (does j q true o) (record { vars-are = refl; trace-is = refl })
+
+    caught-do : (j : ℕ) (h : Open) (hs : List Open) → InFunction t n j h hs → at ≡ lineOf t j → kindAt t j ≡ Do → lineAt (harden t) at ≡ doLine (operandsAt t j) j → overflows (operandsAt t j) vs ≡ false
+        → Caught F (harden t) p (from rest)
+    unfolding alarmStep doneAt rowLines overflowsAt
+    caught-do j h hs mj is r q o =
         let done = hard n (suc at) cn rest l (doneOn (operandsAt t j) vs) (tr ++ (j ∷ [])) in
         let ct : lineCount (kindAt t j) ≡ 2 = ap lineCount r in
         let tick-is : lineAt (harden t) (suc at) ≡ tickLine _ _ _
         = ap (lineAt (harden t)) (let z : suc at ≡ lineOf t j + 1 = omega arith in z) ∙ line-at t j 1 (mj .within) (omega (arith, ct)) ∙ ap (λ s. lineAt (rowLines t j s (kindAt t j)) 1) (mj .open-is)
         ∙ ap (λ x. lineAt (rowLines t j (h ∷ hs) x) 1) r in
         let late : suc at < finishOf (harden t) n = omega (arith, before-finish t ok mj, ct) in
-        one-later (λ k. rw (not-last, q)) done done
-        (step-at S n at _ (omega arith) q cn rest l vs tr)
+        one-later (rw (not-last, q) o) (λ k. rw (not-last, q)) done done
+        (does j q false o)
         late
         (step-at S n (suc at) _ late tick-is cn rest l _ _
         ∙ check-fails F (harden t) _ n (suc at) cn rest l _ _ refl
@@ -145,7 +172,11 @@ module _ (t : Table) (ok : Proper t) {H : Type 0} {F : Form H} (S : Settles t F)
     caught-line : (j ph : ℕ) (h : Open) (hs : List Open) → InFunction t n j h hs → at ≡ lineOf t j + ph → lineAt (harden t) at ≡ lineAt (rowLines t j (h ∷ hs) (kindAt t j)) ph
         → Sort t j h hs ph (lineAt (rowLines t j (h ∷ hs) (kindAt t j)) ph) → Caught F (harden t) p (from rest)
     caught-line j ph h hs mj is q (a-guard d g) = caught-guard _ q (g .guards)
-    caught-line j ph h hs mj is q (a-do r z x) = caught-do j h hs mj (omega arith) r (q ∙ x)
+    caught-line j ph h hs mj is q (a-do r z x) = by (overflows (operandsAt t j) vs) refl
+      where
+        by : (y : Bool) → overflows (operandsAt t j) vs ≡ y → Caught F (harden t) p (from rest)
+        by true o = caught-overflow j (q ∙ x) o
+        by false o = caught-do j h hs mj (omega arith) r (q ∙ x) o
 
   -- ---- any place across a guard
   caught : (bs : List Back) → Linked t n bs → p ≤ lastPlace (harden t) n → Between (harden t) k at → Caught F (harden t) p (from (lineBacks S bs))

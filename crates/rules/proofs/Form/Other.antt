@@ -17,7 +17,7 @@ use Rattle.rules.specs.Function.{functionAt, startOf, lastPlace}
 use Rattle.rules.specs.State.{State}
 use Rattle.rules.specs.Run.{outcomeOf}
 use Rattle.rules.specs.Form.{Form, placeLine}
-use Rattle.rules.specs.Demands.{alarmStep}
+use Rattle.rules.specs.Demands.{caughtFrom}
 use Rattle.rules.specs.RunPromise.{stateAt}
 use Rattle.rules.specs.Sweep.{endingOf, one, total, sumCounts, unstruckRun, placesAt, struckEnding, sweepStep, sweepOf, anyOther}
 use Rattle.rules.specs.Settled.{across, goingOn, narrowEnding, wideEnding, settledEnding, StandsBefore, isOther, SweepLaw}
@@ -64,8 +64,8 @@ module _ {H : Type 0} (F : Form H) (ls : List Line) (tr : List ℕ) (b k : ℕ) 
   unfolding settledEnding wideEnding
   not-across p n =
       rw (ne-eqb (placeLine ls p s) (across ls (s .running .at)) n)
-      (cond-either (λ x. isOther x ≡ false) (eqb (placeLine ls p s) (s .running .at)) Same (cond (ltb (alarmStep ls p k s) b) Alarmed Unfinished) refl
-      (cond-either (λ x. isOther x ≡ false) (ltb (alarmStep ls p k s) b) Alarmed Unfinished refl refl))
+      (cond-either (λ x. isOther x ≡ false) (eqb (placeLine ls p s) (s .running .at)) Same (wideEnding ls b k p s) refl
+      (cond-either (λ x. isOther x ≡ false) (eqb ((caughtFrom ls b k p s) .outcome) 2) Alarmed Unfinished refl refl))
 
   cond-again : (x : Bool) (z w : Ending) → cond x z (cond x z w) ≡ cond x z w
   cond-again true z w = refl

@@ -9,14 +9,15 @@ use borrow.Author.Tests.{ltb-true}
 use Rattle.rules.specs.declared.operands.Operands.{Operands}
 use Rattle.rules.specs.declared.kind.Kind.{Kind}
 use Rattle.rules.specs.declared.kind.Kind.the-variants.{Do, If, Loop}
+use Rattle.rules.specs.declared.step.Step.the-variants.{Overflow}
 use Rattle.rules.specs.Row.{Table, kindAt, operandsAt}
 use Rattle.rules.specs.Scan.{Part, thenPart, loopBody, Open, pushes, shapeOf, openAfter, regions, openAt, bodyRegion, endOf, elseOf, hasElse}
 use Rattle.rules.specs.Value.{past, takes, base, value}
 use Rattle.rules.specs.Line.{Line, doLine, testLine, lineAt}
 use Rattle.rules.specs.Harden.{lineCount, lineOf, testOf, rowLines, harden}
-use Rattle.rules.specs.Variables.{doneOn, holdsOn}
+use Rattle.rules.specs.Variables.{doneOn, holdsOn, overflows}
 use Rattle.rules.specs.State.{Frame}
-use Rattle.rules.specs.Run.{on}
+use Rattle.rules.specs.Run.{on, ends, outcomeOf}
 use Rattle.rules.specs.Source.{falseRow, rowStep, sourceStep}
 use Rattle.rules.specs.Form.{Form, turnBy, lineStepOf, stepOf}
 use Rattle.rules.proofs.Accepted.{Proper}
@@ -28,7 +29,7 @@ use Rattle.rules.proofs.Function.{InFunction, move-to}
 use Rattle.rules.proofs.Words.{word-base, word-at}
 use Rattle.rules.proofs.Parts.{body-below}
 use Rattle.rules.proofs.Form.Settles.{Settles}
-use Rattle.rules.proofs.Form.Relation.{Back, lineBacks, src, hard, here, Linked, ticking, Related, Both, both-on, source-step, line-step, ready-at}
+use Rattle.rules.proofs.Form.Relation.{Back, lineBacks, src, hard, here, Linked, ticking, Related, SharedEnd, early, Both, both-on, both-end, source-step, line-step, ready-at}
 
 test-line : {H : Type 0} (F : Form H) (ls : List Line) (n k : ℕ) (c : H) (rest : List (Frame H)) (l : H) (vs tr : List ℕ) (o : Operands) (r s t e a b d go : ℕ) → F .guard k (testLine o r s t e a b d go) .passes c l ≡ true
     → (y : Bool) → holdsOn o vs ≡ y → lineStepOf F ls k (testLine o r s t e a b d go) (hard n k c rest l vs tr)
@@ -36,33 +37,51 @@ test-line : {H : Type 0} (F : Form H) (ls : List Line) (n k : ℕ) (c : H) (rest
 unfolding turnBy
 test-line F ls n k c rest l vs tr o r s t e a b d go h y z = rw (h, z)
 
+overflow-early : {d : ℕ} (i : ℕ) → SharedEnd d (Overflow i)
+unfolding outcomeOf
+overflow-early i = early (omega arith) (omega arith) (omega arith)
+
 module _ (t : Table) (ok : Proper t) {H : Type 0} {F : Form H} (S : Settles t F) (n i : ℕ) (f : Open) (fs : List Open) (m : InFunction t n i f fs) (rest : List Back) (lk : Linked t n rest) (l : H) (vs tr : List ℕ) where
   abbrev Step : ℕ → Type 0
   Step d = Both S d (sourceStep t (src n i rest vs tr)) (stepOf F (harden t) (here S n i f fs rest l vs tr))
 
   pub step-do : kindAt t i ≡ Do → Step (length rest + 1)
   unfolding rowStep turnBy rowLines
-  step-do e = both-on _ _ (source-step t n i rest vs tr e (m .open-is))
-      (line-step t ok S m (lineOf t i) 0 (doLine (operandsAt t i) i) (omega arith) (rw e (omega arith)) (rw e) _ _ l vs tr)
-      (record {
-        n = n;
-        i = i;
-        j = suc i;
-        k = suc (lineOf t i);
-        w = value t (f .region) i;
-        l = l;
-        rest = rest;
-        vs = doneOn (operandsAt t i) vs;
-        tr = tr ++ (i ∷ []);
-        f = f;
-        fs = fs;
-        s-is = refl;
-        h-is = ap (λ x. hard n (suc (lineOf t i)) x (lineBacks S rest) l (doneOn (operandsAt t i) vs) (tr ++ (i ∷ []))) (S .over-do m e (value t (f .region) i));
-        in-function = m;
-        linked = lk;
-        mode = ticking e refl refl refl;
-        owes = refl;
-      })
+  step-do e = by (overflows (operandsAt t i) vs) refl
+    where
+      row-is : (y : Bool) → overflows (operandsAt t i) vs ≡ y
+          → sourceStep t (src n i rest vs tr) ≡ cond y (ends (Overflow i) (src n i rest vs tr)) (on (src n (suc i) rest (doneOn (operandsAt t i) vs) (tr ++ (i ∷ []))))
+      row-is true q = source-step t n i rest vs tr e (m .open-is) ∙ rw q
+      row-is false q = source-step t n i rest vs tr e (m .open-is) ∙ rw q
+
+      line-is : (y : Bool) → overflows (operandsAt t i) vs ≡ y
+          → stepOf F (harden t) (here S n i f fs rest l vs tr) ≡ cond y (ends (Overflow i) (here S n i f fs rest l vs tr)) (on (hard n (suc (lineOf t i)) (S .at (lineOf t i) (f ∷ fs) (value t (f .region) i)) (lineBacks S rest) l (doneOn (operandsAt t i) vs) (tr ++ (i ∷ []))))
+      line-is true q = line-step t ok S m (lineOf t i) 0 (doLine (operandsAt t i) i) (omega arith) (rw e (omega arith)) (rw e) _ _ l vs tr ∙ rw q
+      line-is false q = line-step t ok S m (lineOf t i) 0 (doLine (operandsAt t i) i) (omega arith) (rw e (omega arith)) (rw e) _ _ l vs tr ∙ rw q
+
+      by : (y : Bool) → overflows (operandsAt t i) vs ≡ y → Step (length rest + 1)
+      by true q = both-end (Overflow i) _ _ (row-is true q) (line-is true q)
+          (record { n = n; i = i; k = lineOf t i; l = l; rest = rest; c = S .at (lineOf t i) (f ∷ fs) (value t (f .region) i); vs = vs; tr = tr; s-is = refl; h-is = refl }) (overflow-early i)
+      by false q = both-on _ _ (row-is false q) (line-is false q)
+          (record {
+            n = n;
+            i = i;
+            j = suc i;
+            k = suc (lineOf t i);
+            w = value t (f .region) i;
+            l = l;
+            rest = rest;
+            vs = doneOn (operandsAt t i) vs;
+            tr = tr ++ (i ∷ []);
+            f = f;
+            fs = fs;
+            s-is = refl;
+            h-is = ap (λ x. hard n (suc (lineOf t i)) x (lineBacks S rest) l (doneOn (operandsAt t i) vs) (tr ++ (i ∷ []))) (S .over-do m e (value t (f .region) i));
+            in-function = m;
+            linked = lk;
+            mode = ticking e refl refl refl;
+            owes = refl;
+          })
 
   above : Chain (regions t i) (f ∷ fs)
   above = subst (Chain (regions t i)) (m .open-is) (chain t i)

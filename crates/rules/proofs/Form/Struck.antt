@@ -12,7 +12,7 @@ use borrow.Author.Tests.{eq-eqb, ne-eqb, eqb-true, eqb-false, ltb-true, ltb-fals
 use Rattle.rules.specs.declared.strike.Strike.{Strike}
 use Rattle.rules.specs.declared.strike.Strike.the-variants.{None, Jump}
 use Rattle.rules.specs.declared.step.Step.{Step}
-use Rattle.rules.specs.declared.step.Step.the-variants.{Went, Alarm, Beyond}
+use Rattle.rules.specs.declared.step.Step.the-variants.{Went, Alarm, Beyond, Overflow}
 use Rattle.rules.specs.Limits.{noStep}
 use Rattle.rules.specs.Line.{Line}
 use Rattle.rules.specs.Function.{finishOf, lastPlace}
@@ -20,7 +20,7 @@ use Rattle.rules.specs.State.{State, goTo}
 use Rattle.rules.specs.Run.{Turn, on, ends, untaken, Answer, after, run, outcomeOf}
 use Rattle.rules.specs.Form.{Form, strikeBy, placeLine, struck, stepOf, strikingStepOf, startBy, runOf}
 use Rattle.rules.specs.Match.{guardBetween}
-use Rattle.rules.specs.Demands.{before, strikes, Struck, struckShown, alarmStep, doneAt, caughtFrom, Jumped}
+use Rattle.rules.specs.Demands.{before, strikes, Struck, struckShown, alarmStep, doneAt, overflowsAt, caughtFrom, Jumped}
 use Rattle.rules.proofs.Logic.{clash, and-left, and-right, not-true}
 
 -- ---- a strike that names step j: every other step is as without it
@@ -41,11 +41,12 @@ pub data Onward {H : Type 0} (F : Form H) (ls : List Line) (I : State H → Type
   goes-on : (g : State H) → stepOf F ls h ≡ on g → I g → Onward F ls I h
   stops : (o : Step) (g : State H) → stepOf F ls h ≡ ends o g → (outcomeOf o ≡ 0 → ⊥) → Onward F ls I h
 
--- ---- the step that a jump strikes: the alarm comes at once, or one step later
+-- ---- the step that a jump strikes: the alarm comes at once, or one step later, or the do at the place overflows
 pub data Caught {H : Type 0} (F : Form H) (ls : List Line) (p : ℕ) (s : State H) : Type 0 where
-  at-once : ((k : ℕ) → alarmStep ls p k s ≡ k) → (h : State H) → stepOf F ls (landedAt ls p s) ≡ ends Alarm h → Keeps h (doneAt ls p s) → Caught F ls p s
-  one-later : ((k : ℕ) → alarmStep ls p k s ≡ suc k) → (h g : State H) → stepOf F ls (landedAt ls p s) ≡ on h → h .running .at < finishOf ls (h .running .function) → stepOf F ls h ≡ ends Alarm g
+  at-once : overflowsAt ls p s ≡ false → ((k : ℕ) → alarmStep ls p k s ≡ k) → (h : State H) → stepOf F ls (landedAt ls p s) ≡ ends Alarm h → Keeps h (doneAt ls p s) → Caught F ls p s
+  one-later : overflowsAt ls p s ≡ false → ((k : ℕ) → alarmStep ls p k s ≡ suc k) → (h g : State H) → stepOf F ls (landedAt ls p s) ≡ on h → h .running .at < finishOf ls (h .running .function) → stepOf F ls h ≡ ends Alarm g
       → Keeps h (doneAt ls p s) → Keeps g (doneAt ls p s) → Caught F ls p s
+  overflowing : overflowsAt ls p s ≡ true → (row : ℕ) (h : State H) → stepOf F ls (landedAt ls p s) ≡ ends (Overflow row) h → Keeps h s → Caught F ls p s
 
 pub after-same : {H : Type 0} (k : ℕ) (r : Turn H) (f g : State H → Answer H) → ((h : State H) → f h ≡ g h) → after k r f ≡ after k r g
 after-same k (on h) f g e = e h
@@ -120,14 +121,15 @@ module _ {H : Type 0} (F : Form H) (ls : List Line) where
   caught-from : (p k b : ℕ) (s : State H) → p ≤ lastPlace ls (s .running .function) → Caught F ls p s
       → struckShown (run (strikingStepOf F ls (Jump k p)) (suc b) k s) ≡ caughtFrom ls (k + suc b) k p s
   unfolding run caughtFrom outcomeOf
-  caught-from p k b s l (at-once x h e q) =
-      rw (struck-on p k s l, e, x k, lt-ltb k (k + suc b) (omega arith)) (shown-of 2 (suc k) h (doneAt ls p s) q)
-  caught-from p k zero s l (one-later x h g e₁ i e₂ q r) =
-      rw (struck-on p k s l, e₁, x k, le-ltb (suc k) (k + 1) (omega arith))
+  caught-from p k b s l (at-once v x h e q) =
+      rw (struck-on p k s l, e, v, x k, lt-ltb k (k + suc b) (omega arith)) (shown-of 2 (suc k) h (doneAt ls p s) q)
+  caught-from p k zero s l (one-later v x h g e₁ i e₂ q r) =
+      rw (struck-on p k s l, e₁, v, x k, le-ltb (suc k) (k + 1) (omega arith))
       (shown-of 0 (suc k) h (doneAt ls p s) q ∙ ap (λ y. record { outcome = 0; steps = y; trace = (doneAt ls p s) .trace; variables = (doneAt ls p s) .vars }) (let z : suc k ≡ k + 1 = omega arith in z))
-  caught-from p k (suc b) s l (one-later x h g e₁ i e₂ q r) =
-      rw (struck-on p k s l, e₁, not-now k p (suc k) h (omega arith), e₂, x k, lt-ltb (suc k) (k + suc (suc b)) (omega arith))
+  caught-from p k (suc b) s l (one-later v x h g e₁ i e₂ q r) =
+      rw (struck-on p k s l, e₁, not-now k p (suc k) h (omega arith), e₂, v, x k, lt-ltb (suc k) (k + suc (suc b)) (omega arith))
       (shown-of 2 (suc (suc k)) g (doneAt ls p s) r)
+  caught-from p k b s l (overflowing v row h e q) = rw (struck-on p k s l, e, v) (shown-of 5 (suc k) h s q)
 
   -- from the step struck on, the run goes unstruck from the place that it lands at
   strike-now : (p k b : ℕ) (h : State H) → p ≤ lastPlace ls (h .running .function)

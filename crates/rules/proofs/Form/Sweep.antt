@@ -19,7 +19,7 @@ use Rattle.rules.specs.State.{State}
 use Rattle.rules.specs.Run.{Turn, on, ends, untaken, Answer, after, run, outcomeOf}
 use Rattle.rules.specs.Form.{Form, strikeBy, placeLine, strikingStepOf, startBy, runOf}
 use Rattle.rules.specs.Match.{guardBetween}
-use Rattle.rules.specs.Demands.{before, strikes, alarmStep, caughtFrom}
+use Rattle.rules.specs.Demands.{before, strikes, alarmStep, doneAt, overflowsAt, overflowIn, caughtFrom}
 use Rattle.rules.specs.RunPromise.{stateAt}
 use Rattle.rules.specs.Sweep.{endingOf, one, total, sumTo, unstruckRun, placesAt, struckEnding, sweepStep, sweepOf}
 use Rattle.rules.specs.Settled.{across, goingOn, narrowEnding, wideEnding, settledEnding, StandsBefore, SweepLaw}
@@ -82,10 +82,19 @@ module _ {H : Type 0} (F : Form H) (ls : List Line) (vs : List ℕ) (b : ℕ) wh
     hits bl = and-both (and-both (ap not (ne-eqb k noStep (omega (arith, in-budget)))) (lt-ltb k b in-budget)) (eq-eqb _ _ reached)
 
 -- the endings that need no run
-ending-caught : {H : Type 0} (tr : List ℕ) (a : Answer H) (x : Bool) → outcomeOf (a .step) ≡ cond x 2 0 → endingOf tr a ≡ cond x Alarmed Unfinished
+ending-caught : {H : Type 0} (tr : List ℕ) (a : Answer H) (o : ℕ) → outcomeOf (a .step) ≡ o → o ≢ 1 → endingOf tr a ≡ cond (eqb o 2) Alarmed Unfinished
 unfolding endingOf
-ending-caught tr a true e = rw e
-ending-caught tr a false e = rw e
+ending-caught tr a o e n = rw (e, ne-eqb o 1 n)
+
+-- a wide jump never finishes
+caught-unfinished : {H : Type 0} (ls : List Line) (b k p : ℕ) (s : State H) → (caughtFrom ls b k p s) .outcome ≢ 1
+unfolding caughtFrom
+caught-unfinished ls b k p s = by (overflowsAt ls p s) (ltb (alarmStep ls p k s) b)
+  where
+    by : (x y : Bool) → (cond x (overflowIn k s) (record { outcome = cond y 2 0; steps = cond y (suc (alarmStep ls p k s)) b; trace = (doneAt ls p s) .trace; variables = (doneAt ls p s) .vars })) .outcome ≢ 1
+    by true y = omega arith
+    by false true = omega arith
+    by false false = omega arith
 
 ending-own : {H : Type 0} (a : Answer H) → outcomeOf (a .step) ≡ 1 → endingOf (a .state .trace) a ≡ Same
 unfolding endingOf
@@ -130,9 +139,10 @@ module _ (t : Table) (ok : Proper t) {H : Type 0} {F : Form H} (S : Settles t F)
 
       -- a wide one is caught
       wide-place : guardBetween (harden t) (s .running .at) (placeLine (harden t) p s) ≡ true → struckEnding F (harden t) vs b k p ≡ wideEnding (harden t) b k p s
-      unfolding caughtFrom wideEnding
+      unfolding wideEnding
       wide-place w =
-          ending-caught trace (runOf F (harden t) (strikeBy k p) b vs) (ltb (alarmStep (harden t) p k s) b) (ap (λ y. y .outcome) (jumped t ok S R vs b k p .caught struck in-places w))
+          ending-caught trace (runOf F (harden t) (strikeBy k p) b vs) ((caughtFrom (harden t) b k p s) .outcome) (ap (λ y. y .outcome) (jumped t ok S R vs b k p .caught struck in-places w))
+          (caught-unfinished (harden t) b k p s)
 
       -- the one across a do is run
       narrow-place : placeLine (harden t) p s ≡ across (harden t) (s .running .at) → placeLine (harden t) p s ≢ s .running .at → struckEnding F (harden t) vs b k p ≡ narrowEnding F (harden t) trace b k s

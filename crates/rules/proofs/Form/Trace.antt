@@ -9,15 +9,15 @@ use native.Mathlib.Omega.{arith}
 use lib.Dec.{eqb, ltb}
 use borrow.Author.Tests.{eq-eqb}
 use Rattle.rules.specs.declared.step.Step.{Step}
-use Rattle.rules.specs.declared.step.Step.the-variants.{Went, Finished, TooManyOpen}
+use Rattle.rules.specs.declared.step.Step.the-variants.{Went, Finished, TooManyOpen, Overflow}
 use Rattle.rules.specs.declared.strike.Strike.the-variants.{None}
 use Rattle.rules.specs.Bytes.{same}
 use Rattle.rules.specs.Limits.{maxOpen}
-use Rattle.rules.specs.Variables.{holdsOn}
+use Rattle.rules.specs.Variables.{holdsOn, overflows}
 use Rattle.rules.specs.Line.{Line, doLine, tickLine, testLine, leaveLine, outLine, callLine, backLine, retLine, lineAt, isGuard}
 use Rattle.rules.specs.Function.{functionAt, finishOf}
 use Rattle.rules.specs.State.{Frame, State, goTo, did, opening, retraced, depth}
-use Rattle.rules.specs.Run.{Turn, on, ends, untaken, Answer, after, run, outcomeOf}
+use Rattle.rules.specs.Run.{Turn, on, ends, untaken, next, doing, Answer, after, run, outcomeOf}
 use Rattle.rules.specs.Form.{Guard, Form, moved, must, leavesOf, turnBy, stepOf, strikingStepOf}
 use Rattle.rules.specs.Sweep.{endingOf}
 use Rattle.rules.proofs.Logic.{append-nil, cond-either}
@@ -46,6 +46,17 @@ many-sound : {H : Type 0} (s : State H) → Sound (ends (TooManyOpen maxOpen) s)
 unfolding outcomeOf
 many-sound s = omega arith
 
+-- a do that overflows, or is done
+do-sound : {H : Type 0} (k : ℕ) (y : Bool) (e : ℕ) (s d : State H) → Sound (next (cond y (ends (Overflow e) s) (on d)) (λ x. moved (suc k) (λ c. c) x))
+unfolding outcomeOf
+do-sound k true e s d = omega arith
+do-sound k false e s d = tt
+
+do-ahead : {H : Type 0} (tr : List ℕ) (k : ℕ) (y : Bool) (e : ℕ) (s d x : State H) → d ≡ ahead tr x
+    → next (cond y (ends (Overflow e) (ahead tr s)) (on d)) (λ z. moved (suc k) (λ c. c) z) ≡ turnAhead tr (next (cond y (ends (Overflow e) s) (on x)) (λ z. moved (suc k) (λ c. c) z))
+do-ahead tr k true e s d x q = refl
+do-ahead tr k false e s d x q = ap (λ z. moved (suc k) (λ c. c) z) q
+
 must-ahead : {H : Type 0} (tr : List ℕ) (b : Bool) (s : State H) (x y : Turn H) → x ≡ turnAhead tr y → must b (ahead tr s) x ≡ turnAhead tr (must b s y)
 must-ahead tr true s x y e = e
 must-ahead tr false s x y e = refl
@@ -60,7 +71,7 @@ called ls k go g now = on (opening (functionAt ls go) go (g .opens) (goTo (suc k
 
 -- what a line comes to where its guard passes
 abbrev passed : {H : Type 0} → Form H → List Line → (k : ℕ) → Line → Guard H → State H → Turn H
-passed F ls k (doLine o e) g now = moved (suc k) (λ x. x) (did o e now)
+passed F ls k (doLine o e) g now = next (doing o e now) (λ s. moved (suc k) (λ x. x) s)
 passed F ls k (tickLine r e a) g now = moved (suc k) (g .moves true) now
 passed F ls k (testLine o r s t e a b c go) g now = cond (holdsOn o (now .vars)) (moved (suc k) (g .moves true) now) (moved go (g .moves false) now)
 passed F ls k (leaveLine r s e a b go) g now = moved go (g .moves true) now
@@ -90,7 +101,7 @@ module _ {H : Type 0} (F : Form H) (ls : List Line) where
   leaves-sound s (f ∷ fs) = tt
 
   passed-sound : (k : ℕ) (l : Line) (g : Guard H) (now : State H) → Sound (passed F ls k l g now)
-  passed-sound k (doLine o e) g now = tt
+  passed-sound k (doLine o e) g now = do-sound k (overflows o (now .vars)) e now (did o e now)
   passed-sound k (tickLine r e a) g now = tt
   passed-sound k (testLine o r s t e a b c go) g now = cond-either Sound (holdsOn o (now .vars)) (moved (suc k) (g .moves true) now) (moved go (g .moves false) now) tt tt
   passed-sound k (leaveLine r s e a b go) g now = tt
@@ -121,7 +132,8 @@ module _ {H : Type 0} (F : Form H) (ls : List Line) where
   leaves-ahead tr s (f ∷ fs) = refl
 
   passed-ahead : (tr : List ℕ) (k : ℕ) (l : Line) (g : Guard H) (now : State H) → passed F ls k l g (ahead tr now) ≡ turnAhead tr (passed F ls k l g now)
-  passed-ahead tr k (doLine o e) g now = ap (λ y. on (goTo (suc k) (now .running .own) (retraced y (did o e now)))) (append-assoc tr (now .trace) (e ∷ []))
+  passed-ahead tr k (doLine o e) g now =
+      do-ahead tr k (overflows o (now .vars)) e now (did o e (ahead tr now)) (did o e now) (ap (λ y. retraced y (did o e now)) (append-assoc tr (now .trace) (e ∷ [])))
   passed-ahead tr k (tickLine r e a) g now = refl
   passed-ahead tr k (testLine o r s t e a b c go) g now =
       cond-ahead tr (holdsOn o (now .vars)) (moved (suc k) (g .moves true) (ahead tr now)) (moved go (g .moves false) (ahead tr now)) (moved (suc k) (g .moves true) now) (moved go (g .moves false) now) refl refl
