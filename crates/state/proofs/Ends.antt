@@ -8,7 +8,7 @@ use types.Run.{OneOf}
 use denote.Enum.Declared.{tagOf}
 use Rattle.rules.proofs.step.Step.{the-type}
 use Rattle.rules.specs.declared.step.Step.{Step}
-use Rattle.rules.specs.declared.step.Step.the-variants.{Went, Finished, Alarm, TooManyOpen, Beyond}
+use Rattle.rules.specs.declared.step.Step.the-variants.{Went, Finished, Alarm, TooManyOpen, Beyond, Overflow}
 use Rattle.rules.specs.Run.{outcomeOf}
 use Rattle.state.specs.Machine.{onward}
 
@@ -24,6 +24,9 @@ finished-ends k e = let z : _≡_ {A = ℕ} 0 1 = cc in omega arith
 pub too-many-ends : (n : ℕ) → IsEnd (TooManyOpen n)
 too-many-ends n k e = let z : _≡_ {A = ℕ} 0 1 = cc in omega arith
 
+pub overflow-ends : (n : ℕ) → IsEnd (Overflow n)
+overflow-ends n k e = let z : _≡_ {A = ℕ} 0 1 = cc in omega arith
+
 pub went-same : {x y : ℕ} → Went x ≡ Went y → x ≡ y
 went-same e = cc
 
@@ -33,6 +36,7 @@ onward-end Finished n f z = refl
 onward-end Alarm n f z = refl
 onward-end (TooManyOpen k) n f z = refl
 onward-end (Beyond k) n f z = refl
+onward-end (Overflow k) n f z = refl
 
 -- its outcome is not 0
 pub end-not-zero : (o : Step) → IsEnd o → outcomeOf o ≢ 0
@@ -42,9 +46,10 @@ end-not-zero Finished n e = omega arith
 end-not-zero Alarm n e = omega arith
 end-not-zero (TooManyOpen k) n e = omega arith
 end-not-zero (Beyond k) n e = omega arith
+end-not-zero (Overflow k) n e = omega arith
 
 -- an arm of a `match` that is none of the first variant's
-pub not-went : (s : Step) → OneOf (1 ∷ 2 ∷ 3 ∷ 4 ∷ []) (tagOf the-type s) → IsEnd s
+pub not-went : (s : Step) → OneOf (1 ∷ 2 ∷ 3 ∷ 4 ∷ 5 ∷ []) (tagOf the-type s) → IsEnd s
 not-went s k p q =
     let e : tagOf the-type s ≡ 0 = ap (tagOf the-type) q in
-    ⊎-elim (λ z. omega arith) (⊎-elim (λ z. omega arith) (⊎-elim (λ z. omega arith) (λ z. omega arith))) k
+    ⊎-elim (λ z. omega arith) (⊎-elim (λ z. omega arith) (⊎-elim (λ z. omega arith) (⊎-elim (λ z. omega arith) (λ z. omega arith)))) k

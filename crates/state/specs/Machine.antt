@@ -3,11 +3,13 @@ use Prim.Native.Nat.{ℕ, _+_, _<_}
 use mathlib.Core.List.{List}
 use lib.ListN.{length, set, replicate}
 use Rattle.rules.specs.declared.answer.Ran.{Ran}
+use Rattle.rules.specs.declared.computed.Computed.{Computed}
+use Rattle.rules.specs.declared.computed.Computed.the-variants.{Fits, Overflows}
 use Rattle.rules.specs.declared.operands.Operands.{Operands}
 use Rattle.rules.specs.declared.step.Step.{Step}
-use Rattle.rules.specs.declared.step.Step.the-variants.{Went, Finished, Alarm, TooManyOpen, Beyond}
+use Rattle.rules.specs.declared.step.Step.the-variants.{Went, Finished, Alarm, TooManyOpen, Beyond, Overflow}
 use Rattle.rules.specs.Limits.{maxOpen}
-use Rattle.rules.specs.Variables.{doneOn}
+use Rattle.rules.specs.Variables.{computed}
 use Rattle.rules.specs.Run.{outcomeOf}
 use Rattle.state.specs.declared.machine.Registers.{Registers}
 use Rattle.state.specs.declared.machine.Machine.{Machine}
@@ -20,10 +22,10 @@ abbrev pub registersAt : Registers → (at steps : ℕ) → Registers
 registersAt h k n =
     record { depth = h .depth; function = h .function; at = k; last = h .last; steps = n; traced = h .traced }
 
--- one more do is done
+-- one more do is done, and the run goes on at the next row or line
 abbrev pub tracedOf : Registers → Registers
 tracedOf h =
-    record { depth = h .depth; function = h .function; at = h .at; last = h .last; steps = h .steps; traced = h .traced + 1 }
+    record { depth = h .depth; function = h .function; at = h .at + 1; last = h .last; steps = h .steps; traced = h .traced + 1 }
 
 -- ---- an answer with the registers after it
 abbrev pub moved : Step → Registers → Moved
@@ -36,24 +38,13 @@ onward Finished f z = z
 onward Alarm f z = z
 onward (TooManyOpen n) f z = z
 onward (Beyond n) f z = z
+onward (Overflow n) f z = z
 
 -- ---- a do
 -- there is a slot for its row
 pub record HasSlot (h : Registers) (slots : List ℕ) : Type 0 where
   pub slot : h .traced < length slots
   pub count : h .traced < 65535
-
-pub record Did : Type 0 where
-  pub registers : Registers
-  pub vars : List ℕ
-  pub slots : List ℕ
-
-abbrev pub did : Registers → (vars slots : List ℕ) → Did
-did h vs tr = record { registers = h; vars = vs; slots = tr }
-
--- the variables change, and the row goes into the first slot past the trace
-abbrev pub didOf : Operands → (row : ℕ) → Registers → (vars slots : List ℕ) → Did
-didOf o row h vs tr = did (tracedOf h) (doneOn o vs) (set tr (h .traced) row)
 
 -- an answer with the variables and the slots after it
 pub record Done : Type 0 where
@@ -63,6 +54,14 @@ pub record Done : Type 0 where
 
 abbrev pub done : Moved → (vars slots : List ℕ) → Done
 done x vs tr = record { to = x; vars = vs; slots = tr }
+
+-- variable p changes, and the row goes into the first slot past the trace; or nothing changes
+abbrev pub didBy : Computed → (p row : ℕ) → Registers → (vars slots : List ℕ) → Done
+didBy (Fits x) p row h vs tr = done (moved (Went (h .at + 1)) (tracedOf h)) (set vs p x) (set tr (h .traced) row)
+didBy Overflows p row h vs tr = done (moved (Overflow row) h) vs tr
+
+unfoldable pub didOf : Operands → (row : ℕ) → Registers → (vars slots : List ℕ) → Done
+didOf o row h vs tr = didBy (computed o vs) (o .p) row h vs tr
 
 -- ---- the machine
 -- put together where a run stops

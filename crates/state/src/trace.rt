@@ -1,32 +1,47 @@
 // The rows of the dos that a run has done.
 ghost use mathlib.Core.Path.{_≡_};
+ghost use Prim.Native.Nat.{_<_};
 ghost use Rattle.rules.specs.Bounds.{VariablesIn};
-ghost use Rattle.state.specs.Machine.{HasSlot, did, didOf};
+ghost use Rattle.state.specs.Machine.{HasSlot, done, didOf};
+use crate::machine::Moved;
 use crate::machine::Registers;
+use crate::machine::stay;
 use crate::variables;
+use rules::computed::Computed;
 use rules::limits::VARIABLES;
 use rules::operands::Operands;
+use rules::step::Step;
 
-// A do: the variables change, and its row goes into the next trace slot.
+// A do, in either run: its variable changes, its row goes into the next trace slot, and the run goes on at the next row or line. One that
+// overflows ends the run before anything changes.
 pub fn act(
     o: Operands,
     row: u16,
     h: Registers,
     variables: &mut [u16; VARIABLES],
     trace: &mut [u16],
-) -> Registers
-    requires { ⌜ (VariablesIn o) × (HasSlot h (now trace)) ⌝ }
-    ensures { λ r. ⌜ did r (now (variables .exit)) (now (trace .exit)) ≡ didOf o row h (now (variables .entry)) (now (trace .entry)) ⌝ }
+) -> Moved
+    requires { ⌜ (VariablesIn o) × (h .at < 65535) × (HasSlot h (now trace)) ⌝ }
+    ensures { λ r. ⌜ done r (now (variables .exit)) (now (trace .exit)) ≡ didOf o row h (now (variables .entry)) (now (trace .entry)) ⌝ }
 {
-    variables::assign(o, variables);
+    let c = variables::compute(o, variables);
+    let Computed::Fits(x) = c else {
+        return stay(Step::Overflow(row), h);
+    };
+    let p = o.p as usize;
+    variables[p] = x;
     let k = h.traced as usize;
     trace[k] = row;
-    Registers {
-        depth: h.depth,
-        function: h.function,
-        at: h.at,
-        last: h.last,
-        steps: h.steps,
-        traced: h.traced + 1,
-    }
+    let at = h.at + 1;
+    stay(
+        Step::Went(at),
+        Registers {
+            depth: h.depth,
+            function: h.function,
+            at,
+            last: h.last,
+            steps: h.steps,
+            traced: h.traced + 1,
+        },
+    )
 }

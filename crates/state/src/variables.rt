@@ -1,43 +1,48 @@
 // What a do and a test do with the variables.
 ghost use mathlib.Core.Path.{_≡_};
-ghost use Rattle.rules.specs.Variables.{sum, difference, doneOn, holdsOn};
+ghost use Rattle.rules.specs.Variables.{sum, difference, computed, holdsOn};
 ghost use Rattle.rules.specs.Bounds.{VariablesIn};
+use rules::computed::Computed;
 use rules::limits::VARIABLES;
 use rules::operands::Operands;
 
-fn sum_of(x: u16, y: u16) -> u16
+fn sum_of(x: u16, y: u16) -> Computed
     ensures { λ r. ⌜ r ≡ sum x y ⌝ }
 {
-    std::num::wrapping_add_u16(x, y)
+    if x <= 65535 - y {
+        return Computed::Fits(x + y);
+    }
+    Computed::Overflows
 }
 
-fn difference_of(x: u16, y: u16) -> u16
+fn difference_of(x: u16, y: u16) -> Computed
     ensures { λ r. ⌜ r ≡ difference x y ⌝ }
 {
-    std::num::wrapping_sub_u16(x, y)
+    if y <= x {
+        return Computed::Fits(x - y);
+    }
+    Computed::Overflows
 }
 
-pub fn assign(o: Operands, variables: &mut [u16; VARIABLES])
+// What a do gives its variable. All arithmetic on variables is here, for either run.
+pub fn compute(o: Operands, variables: &[u16; VARIABLES]) -> Computed
     requires { ⌜ VariablesIn o ⌝ }
-    ensures { λ _. ⌜ now (variables .exit) ≡ doneOn o (now (variables .entry)) ⌝ }
+    ensures { λ r. ⌜ r ≡ computed o (now (variables .entry)) ⌝ }
 {
     let p = o.p as usize;
     let q = o.q as usize;
     if o.op == 0 {
-        variables[p] = o.n;
-        return;
+        return Computed::Fits(o.n);
     }
     let y = variables[q];
     if o.op == 1 {
-        variables[p] = y;
-        return;
+        return Computed::Fits(y);
     }
     let x = variables[p];
     if o.op == 2 {
-        variables[p] = sum_of(x, y);
-        return;
+        return sum_of(x, y);
     }
-    variables[p] = difference_of(x, y);
+    difference_of(x, y)
 }
 
 pub fn holds(o: Operands, variables: &[u16; VARIABLES]) -> bool

@@ -1,4 +1,4 @@
--- `machine::table::outcome_of` meets its contract. Assumes nothing.
+-- `state::answer::outcome_of` meets its contract. Assumes nothing.
 use mathlib.Core.Path.{sym, ap}
 use Rattle.rules.specs.Run.{outcomeOf}
 use borrow.Author.Needs.{needs}
@@ -22,6 +22,9 @@ enum-told-4 c = search needs
 enum-told-5 : tie.Need-enum-told-5
 enum-told-5 c = search needs
 
+enum-told-6 : tie.Need-enum-told-6
+enum-told-6 c = search needs
+
 returns : tie.Need-returns
 unfolding outcomeOf
 returns c = sym (ap outcomeOf (c .enum-told .given .1))
@@ -42,6 +45,10 @@ returns-5 : tie.Need-returns-5
 unfolding outcomeOf
 returns-5 c = sym (ap outcomeOf (c .enum-told5 .given .1))
 
+returns-6 : tie.Need-returns-6
+unfolding outcomeOf
+returns-6 c = sym (ap outcomeOf (c .enum-told6 .given .1))
+
 pub outcome-of-spec : {M : Type 1} → statement M
 outcome-of-spec =
     tie.close
@@ -51,8 +58,10 @@ outcome-of-spec =
     enum-told-3
     enum-told-4
     enum-told-5
+    enum-told-6
     returns
     returns-2
     returns-3
     returns-4
-    returns-5)
+    returns-5
+    returns-6)

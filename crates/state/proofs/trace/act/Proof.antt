@@ -1,33 +1,94 @@
 -- `state::trace::act` meets its contract. Assumes nothing.
+use Rattle.state.proofs.Dos.{did-fits, did-overflows}
 use borrow.Author.Needs.{needs}
 use Rattle.state.proofs.trace.act.Statement.{statement}
 use Rattle.state.proofs.trace.act.Tie as tie
 use Rattle.state.proofs.trace.act.Reads as reads
 use Rattle.state.proofs.trace.act.Lts as lts
-use Rattle.state.proofs.variables.assign.Reads as assign-reads
+use Rattle.state.proofs.machine.stay.Reads as stay-reads
+use Rattle.state.proofs.variables.compute.Reads as compute-reads
 
-assign-requires : tie.Need-assign-requires
-assign-requires c κs = search needs
+-- src/trace.rt:27:9
+compute-requires : tie.Need-compute-requires
+compute-requires c κs = search needs
 
+-- src/trace.rt:28:24
+enum-known-c : tie.Need-enum-known-c
+enum-known-c c = search needs
+
+-- src/trace.rt:29:21
+enum-told : tie.Need-enum-told
+enum-told c = search needs
+
+-- src/trace.rt:29:9
+stay-requires : tie.Need-stay-requires
+stay-requires c κs = search needs
+
+-- src/trace.rt:29:9
+returns : tie.Need-returns
+returns c = did-overflows _ _ _ _ _ (c .before .before .before .compute .ensures) (c .before .before .match .keys2) (c .stay .ensures)
+
+-- src/trace.rt:31:13
+cast-p : tie.Need-cast-p
+cast-p c = search needs
+
+-- src/trace.rt:32:5
+mul-variables : tie.Need-mul-variables
+mul-variables c = search needs
+
+-- src/trace.rt:32:5
+element-write-variables : tie.Need-element-write-variables
+element-write-variables c = search needs
+
+-- src/trace.rt:33:13
 cast-k : tie.Need-cast-k
 cast-k c = search needs
 
+-- src/trace.rt:34:5
 mul-trace : tie.Need-mul-trace
 mul-trace c = search needs
 
+-- src/trace.rt:34:5
 slice-write-trace : tie.Need-slice-write-trace
 slice-write-trace c = search needs
 
-add-t11 : tie.Need-add-t11
-add-t11 c = search needs
+-- src/trace.rt:35:14
+add-at : tie.Need-add-at
+add-at c = search needs
 
+-- src/trace.rt:44:21
+add-t18 : tie.Need-add-t18
+add-t18 c = search needs
+
+-- src/trace.rt:36:5
+stay-requires-2 : tie.Need-stay-requires-2
+stay-requires-2 c κs = search needs
+
+-- src/trace.rt:17:1
 same-length : tie.Need-same-length
 same-length c = search needs
 
-returns : tie.Need-returns
-returns c = rw (c .before .before .assign .ensures)
+-- src/trace.rt:17:1
+returns-2 : tie.Need-returns-2
+returns-2 c = did-fits _ _ _ _ _ (c .before .before .before .before .before .before .before .before .compute .ensures) (c .before .before .before .before .before .before .c .given .1) (c .stay2 .ensures)
 
 pub act-spec : {M : Type 1} → statement M
 act-spec =
     tie.close
-    (tie.spec assign-requires cast-k mul-trace slice-write-trace add-t11 same-length returns)
+    (tie.spec
+    compute-requires
+    enum-known-c
+    enum-told
+    stay-requires
+    returns
+    cast-p
+    mul-variables
+    element-write-variables
+    cast-k
+    mul-trace
+    slice-write-trace
+    add-at
+    add-t18
+    stay-requires-2
+    same-length
+    returns-2)
