@@ -1,5 +1,6 @@
--- A do of the code agrees with that of the hardened machine: its row goes into the first slot past the trace. Assumes that there is one.
-use mathlib.Core.Path.{_≡_, refl, sym, ap, _∙_}
+-- A do of the code agrees with that of the hardened machine: its row goes into the first slot past the trace, or it overflows and ends the
+-- run. Assumes that there is such a slot.
+use mathlib.Core.Path.{_≡_, refl, sym, ap, _∙_, subst}
 use mathlib.Core.List.{List, [], _∷_, _++_, append-assoc}
 use Prim.Native.Nat.{ℕ, suc, _+_, _<_}
 use native.Mathlib.Numerals.{add-one}
@@ -7,15 +8,22 @@ use native.Mathlib.Omega.{arith}
 use lib.ListN.{length, getD, set, drop, length-append}
 use lib.Seq.{drop-cons, set-append-seam}
 use Rattle.rules.specs.Line.{Line}
-use Rattle.rules.specs.Variables.{doneOn}
+use Rattle.rules.specs.declared.computed.Computed.{Computed}
+use Rattle.rules.specs.declared.computed.Computed.the-variants.{Fits, Overflows}
+use Rattle.rules.specs.declared.step.Step.the-variants.{Overflow}
+use Rattle.rules.specs.Variables.{computed}
+use Rattle.rules.specs.State.{frame}
+use Rattle.rules.specs.Run.{Turn, on, ends}
 use Rattle.rules.specs.Form.{turnBy}
-use Rattle.rules.specs.Hardened.{Hardened, lineStep}
-use Rattle.rules.specs.Bounds.{Fits}
+use Rattle.rules.specs.Hardened.{Counters, Hardened, lineStep}
+use Rattle.rules.specs.Bounds as bounds
 use Rattle.rules.specs.Calls.{over}
 use Rattle.line.specs.declared.Line as Declared
 use Rattle.line.specs.declared.kind.LineKind.the-variants.{Do}
 use Rattle.line.specs.Read.{asLine}
-use Rattle.machine.specs.Step.{Map, Parts, doOf, lineOf}
+use Rattle.state.specs.Machine.{didBy, didOf}
+use Rattle.state.proofs.Ends.{overflow-ends}
+use Rattle.machine.specs.Step.{Map, Parts, After, after, lineOf}
 use Rattle.machine.specs.Stands.{Stands}
 use Rattle.machine.proofs.Agree.{Agrees, inside-line}
 
@@ -28,9 +36,37 @@ over-more tr held e h =
     ∙ sym (append-assoc tr (e ∷ []) (drop (suc (length tr)) held)) ∙ ap (λ n. (tr ++ (e ∷ [])) ++ drop n held) (sym (length-one-more tr e))
 
 module _ (ls : List Line) (held : List ℕ) (m : Map) (p : Parts) (s : Hardened) (st : Stands ls held p s) (l : Declared.Line) where
-  pub do-agrees : p .registers .traced < length held → Fits ls (s .running .function) (p .registers .at) (asLine Do l) → Agrees ls held (p .registers .traced) (lineOf m Do l p) (lineStep ls (p .registers .at) (asLine Do l) s)
-  unfolding lineOf turnBy doOf
-  do-agrees room f =
+  -- what the code and the machine come to, where this is computed
+  abbrev coded : Computed → After
+  coded c =
+      let x = didBy c (l .operands .p) (l .e) (p .registers) (p .vars) (p .slots) in
+      after (x .to) (p .resumes) (p .functions) (x .vars) (p .words) (x .slots)
+
+  abbrev turned : Computed → Turn Counters
+  turned (Fits x) =
+      on (record {
+        running = frame (s .running .function) (suc (p .registers .at)) (s .running .own);
+        callers = s .callers;
+        last = s .last;
+        vars = set (s .vars) (l .operands .p) x;
+        trace = s .trace ++ (l .e ∷ []);
+      })
+  turned Overflows = ends (Overflow (l .e)) s
+
+  turned-is : (c : Computed) → computed (l .operands) (s .vars) ≡ c → lineStep ls (p .registers .at) (asLine Do l) s ≡ turned c
+  unfolding turnBy
+  turned-is (Fits x) e = rw e
+  turned-is Overflows e = rw e
+
+  agrees : (c : Computed) → p .registers .traced < length held → bounds.Fits ls (s .running .function) (p .registers .at) (asLine Do l) → Agrees ls held (p .registers .traced) (coded c) (turned c)
+  agrees Overflows room f =
+      record {
+        is = refl;
+        is-end = overflow-ends (l .e);
+        vars-are = st .vars-are;
+        traces = record { slots-are = st .traces .slots-are; traced-is = st .traces .traced-is };
+      }
+  agrees (Fits x) room f =
       let t = st .traces in
       record {
         line = p .registers .at + 1;
@@ -43,7 +79,7 @@ module _ (ls : List Line) (held : List ℕ) (m : Map) (p : Parts) (s : Hardened)
           own-is = st .own-is;
           waiting = st .waiting;
           last-is = st .last-is;
-          vars-are = ap (doneOn (l .operands)) (st .vars-are);
+          vars-are = ap (λ v. set v (l .operands .p) x) (st .vars-are);
           traces = record {
             slots-are = ap (λ x. set x (p .registers .traced) (l .e)) (t .slots-are) ∙ ap (λ i. set (over (s .trace) held) i (l .e)) (t .traced-is)
                 ∙ over-more (s .trace) held (l .e) (omega (arith, t .traced-is));
@@ -52,3 +88,10 @@ module _ (ls : List Line) (held : List ℕ) (m : Map) (p : Parts) (s : Hardened)
         };
         traced-more = omega arith;
       }
+
+  pub do-agrees : p .registers .traced < length held → bounds.Fits ls (s .running .function) (p .registers .at) (asLine Do l) → Agrees ls held (p .registers .traced) (lineOf m Do l p) (lineStep ls (p .registers .at) (asLine Do l) s)
+  unfolding lineOf didOf
+  do-agrees room f =
+      let c = computed (l .operands) (s .vars) in
+      subst (λ y. Agrees ls held (p .registers .traced) (coded y) (lineStep ls (p .registers .at) (asLine Do l) s)) (sym (ap (computed (l .operands)) (st .vars-are)))
+      (subst (Agrees ls held (p .registers .traced) (coded c)) (sym (turned-is c refl)) (agrees c room f))

@@ -15,9 +15,9 @@ use Rattle.line.specs.Read.{structAt, lineKindAt}
 use Rattle.guard.specs.Fields.{FieldsIn}
 use Rattle.machine.specs.Ready.{CanStep}
 use Rattle.guard.specs.Guard.{Counted, counted, tickOf, leaveOf, outOf, backOf}
-use Rattle.state.specs.Machine.{done, moved}
+use Rattle.state.specs.Machine.{done, didOf, moved}
 use Rattle.guard.specs.Call.{returnOf, callOf, shifted, Settled, settled, retOf, testedOf}
-use Rattle.machine.specs.Step.{doOf, Map, Parts, after, guarded, settling, lineOf, lastLine, stepOf}
+use Rattle.machine.specs.Step.{Map, Parts, after, guarded, settling, lineOf, lastLine, stepOf}
 
 -- ---- the fields of a line of a known kind are in range
 pub fields-in : (bs ss ws tr : List ℕ) (h : Registers) → CanStep bs ss h ws tr → h .at ≢ getD ss (h .function + 1) 0
@@ -44,7 +44,7 @@ module _ (bs : List ℕ) (m : Map) (p : Parts) where
         → after x (p .resumes) (p .functions) (p .vars) ws (p .slots) ≡ stepOf bs m p
     settle-arm K k y q x ws c = ap (settling p) c ∙ sym q ∙ is-line K k
 
-    pub do-arm : kd ≡ Do → (x : Moved) (vs tr : List ℕ) → done x vs tr ≡ doOf l (p .registers) (p .vars) (p .slots)
+    pub do-arm : kd ≡ Do → (x : Moved) (vs tr : List ℕ) → done x vs tr ≡ didOf (l .operands) (l .e) (p .registers) (p .vars) (p .slots)
         → after x (p .resumes) (p .functions) vs (p .words) tr ≡ stepOf bs m p
     unfolding lineOf
     do-arm k x vs tr c = ap (λ y. after (y .to) (p .resumes) (p .functions) (y .vars) (p .words) (y .slots)) c ∙ is-line Do k

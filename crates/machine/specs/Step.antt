@@ -5,22 +5,15 @@ use mathlib.Core.List.{List}
 use lib.Dec.{eqb}
 use lib.ListN.{getD}
 use Rattle.rules.specs.declared.step.Step.{Step}
-use Rattle.rules.specs.declared.step.Step.the-variants.{Went}
 use Rattle.line.specs.declared.Line.{Line}
 use Rattle.line.specs.declared.kind.LineKind.{LineKind}
 use Rattle.line.specs.declared.kind.LineKind.the-variants.{Do, Tick, Test, Leave, Out, Call, Back, Ret}
 use Rattle.line.specs.Read.{structAt, lineKindAt}
 use Rattle.state.specs.declared.machine.Registers.{Registers}
 use Rattle.state.specs.declared.machine.Moved.{Moved}
-use Rattle.state.specs.Machine.{moved, didOf, Done, done}
+use Rattle.state.specs.Machine.{didOf}
 use Rattle.guard.specs.Guard.{Counted, tickOf, leaveOf, outOf, backOf}
 use Rattle.guard.specs.Call.{callOf, returnOf, Settled, retOf, testedOf}
-
--- ---- a do
-unfoldable pub doOf : Line → Registers → (vars slots : List ℕ) → Done
-doOf l h vs tr =
-    let x = didOf (l .operands) (l .e) h vs tr in
-    done (moved (Went (h .at + 1)) (x .registers)) (x .vars) (x .slots)
 
 -- ---- a step
 -- the first line of each function, the function of each line, and the a of function 0's ret
@@ -63,7 +56,7 @@ settling p x = after (x .to) (p .resumes) (p .functions) (p .vars) (x .words) (p
 -- a line of this kind with these fields
 unfoldable pub lineOf : Map → LineKind → Line → Parts → After
 lineOf m Do l p =
-    let x = doOf l (p .registers) (p .vars) (p .slots) in
+    let x = didOf (l .operands) (l .e) (p .registers) (p .vars) (p .slots) in
     after (x .to) (p .resumes) (p .functions) (x .vars) (p .words) (x .slots)
 lineOf m Tick l p = guarded p (tickOf l (p .registers .at) (p .registers .depth) (p .words))
 lineOf m Test l p = settling p (testedOf l (p .registers) (p .vars) (p .words))

@@ -2,11 +2,11 @@
 ghost use mathlib.Core.Path.{_≡_};
 ghost use Prim.Native.Nat.{_<_};
 ghost use Rattle.rules.specs.Bounds.{VariablesIn};
-ghost use Rattle.state.specs.Machine.{done, HasSlot};
+ghost use Rattle.state.specs.Machine.{done, didOf, HasSlot};
 ghost use Rattle.guard.specs.Fields.{RegionsIn, Room};
 ghost use Rattle.guard.specs.Call.{settled, testedOf};
 ghost use Rattle.machine.specs.Ready.{CanStep};
-ghost use Rattle.machine.specs.Step.{doOf, mapOf, partsOf, after, stepOf};
+ghost use Rattle.machine.specs.Step.{mapOf, partsOf, after, stepOf};
 use guard::call;
 use guard::checks;
 use guard::ret;
@@ -18,7 +18,6 @@ use rules::limits::FUNCTIONS;
 use rules::limits::LINES;
 use rules::limits::OPEN;
 use rules::limits::VARIABLES;
-use rules::step::Step;
 use state::machine::Moved;
 use state::machine::Registers;
 use state::machine::stay;
@@ -28,11 +27,9 @@ use state::variables;
 // A do: e is its row.
 fn do_line(l: Line, h: Registers, variables: &mut [u16; VARIABLES], trace: &mut [u16]) -> Moved
     requires { ⌜ (VariablesIn (l .operands)) × (h .at < 65535) × (HasSlot h (now trace)) ⌝ }
-    ensures { λ r. ⌜ done r (now (variables .exit)) (now (trace .exit)) ≡ doOf l h (now (variables .entry)) (now (trace .entry)) ⌝ }
+    ensures { λ r. ⌜ done r (now (variables .exit)) (now (trace .exit)) ≡ didOf (l .operands) (l .e) h (now (variables .entry)) (now (trace .entry)) ⌝ }
 {
-    let n = trace::act(l.operands, l.e, h, variables, trace);
-    let next = h.at + 1;
-    stay(Step::Went(next), n)
+    trace::act(l.operands, l.e, h, variables, trace)
 }
 
 fn test_line(l: Line, h: Registers, variables: &[u16; VARIABLES], counters: &mut [u16]) -> Moved

@@ -23,7 +23,7 @@ use Rattle.rules.proofs.RegionBound.{functions-bound}
 use Rattle.layout.proofs.Scopes.{few-rows}
 use Rattle.state.specs.declared.machine.Registers.{Registers}
 use Rattle.state.specs.declared.machine.Moved.{Moved}
-use Rattle.state.specs.Machine.{moved, did, didOf, done}
+use Rattle.state.specs.Machine.{moved, didOf, Done}
 use Rattle.state.specs.Open.{opened, openedOf, closedOf}
 use Rattle.source.specs.Goes.{goOf, Known}
 use Rattle.source.specs.Step.{Standing, goesTo, afterTest, afterJump, afterReturn, afterEnd, afterCall, afterDo}
@@ -63,11 +63,9 @@ module _ {bs : List ℕ} {h : Registers} (s : Standing bs h) where
   loop-variables b k = test-fields _ (fits k) (word-bound bs b (h .at) in-table)
 
 -- ---- a do
-pub do-is : (bs vs tr us tr′ : List ℕ) (h n : Registers) {o : Operands} {i : ℕ} {r : Moved} → i ≡ h .at → o ≡ operandsAt (tableOf bs) i
-    → did n us tr′ ≡ didOf o (h .at) h vs tr → r ≡ goesTo n (suc (n .at)) → done r us tr′ ≡ afterDo (tableOf bs) h vs tr
+pub do-is : (bs vs tr : List ℕ) (h : Registers) {o : Operands} {i : ℕ} {x : Done} → i ≡ h .at → o ≡ operandsAt (tableOf bs) i → x ≡ didOf o (h .at) h vs tr → x ≡ afterDo (tableOf bs) h vs tr
 unfolding afterDo
-do-is bs vs tr us tr′ h n {o} {i} e q d x =
-    ap (λ y. done y us tr′) x ∙ ap (λ y. done (goesTo (y .registers) (suc (y .registers .at))) (y .vars) (y .slots)) (d ∙ ap (λ y. didOf y (h .at) h vs tr) (q ∙ ap (operandsAt (tableOf bs)) e))
+do-is bs vs tr h e q d = d ∙ ap (λ y. didOf y (h .at) h vs tr) (q ∙ ap (operandsAt (tableOf bs)) e)
 
 -- ---- a test
 module _ (bs vs : List ℕ) (h : Registers) {o : Operands} {i : ℕ} {b : Bool} (e : i ≡ h .at) (q : o ≡ operandsAt (tableOf bs) i) (w : b ≡ holdsOn o vs) where

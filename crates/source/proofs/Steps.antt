@@ -3,7 +3,7 @@
 use mathlib.Core.Logic.{_⊎_, inl, inr}
 use mathlib.Core.Path.{_≡_, refl, sym, ap, _∙_, subst}
 use mathlib.Core.Bool.{Bool, true, false, cond}
-use mathlib.Core.List.{List, _∷_}
+use mathlib.Core.List.{List, [], _∷_, _++_}
 use Prim.Native.Nat.{ℕ, zero, suc, _+_, _-_, _≤_, _<_}
 use native.Mathlib.Numerals.{add-one}
 use native.Mathlib.Nat.{eq-or-lt-of-le}
@@ -12,16 +12,18 @@ use lib.Dec.{eqb, ltb}
 use lib.ListN.{length, getD, take, drop, set, length-set}
 use lib.Seq.{getD-set-same, getD-set-other, take-suc-set, drop-set-lt, drop-drop}
 use borrow.Author.Tests.{ltb-true, lt-ltb, le-ltb, ne-eqb}
+use Rattle.rules.specs.declared.computed.Computed.{Computed}
+use Rattle.rules.specs.declared.computed.Computed.the-variants.{Fits, Overflows}
 use Rattle.rules.specs.declared.kind.Kind.{Kind}
 use Rattle.rules.specs.declared.kind.Kind.the-variants.{Function, Do, If, Else, Loop, End, Break, Continue, Call, Unknown}
 use Rattle.rules.specs.declared.refusal.Verdict.the-variants.{Accepted}
 use Rattle.rules.specs.declared.step.Step.{Step}
-use Rattle.rules.specs.declared.step.Step.the-variants.{Went, Finished, TooManyOpen}
+use Rattle.rules.specs.declared.step.Step.the-variants.{Went, Finished, TooManyOpen, Overflow}
 use Rattle.rules.specs.Row.{Table, tableOf, kindAt, operandsAt}
 use Rattle.rules.specs.Scan.{Part, body, thenPart, elsePart, loopBody, openAt, partOf, openerOf, fromLoop, endOf, functionRow}
 use Rattle.rules.specs.Check.{verdictOf}
-use Rattle.rules.specs.Variables.{doneOn, holdsOn}
-use Rattle.rules.specs.State.{frame, did, opening, depth}
+use Rattle.rules.specs.Variables.{computed, holdsOn}
+use Rattle.rules.specs.State.{frame, opening, depth}
 use Rattle.rules.specs.Run.{Turn, on, ends}
 use Rattle.rules.specs.Links.{isOpening}
 use Rattle.rules.specs.Source.{falseRow, toRow, returnRow, endRow, callRow, rowStep, sourceStep}
@@ -30,18 +32,19 @@ use Rattle.rules.proofs.Accepted.{proper, table-length}
 use Rattle.rules.proofs.Function.{isBody, not-silent, not-unknown}
 use Rattle.layout.specs.Spot.{Inside}
 use Rattle.layout.proofs.Survey.{some-open}
-use Rattle.state.specs.Machine.{moved}
+use Rattle.state.specs.Machine.{moved, didBy, didOf}
 use Rattle.state.specs.Open.{Opened, opened, openedOf, closedOf}
-use Rattle.state.proofs.Ends.{IsEnd, finished-ends, too-many-ends}
+use Rattle.state.proofs.Ends.{IsEnd, finished-ends, too-many-ends, overflow-ends}
 use Rattle.source.specs.Goes.{endGoes, goesBy, goOf}
 use Rattle.source.specs.Step.{goesTo, afterTest, afterJump, afterReturn, afterEnd, afterCall, afterDo, Parts, After, after, moving, rowOf, stepOf}
-use Rattle.source.specs.Run.{framesOf, stateOf, turnOf, Fits, Kept}
+use Rattle.source.specs.Run.{framesOf, stateOf, turnOf, Kept}
+use Rattle.source.specs.Run as own
 use Rattle.source.proofs.Rows.{not-first, stays-inside, pushes-inside, passes-inside, past-inside, false-inside, repeats-inside, continue-inside, callee-inside, else-inside, break-inside}
 
 -- ---- a step of both
 pub record Steps (bs : List ℕ) (p : Parts) (a : After) (u : Turn (Unit {0})) : Type 0 where
   pub turn : turnOf a ≡ u
-  pub next : (i : ℕ) → a .step ≡ Went i → Fits bs (a .parts .registers .depth) i (a .parts .resumes) (a .parts .functions)
+  pub next : (i : ℕ) → a .step ≡ Went i → own.Fits bs (a .parts .registers .depth) i (a .parts .resumes) (a .parts .functions)
   pub stands : (i : ℕ) → a .step ≡ Went i → a .parts .registers .at ≡ i
   pub traced-more : a .parts .registers .traced ≤ p .registers .traced + 1
   pub keeps : (held : List ℕ) → Kept (p .registers .traced) held (p .slots) → Kept (a .parts .registers .traced) held (a .parts .slots)
@@ -65,7 +68,7 @@ frames-more ps fs k f d a b =
 went-same : {x y : ℕ} → Went x ≡ Went y → x ≡ y
 went-same e = cc
 
-module _ (bs : List ℕ) (a : verdictOf bs ≡ Accepted) (p : Parts) (v : Fits bs (p .registers .depth) (p .registers .at) (p .resumes) (p .functions)) where
+module _ (bs : List ℕ) (a : verdictOf bs ≡ Accepted) (p : Parts) (v : own.Fits bs (p .registers .depth) (p .registers .at) (p .resumes) (p .functions)) where
   abbrev t : Table
   t = tableOf bs
 
@@ -127,30 +130,55 @@ module _ (bs : List ℕ) (a : verdictOf bs ≡ Accepted) (p : Parts) (v : Fits b
             ∙ ap (drop 1) (k .same-rest) ∙ drop-drop 1 (p .registers .traced) held;
       }
 
-  does : p .registers .traced < length (p .slots) → kindAt t i ≡ Do → Steps bs p (rowOf t Do p) (on (toRow (suc i) (did (operandsAt t i) i (stateOf p))))
-  unfolding rowOf afterDo
-  does h e =
+  -- what the code and the machine come to, where this is computed
+  abbrev coded : Computed → After
+  coded c =
+      let x = didBy c (operandsAt t i .p) i (p .registers) (p .vars) (p .slots) in
+      after (x .to) (p .resumes) (p .functions) (x .vars) (x .slots)
+
+  abbrev done : (x row : ℕ) → (trace : List ℕ) → Turn (Unit {0})
+  done x j tr =
+      on (record {
+        running = frame (p .registers .function) j tt;
+        callers = framesOf (p .resumes) (p .functions) (p .registers .depth);
+        last = tt;
+        vars = set (p .vars) (operandsAt t i .p) x;
+        trace = tr;
+      })
+
+  abbrev turned : Computed → Turn (Unit {0})
+  turned (Fits x) = done x (suc i) (take (p .registers .traced) (p .slots) ++ (i ∷ []))
+  turned Overflows = ends (Overflow i) (stateOf p)
+
+  turned-is : (c : Computed) → computed (operandsAt t i) (p .vars) ≡ c → rowStep t i (openAt t i) Do (stateOf p) ≡ turned c
+  unfolding rowStep
+  turned-is (Fits x) e = rw e
+  turned-is Overflows e = rw e
+
+  does-by : p .registers .traced < length (p .slots) → kindAt t i ≡ Do → (c : Computed) → Steps bs p (coded c) (turned c)
+  does-by h e Overflows = stops (Overflow i) (overflow-ends i) refl
+  does-by h e (Fits x) =
       record {
-        turn = ap
-            (λ tr. on (record {
-              running = frame (p .registers .function) (suc i) tt;
-              callers = framesOf (p .resumes) (p .functions) (p .registers .depth);
-              last = tt;
-              vars = doneOn (operandsAt t i) (p .vars);
-              trace = tr;
-            }))
+        turn = ap (λ j. done x j (take (p .registers .traced + 1) (set (p .slots) (p .registers .traced) i))) (add-one i)
+            ∙ ap (done x (suc i))
             (ap (λ n. take n (set (p .slots) (p .registers .traced) i)) (add-one (p .registers .traced)) ∙ take-suc-set (p .slots) (p .registers .traced) i h);
         next = λ k z. record {
           deep = v .deep;
           resumes-are = v .resumes-are;
           functions-are = v .functions-are;
-          here = subst (Inside bs) (went-same z) (stays-inside bs a (v .here) Do e refl);
+          here = subst (Inside bs) (sym (add-one i) ∙ went-same z) (stays-inside bs a (v .here) Do e refl);
           waiting = v .waiting;
         };
         stands = λ k. went-same;
         traced-more = omega arith;
         keeps = do-keeps h;
       }
+
+  does : p .registers .traced < length (p .slots) → kindAt t i ≡ Do → Steps bs p (rowOf t Do p) (rowStep t i (openAt t i) Do (stateOf p))
+  unfolding rowOf afterDo didOf
+  does h e =
+      let c = computed (operandsAt t i) (p .vars) in
+      subst (Steps bs p (coded c)) (sym (turned-is c refl)) (does-by h e c)
 
   -- ---- a return
   closes : (d : ℕ) → p .registers .depth ≡ suc d

@@ -16,7 +16,7 @@ use Rattle.rules.specs.Variables.{holdsOn}
 use Rattle.layout.specs.Spot.{Inside}
 use Rattle.state.specs.declared.machine.Registers.{Registers}
 use Rattle.state.specs.declared.machine.Moved.{Moved}
-use Rattle.state.specs.Machine.{registersAt, moved, HasSlot, didOf, Done, done}
+use Rattle.state.specs.Machine.{registersAt, moved, HasSlot, didOf, Done}
 use Rattle.state.specs.Open.{Opened, opened, openedOf, closedOf}
 use Rattle.source.specs.Goes.{goOf}
 
@@ -61,9 +61,7 @@ afterCall t h ks fs =
 
 -- ---- a do
 unfoldable pub afterDo : Table → Registers → (vars slots : List ℕ) → Done
-afterDo t h vs tr =
-    let x = didOf (operandsAt t (h .at)) (h .at) h vs tr in
-    done (goesTo (x .registers) (suc (h .at))) (x .vars) (x .slots)
+afterDo t h vs tr = didOf (operandsAt t (h .at)) (h .at) h vs tr
 
 -- ---- a step
 -- all that a step may change

@@ -47,7 +47,7 @@ fn go_of(rows: &[u8], goes: &[u16; ROWS], h: Registers) -> u16
     goes[row::index(h.at)]
 }
 
-// The variables change, and the row goes into the next trace slot.
+// The row is done, and goes into the trace; one that overflows ends the run.
 pub fn do_row(
     rows: &[u8],
     h: Registers,
@@ -58,7 +58,7 @@ pub fn do_row(
     ensures { λ r. ⌜ done r (now (variables .exit)) (now (trace .exit)) ≡ afterDo (tableOf (now (rows .entry))) h (now (variables .entry)) (now (trace .entry)) ⌝ }
 {
     let o = row::operands_of(rows, row::index(h.at));
-    next_row(trace::act(o, h.at, h, variables, trace))
+    trace::act(o, h.at, h, variables, trace)
 }
 
 // An if or a loop: into its part where the test holds.
