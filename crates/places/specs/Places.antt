@@ -1,15 +1,22 @@
--- What a jump to a line of the running function ends with, told from the line, where the run stands and the steps that are left.
-use Prim.Native.Nat.{ℕ, zero, suc, _+_, _-_}
-use mathlib.Core.Bool.{Bool, true, false, cond}
+-- What a jump to a line of the running function ends with, told from the line, where the run stands, the variables and the steps that are
+-- left.
+use Prim.Native.Nat.{ℕ, zero, suc, _+_, _*_, _-_, _≤_}
+use mathlib.Core.Path.{_≡_}
+use mathlib.Core.Bool.{cond}
 use mathlib.Core.List.{List}
 use lib.Dec.{eqb, ltb}
+use lib.ListN.{length}
 use Rattle.rules.specs.declared.ending.Ending.{Ending}
 use Rattle.rules.specs.declared.ending.Ending.the-variants.{Alarmed, Same, Unfinished}
 use Rattle.rules.specs.declared.ending.Counts.{Counts}
+use Rattle.rules.specs.declared.operands.Operands.{Operands}
+use Rattle.rules.specs.Line.{lineWidth}
+use Rattle.rules.specs.Bounds.{VariablesIn}
+use Rattle.rules.specs.Variables.{overflows}
 use Rattle.rules.specs.Sweep.{one, plus}
 use Rattle.line.specs.declared.kind.LineKind.{LineKind}
 use Rattle.line.specs.declared.kind.LineKind.the-variants.{Do, Tick, Test, Leave, Out, Call, Back, Ret}
-use Rattle.line.specs.Read.{lineKindAt}
+use Rattle.line.specs.Read.{lineKindAt, structAt}
 
 -- ---- the place across a do
 abbrev pub acrossKind : LineKind → (k : ℕ) → ℕ
@@ -23,27 +30,39 @@ acrossKind Back k = k
 acrossKind Ret k = k
 
 -- ---- a wide jump
--- "in step k if the place is before a guard ..; in step k + 1 if it is before a do"
-abbrev pub lateKind : LineKind → Bool
-lateKind Do = true
-lateKind Tick = false
-lateKind Test = false
-lateKind Leave = false
-lateKind Out = false
-lateKind Call = false
-lateKind Back = false
-lateKind Ret = false
+-- the alarm comes one step after the step struck, where that is not the last
+abbrev pub late : (left : ℕ) → Ending
+late left = cond (ltb 1 left) Alarmed Unfinished
+
+-- before a do: "ends with 5, in the step struck", or an alarm "in step k + 1"
+abbrev pub wideDo : Operands → (vars : List ℕ) → (left : ℕ) → Ending
+wideDo o vs left = cond (overflows o vs) Unfinished (late left)
+
+-- "in step k if the place is before a guard"
+abbrev pub wideKind : LineKind → Operands → (vars : List ℕ) → (left : ℕ) → Ending
+wideKind Do o vs left = wideDo o vs left
+wideKind Tick o vs left = Alarmed
+wideKind Test o vs left = Alarmed
+wideKind Leave o vs left = Alarmed
+wideKind Out o vs left = Alarmed
+wideKind Call o vs left = Alarmed
+wideKind Back o vs left = Alarmed
+wideKind Ret o vs left = Alarmed
 
 -- ".. or is m with one function open; .. or is m with more open"
-abbrev pub lateLast : (lines : List ℕ) → (line last depth : ℕ) → Bool
-lateLast bs y last d = cond (eqb y last) (ltb 0 d) (lateKind (lineKindAt bs y))
+abbrev pub wideLast : (depth left : ℕ) → Ending
+wideLast d left = cond (ltb 0 d) (late left) Alarmed
 
-abbrev pub wideOf : (lines : List ℕ) → (line last depth left : ℕ) → Ending
-wideOf bs y last d left = cond (ltb 1 left) Alarmed (cond (lateLast bs y last d) Unfinished Alarmed)
+abbrev pub wideOf : (lines : List ℕ) → (line last depth : ℕ) → (vars : List ℕ) → (left : ℕ) → Ending
+wideOf bs y last d vs left = cond (eqb y last) (wideLast d left) (wideKind (lineKindAt bs y) (structAt bs y .operands) vs left)
+
+-- the dos of the table name variables that there are
+pub record DosIn (lines : List ℕ) : Type 0 where
+  pub each : (k : ℕ) → lineWidth * k + lineWidth ≤ length lines → lineKindAt lines k ≡ Do → VariablesIn (structAt lines k .operands)
 
 -- ---- a jump to any line
-abbrev pub endingAt : (lines : List ℕ) → (last at across depth : ℕ) → (narrow : Ending) → (left line : ℕ) → Ending
-endingAt bs last at across d narrow left y = cond (eqb y at) Same (cond (eqb y across) narrow (wideOf bs y last d left))
+abbrev pub endingAt : (lines : List ℕ) → (last at across depth : ℕ) → (vars : List ℕ) → (narrow : Ending) → (left line : ℕ) → Ending
+endingAt bs last at across d vs narrow left y = cond (eqb y at) Same (cond (eqb y across) narrow (wideOf bs y last d vs left))
 
 -- the most that 32 bits hold
 abbrev pub maxCount : ℕ

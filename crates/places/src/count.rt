@@ -4,10 +4,11 @@ ghost use Prim.Native.Nat.{_+_, _*_, _-_, _≤_, _<_};
 ghost use lib.ListN.{length};
 ghost use Rattle.rules.specs.Line.{lineWidth};
 ghost use Rattle.rules.specs.Sweep.{counts, one, plus, total};
-ghost use Rattle.places.specs.Places.{endingAt, maxCount, countedTo};
+ghost use Rattle.places.specs.Places.{DosIn, endingAt, maxCount, countedTo};
 use crate::wide;
 use rules::ending::Counts;
 use rules::ending::Ending;
+use rules::limits::VARIABLES;
 
 // No run is counted yet.
 pub fn nothing() -> Counts
@@ -62,11 +63,12 @@ fn ending_at(
     at: u16,
     across: u16,
     depth: u16,
+    variables: &[u16; VARIABLES],
     narrow: Ending,
     left: u16,
 ) -> Ending
-    requires { ⌜ (line ≤ last) × (lineWidth * last ≤ length (now lines)) ⌝ }
-    ensures { λ r. ⌜ r ≡ endingAt (now (lines .entry)) last at across depth narrow left line ⌝ }
+    requires { ⌜ (line ≤ last) × (lineWidth * last ≤ length (now lines)) × (DosIn (now lines)) ⌝ }
+    ensures { λ r. ⌜ r ≡ endingAt (now (lines .entry)) last at across depth (now (variables .entry)) narrow left line ⌝ }
 {
     if line == at {
         return Ending::Same;
@@ -74,7 +76,7 @@ fn ending_at(
     if line == across {
         return narrow;
     }
-    wide::ending(lines, line, last, depth, left)
+    wide::ending(lines, line, last, depth, variables, left)
 }
 
 // The counts with those of the lines from `first` to `last`, which is place m.
@@ -85,19 +87,30 @@ pub fn places(
     at: u16,
     across: u16,
     depth: u16,
+    variables: &[u16; VARIABLES],
     narrow: Ending,
     left: u16,
     begun: Counts,
 ) -> Counts
-    requires { ⌜ (first ≤ last) × (last < 65535) × (lineWidth * last ≤ length (now lines)) × (total begun + (last - first) + 1 ≤ maxCount) ⌝ }
-    ensures { λ r. ⌜ r ≡ countedTo begun (last - first + 1) (λ p. endingAt (now (lines .entry)) last at across depth narrow left (first + p)) ⌝ }
+    requires { ⌜ (first ≤ last) × (last < 65535) × (lineWidth * last ≤ length (now lines)) × (DosIn (now lines)) × (total begun + (last - first) + 1 ≤ maxCount) ⌝ }
+    ensures { λ r. ⌜ r ≡ countedTo begun (last - first + 1) (λ p. endingAt (now (lines .entry)) last at across depth (now (variables .entry)) narrow left (first + p)) ⌝ }
 {
     let mut c = begun;
     let mut line = first;
     while line <= last {
         c = add(
             c,
-            ending_at(lines, line, last, at, across, depth, narrow, left),
+            ending_at(
+                lines,
+                line,
+                last,
+                at,
+                across,
+                depth,
+                variables,
+                narrow,
+                left,
+            ),
         );
         line += 1;
     }

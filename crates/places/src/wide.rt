@@ -1,50 +1,83 @@
-// A wide jump needs no run: the theorem has the step of its alarm.
+// A wide jump needs no run: the theorem has the step in which it ends.
 ghost use mathlib.Core.Path.{_≡_};
-ghost use Prim.Native.Nat.{_*_, _≤_};
+ghost use Prim.Native.Nat.{_+_, _*_, _≤_};
 ghost use lib.ListN.{length};
+ghost use Rattle.rules.specs.Bounds.{VariablesIn};
 ghost use Rattle.rules.specs.Line.{lineWidth};
-ghost use Rattle.places.specs.Places.{lateKind, lateLast, wideOf};
+ghost use Rattle.line.specs.Read.{structAt, lineKindAt};
+ghost use Rattle.places.specs.Places.{late, wideDo, wideKind, wideLast, wideOf, DosIn};
 use line::kind::LineKind;
 use line::read;
+use rules::computed::Computed;
 use rules::ending::Ending;
+use rules::limits::VARIABLES;
+use state::variables::compute;
 
-// The alarm comes in this step before a guard, and one step later before a do.
-fn late_kind(kind: LineKind) -> bool
-    ensures { λ r. ⌜ r ≡ lateKind kind ⌝ }
-{
-    match kind {
-        LineKind::Do => true,
-        LineKind::Tick => false,
-        LineKind::Test => false,
-        LineKind::Leave => false,
-        LineKind::Out => false,
-        LineKind::Call => false,
-        LineKind::Back => false,
-        LineKind::Ret => false,
-    }
-}
-
-// Whether the alarm comes one step later than the jump. At place m that is where a function waits: else the host finds it at once.
-fn is_late(lines: &[u8], line: u16, last: u16, depth: u16) -> bool
-    requires { ⌜ (line ≤ last) × (lineWidth * last ≤ length (now lines)) ⌝ }
-    ensures { λ r. ⌜ r ≡ lateLast (now (lines .entry)) line last depth ⌝ }
-{
-    if line == last {
-        return 0 < depth;
-    }
-    late_kind(read::kind_at(lines, line))
-}
-
-// How a wide jump to this line ends with so many steps left, of which the step struck is the first.
-pub fn ending(lines: &[u8], line: u16, last: u16, depth: u16, left: u16) -> Ending
-    requires { ⌜ (line ≤ last) × (lineWidth * last ≤ length (now lines)) ⌝ }
-    ensures { λ r. ⌜ r ≡ wideOf (now (lines .entry)) line last depth left ⌝ }
+// The alarm comes one step after the jump, if so many steps are left, of which the step struck is the first.
+fn alarm_late(left: u16) -> Ending
+    ensures { λ r. ⌜ r ≡ late left ⌝ }
 {
     if 1 < left {
         return Ending::Alarmed;
     }
-    if is_late(lines, line, last, depth) {
-        return Ending::Unfinished;
+    Ending::Unfinished
+}
+
+// Before a do: one that overflows ends the run, and before any other the alarm is late.
+fn before_do(lines: &[u8], line: u16, variables: &[u16; VARIABLES], left: u16) -> Ending
+    requires { ⌜ (lineWidth * line + lineWidth ≤ length (now lines)) × (VariablesIn (structAt (now lines) line .operands)) ⌝ }
+    ensures { λ r. ⌜ r ≡ wideDo (structAt (now (lines .entry)) line .operands) (now (variables .entry)) left ⌝ }
+{
+    let l = read::line_at(lines, line);
+    let c = compute(l.operands, variables);
+    match c {
+        Computed::Fits(_) => alarm_late(left),
+        Computed::Overflows => Ending::Unfinished,
+    }
+}
+
+// Before a guard the alarm comes at once.
+fn before_line(lines: &[u8], line: u16, variables: &[u16; VARIABLES], left: u16) -> Ending
+    requires { ⌜ (lineWidth * line + lineWidth ≤ length (now lines)) × (DosIn (now lines)) ⌝ }
+    ensures { λ r. ⌜ r ≡ wideKind (lineKindAt (now (lines .entry)) line) (structAt (now (lines .entry)) line .operands) (now (variables .entry)) left ⌝ }
+{
+    let kind = read::kind_at(lines, line);
+    match kind {
+        LineKind::Do => before_do(lines, line, variables, left),
+        LineKind::Tick => Ending::Alarmed,
+        LineKind::Test => Ending::Alarmed,
+        LineKind::Leave => Ending::Alarmed,
+        LineKind::Out => Ending::Alarmed,
+        LineKind::Call => Ending::Alarmed,
+        LineKind::Back => Ending::Alarmed,
+        LineKind::Ret => Ending::Alarmed,
+    }
+}
+
+// At place m the alarm is late where a function waits: else the host finds it at once.
+fn at_last(depth: u16, left: u16) -> Ending
+    ensures { λ r. ⌜ r ≡ wideLast depth left ⌝ }
+{
+    if 0 < depth {
+        return alarm_late(left);
     }
     Ending::Alarmed
+}
+
+// How a wide jump to this line ends with so many steps left, of which the step struck is the first.
+pub fn ending(
+    lines: &[u8],
+    line: u16,
+    last: u16,
+    depth: u16,
+    variables: &[u16; VARIABLES],
+    left: u16,
+) -> Ending
+    requires { ⌜ (line ≤ last) × (lineWidth * last ≤ length (now lines)) × (DosIn (now lines)) ⌝ }
+    ensures { λ r. ⌜ r ≡ wideOf (now (lines .entry)) line last depth (now (variables .entry)) left ⌝ }
+{
+    if line == last {
+        return at_last(depth, left);
+    }
+    before_line(lines, line, variables, left)
 }

@@ -9,7 +9,7 @@ use lib.Dec.{leb}
 use borrow.Author.Tests.{leb-true, leb-false, lt-leb}
 use Rattle.rules.specs.declared.strike.Strike.the-variants.{None, Jump}
 use Rattle.rules.specs.declared.step.Step.{Step}
-use Rattle.rules.specs.declared.step.Step.the-variants.{Went, Finished, Alarm, TooManyOpen, Beyond}
+use Rattle.rules.specs.declared.step.Step.the-variants.{Went, Finished, Alarm, TooManyOpen, Beyond, Overflow}
 use Rattle.rules.specs.Line.{linesIn}
 use Rattle.machine.specs.Step.{Map, Parts, After, stepOf}
 use Rattle.machine.specs.Run.{partsAt, stopsAfter, runOf}
@@ -33,6 +33,7 @@ splits-by bs m b c f z Finished q ih = sym (ap (λ o. onward o (λ k. runOf bs m
 splits-by bs m b c f z Alarm q ih = sym (ap (λ o. onward o (λ k. runOf bs m c (z .parts)) z) q)
 splits-by bs m b c f z (TooManyOpen n) q ih = sym (ap (λ o. onward o (λ k. runOf bs m c (z .parts)) z) q)
 splits-by bs m b c f z (Beyond n) q ih = sym (ap (λ o. onward o (λ k. runOf bs m c (z .parts)) z) q)
+splits-by bs m b c f z (Overflow n) q ih = sym (ap (λ o. onward o (λ k. runOf bs m c (z .parts)) z) q)
 
 run-sum : (bs : List ℕ) (m : Map) (b c : ℕ) (p : Parts) → Splits bs m b c p
 unfolding runOf

@@ -33,6 +33,10 @@ enum-told-4 c = search needs
 enum-told-5 : tie.Need-enum-told-5
 enum-told-5 c = search needs
 
+-- src/pieces.rt:90:30
+enum-told-6 : tie.Need-enum-told-6
+enum-told-6 c = search needs
+
 -- src/pieces.rt:81:1
 returns : tie.Need-returns
 unfolding endedBy outcomeOf
@@ -58,6 +62,11 @@ returns-5 : tie.Need-returns-5
 unfolding endedBy outcomeOf
 returns-5 c = ap (λ o. endedBy (outcomeOf o) (c .before .before .args .same)) (sym (c .enum-told5 .given .1))
 
+-- src/pieces.rt:81:1
+returns-6 : tie.Need-returns-6
+unfolding endedBy outcomeOf
+returns-6 c = ap (λ o. endedBy (outcomeOf o) (c .before .before .args .same)) (sym (c .enum-told6 .given .1))
+
 pub told-spec : {M : Type 1} → statement M
 told-spec =
     tie.close
@@ -68,8 +77,10 @@ told-spec =
     enum-told-3
     enum-told-4
     enum-told-5
+    enum-told-6
     returns
     returns-2
     returns-3
     returns-4
-    returns-5)
+    returns-5
+    returns-6)
