@@ -30,7 +30,7 @@ use Rattle.compare.specs.declared.narrow.Narrow.{Narrow}
 use Rattle.compare.specs.Compared.{pieceSteps, Standing}
 use Rattle.compare.specs.Narrow.{NarrowIs}
 use Rattle.sweeper.specs.Steps.{Finishes, InTable, placesOf}
-use Rattle.sweeper.proofs.Settling.{first-is, last-is, step-is}
+use Rattle.sweeper.proofs.Settling.{dos-in, first-is, last-is, step-is}
 use Rattle.sweeper.proofs.Walking as Walking
 use Rattle.sweeper.proofs.Walking.{form, unstruck, stateOf, Walking, walk-starts, from-there}
 
@@ -108,10 +108,11 @@ module _ {bs : List ℕ} {mp : Map} {b : ℕ} {tr vs : List ℕ} {k left : ℕ} 
           in-order = omega (arith, fi, la, so .ordered (s .running .function) kn);
           few = omega (arith, la, end, so .within .few-lines);
           in-lines = omega (arith, la, end, length-lines bs);
+          dos-in = dos-in bs (so .within);
           room = omega (arith, ap total ce, total-bound (form bs) (linesIn bs) vs b (so .within .few-lines) k, w .few, Walking.in-steps bs vs b k left m ws at (w .walking), la, end, so .within .few-lines);
         }
 
-    pub counts-on : (r : Narrow) → NarrowIs (linesIn bs) m ws (take (length tr - at) (drop at tr)) left r → (d : Counts) → d ≡ placesOf bs (mp .starts) (m .registers) (r .line) (r .ending) left c
+    pub counts-on : (r : Narrow) → NarrowIs (linesIn bs) m ws (take (length tr - at) (drop at tr)) left r → (d : Counts) → d ≡ placesOf bs (mp .starts) m (r .line) (r .ending) left c
         → d ≡ sumCounts (suc k) (sweepStep (form bs) (linesIn bs) vs b)
     counts-on r n d e =
         step-is bs mp (w .ready) vs b (w .law) (w .finishes .finished) (w .few) k (w .walking .going) (Walking.in-steps bs vs b k left m ws at (w .walking)) m ws (w .walking .stood) (r .line) (n .line-is) (r .ending) (narrow-is r n) left (w .walking .left-is) c ce d e
@@ -163,7 +164,7 @@ count-starts bs mp rd h vs tr b f few ws long us e m bg c q = record { k = 0; sw
 
 pub count-on : {bs : List ℕ} {mp : Map} {b : ℕ} {tr vs : List ℕ} {left : ℕ} {m : Machine} {ws : List ℕ} {at : ℕ} {c : Counts} (w : Counting bs mp b tr vs left m ws at c) → (rows : List ℕ) → length rows ≡ pieceSteps
     → (x : Stopped) (ws′ rows′ : List ℕ) → stoppedWith x ws′ rows′ ≡ runOf bs mp 1 (partsIn m ws rows) → (i : ℕ) → x .step ≡ Went i → (m′ : Machine) → m′ ≡ machineAfresh (x .machine)
-    → (r : Narrow) → NarrowIs (linesIn bs) m ws (take (length tr - at) (drop at tr)) left r → (d : Counts) → d ≡ placesOf bs (mp .starts) (m .registers) (r .line) (r .ending) left c
+    → (r : Narrow) → NarrowIs (linesIn bs) m ws (take (length tr - at) (drop at tr)) left r → (d : Counts) → d ≡ placesOf bs (mp .starts) m (r .line) (r .ending) left c
     → Counting bs mp b tr vs (left - 1) m′ ws′ (at + x .machine .registers .traced) d
 count-on {c = c} w rows long x ws′ rows′ e i z m′ q r n d p =
     record { k = suc (w .k); sweeping = sweep-on (w .sweeping) rows long x ws′ rows′ e i z m′ q; counts-are = counts-on (w .sweeping) c (w .counts-are) r n d p }

@@ -10,8 +10,9 @@ use Rattle.rules.specs.Line.{Line, lineWidth}
 use Rattle.rules.specs.Run.{outcomeOf}
 use Rattle.rules.specs.Hardened.{counterForm}
 use Rattle.rules.specs.Sweep.{total, unstruckRun}
+use Rattle.state.specs.declared.machine.Machine.{Machine}
 use Rattle.state.specs.declared.machine.Registers.{Registers}
-use Rattle.places.specs.Places.{endingAt, maxCount, countedTo}
+use Rattle.places.specs.Places.{DosIn, endingAt, maxCount, countedTo}
 
 -- the unstruck run finishes in the budget, with this trace
 pub record Finishes (ls : List Line) (vars : List ℕ) (budget : ℕ) (trace : List ℕ) : Type 0 where
@@ -31,10 +32,12 @@ pub record InTable (lines starts : List ℕ) (h : Registers) (c : Counts) : Type
   pub in-order : firstOf starts h ≤ lastOf starts h
   pub few : lastOf starts h < 65535
   pub in-lines : lineWidth * lastOf starts h ≤ length lines
+  pub dos-in : DosIn lines
   pub room : total c + (lastOf starts h - firstOf starts h) + 1 ≤ maxCount
 
 -- the counts with those of its places
-abbrev pub placesOf : (lines starts : List ℕ) → Registers → (across : ℕ) → (narrow : Ending) → (left : ℕ) → Counts → Counts
-placesOf bs ss h across narrow left c =
+abbrev pub placesOf : (lines starts : List ℕ) → Machine → (across : ℕ) → (narrow : Ending) → (left : ℕ) → Counts → Counts
+placesOf bs ss m across narrow left c =
+    let h = m .registers in
     countedTo c (lastOf ss h - firstOf ss h + 1)
-    (λ p. endingAt bs (lastOf ss h) (h .at) across (h .depth) narrow left (firstOf ss h + p))
+    (λ p. endingAt bs (lastOf ss h) (h .at) across (h .depth) (m .variables) narrow left (firstOf ss h + p))

@@ -24,23 +24,25 @@ use rules::limits::FUNCTIONS;
 use rules::limits::LINES;
 use rules::limits::VARIABLES;
 use rules::step::Step;
-use state::machine::Registers;
+use state::machine::Machine;
 use state::machine::afresh;
 use state::machine::begun;
 
-// The places of the function that runs in these registers.
+// The places of the function that runs in this machine.
 fn strike_all(
     lines: &[u8],
     starts: &[u16; FUNCTIONS + 1],
-    h: Registers,
+    m: Machine,
     across: u16,
     narrow: Ending,
     left: u16,
     begun: Counts,
 ) -> Counts
-    requires { ⌜ InTable (now lines) (now starts) h begun ⌝ }
-    ensures { λ r. ⌜ r ≡ placesOf (now (lines .entry)) (now (starts .entry)) h across narrow left begun ⌝ }
+    requires { ⌜ InTable (now lines) (now starts) (m .registers) begun ⌝ }
+    ensures { λ r. ⌜ r ≡ placesOf (now (lines .entry)) (now (starts .entry)) m across narrow left begun ⌝ }
 {
+    let h = m.registers;
+    let variables = m.variables;
     let f = h.function as usize;
     let first = starts[f];
     let last = starts[f + 1];
@@ -51,6 +53,7 @@ fn strike_all(
         h.at,
         across,
         h.depth,
+        &variables,
         narrow,
         left,
         begun,
@@ -78,7 +81,6 @@ pub fn count(
     let mut at = 0;
     let mut left = budget;
     while 0 < left {
-        let h = m.registers;
         let n = narrow::across(
             lines,
             starts,
@@ -92,7 +94,7 @@ pub fn count(
             rows,
         );
         let ending = n.ending;
-        c = strike_all(lines, starts, h, n.line, ending, left, c);
+        c = strike_all(lines, starts, m, n.line, ending, left, c);
         let x = run::step(lines, starts, owners, home, m, counters, rows);
         let s = x.step;
         let Step::Went(_) = s else {

@@ -1,7 +1,7 @@
 -- The whole sweep of every strict form: the four counts add up, and where the unstruck run finishes each place is settled by a test, but for
 -- the one across a do. Assumes that the table is accepted, where it says so.
 use mathlib.Core.Logic.{_≢_}
-use mathlib.Core.Path.{_≡_, refl, sym, ap, _∙_}
+use mathlib.Core.Path.{_≡_, refl, sym, ap, _∙_, subst}
 use mathlib.Core.Bool.{Bool, true, false, cond, not}
 use mathlib.Core.List.{List}
 use Prim.Native.Nat.{ℕ, zero, suc, _+_, _-_, _≤_, _<_}
@@ -19,7 +19,7 @@ use Rattle.rules.specs.State.{State}
 use Rattle.rules.specs.Run.{Turn, on, ends, untaken, Answer, after, run, outcomeOf}
 use Rattle.rules.specs.Form.{Form, strikeBy, placeLine, strikingStepOf, startBy, runOf}
 use Rattle.rules.specs.Match.{guardBetween}
-use Rattle.rules.specs.Demands.{before, strikes, alarmStep, doneAt, overflowsAt, overflowIn, caughtFrom}
+use Rattle.rules.specs.Demands.{before, strikes, alarmStep, doneAt, overflowsAt, overflowIn, alarmIn, caughtFrom}
 use Rattle.rules.specs.RunPromise.{stateAt}
 use Rattle.rules.specs.Sweep.{endingOf, one, total, sumTo, unstruckRun, placesAt, struckEnding, sweepStep, sweepOf}
 use Rattle.rules.specs.Settled.{across, goingOn, narrowEnding, wideEnding, settledEnding, StandsBefore, SweepLaw}
@@ -87,11 +87,18 @@ unfolding endingOf
 ending-caught tr a o e n = rw (e, ne-eqb o 1 n)
 
 -- a wide jump never finishes
-caught-unfinished : {H : Type 0} (ls : List Line) (b k p : ℕ) (s : State H) → (caughtFrom ls b k p s) .outcome ≢ 1
+pub caught-outcome : {H : Type 0} (ls : List Line) (b k p : ℕ) (s : State H) → (caughtFrom ls b k p s) .outcome ≡ cond (overflowsAt ls p s) 5 (cond (ltb (alarmStep ls p k s) b) 2 0)
 unfolding caughtFrom
-caught-unfinished ls b k p s = by (overflowsAt ls p s) (ltb (alarmStep ls p k s) b)
+caught-outcome ls b k p s = by (overflowsAt ls p s)
   where
-    by : (x y : Bool) → (cond x (overflowIn k s) (record { outcome = cond y 2 0; steps = cond y (suc (alarmStep ls p k s)) b; trace = (doneAt ls p s) .trace; variables = (doneAt ls p s) .vars })) .outcome ≢ 1
+    by : (x : Bool) → (cond x (overflowIn k s) (alarmIn (alarmStep ls p k s) b (doneAt ls p s))) .outcome ≡ cond x 5 (cond (ltb (alarmStep ls p k s) b) 2 0)
+    by true = refl
+    by false = refl
+
+caught-unfinished : {H : Type 0} (ls : List Line) (b k p : ℕ) (s : State H) → (caughtFrom ls b k p s) .outcome ≢ 1
+caught-unfinished ls b k p s = subst (λ o. o ≢ 1) (sym (caught-outcome ls b k p s)) (by (overflowsAt ls p s) (ltb (alarmStep ls p k s) b))
+  where
+    by : (x y : Bool) → _≢_ {A = ℕ} (cond x 5 (cond y 2 0)) 1
     by true y = omega arith
     by false true = omega arith
     by false false = omega arith
