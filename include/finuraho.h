@@ -1,8 +1,8 @@
 /* Finuraho: checks, measures and hardens fee-card programs, reads hardened ones back, runs both, and counts what every single jump does
  * to a hardened run.
  *
- * The rules are document 01, "Counter-hardened statement tables for fee cards", and of document 02 No. 1, switches, No. 2, figures, and
- * No. 4, the sweep. What each call gives back, for all bytes, numbers and buffers, is proved (crates/finuraho/src/export.rt) to be what
+ * The rules are document 01, "Counter-hardened statement tables for fee cards", and of document 02 No. 1, switches, No. 2, figures,
+ * No. 4, the sweep, and No. 5, sums that overflow. What each call gives back, for all bytes, numbers and buffers, is proved (crates/finuraho/src/export.rt) to be what
  * Calls.antt, Fault.antt, Measure.antt, Steps.antt and SweepCall.antt of crates/rules/specs say. That this header fits the library is
  * not proved: tests/header/run tests it.
  *
@@ -31,8 +31,8 @@ extern "C" {
 #endif
 
 /* The version of this header and of the library that it came with: 10,000 x major + 100 x minor + patch. */
-#define FINURAHO_VERSION 10300
-#define FINURAHO_VERSION_STRING "1.3.0"
+#define FINURAHO_VERSION 10400
+#define FINURAHO_VERSION_STRING "1.4.0"
 
 /* The number of a call: 0, or why it was turned away. After any number but 0 every lent buffer is as it was. */
 #define FINURAHO_ACCEPTED 0
@@ -49,12 +49,13 @@ extern "C" {
 #define FINURAHO_REPEATED_CASE 11     /* a case with the number of another case of its switch */
 #define FINURAHO_NOT_FINISHED 13      /* the run without a jump, which a sweep strikes, does not finish in the budget */
 
-/* The outcome of an accepted run. The step that ends in an alarm or in too many open functions is counted. */
+/* The outcome of an accepted run. The step that ends in an alarm, in too many open functions or in an overflow is counted. */
 #define FINURAHO_BUDGET_SPENT 0  /* exactly the budget was taken */
 #define FINURAHO_FINISHED 1
 #define FINURAHO_ALARM 2
 #define FINURAHO_TOO_MANY_OPEN 3 /* a call with 16 functions open; it is not made */
 #define FINURAHO_BEYOND 4        /* the jump's place is beyond the function's last; the step struck is not taken */
+#define FINURAHO_OVERFLOW 5      /* a do's sum is over 65,535 or its difference below 0; it changes neither variables nor trace */
 
 /* Sizes. A row hardens to at most 2 lines, so 40 bytes for each row always suffice for its hardened table; a case to at most 3, its
  * else, its test and its end, so with switches it is 60 bytes for each row as given. 40,960 bytes suffice for every table.
@@ -91,8 +92,8 @@ extern "C" {
 /* The op of a do. */
 #define FINURAHO_DO_NUMBER 0   /* vp = n */
 #define FINURAHO_DO_VARIABLE 1 /* vp = vq */
-#define FINURAHO_DO_ADD 2      /* vp = vp + vq */
-#define FINURAHO_DO_SUBTRACT 3 /* vp = vp - vq */
+#define FINURAHO_DO_ADD 2      /* vp = vp + vq; over 65,535 it ends a run with FINURAHO_OVERFLOW */
+#define FINURAHO_DO_SUBTRACT 3 /* vp = vp - vq; below 0 likewise */
 
 /* The op of an if or a loop. */
 #define FINURAHO_TEST_EQUAL 0   /* vp = n */
@@ -154,7 +155,7 @@ typedef struct finuraho_measured {
 /* The answer of a run. Turned away: outcome, steps and traced are 0 and the variables are those given. */
 typedef struct finuraho_ran {
     uint8_t number;                         /* 0, or why the call was turned away */
-    uint8_t outcome;                        /* how the run ended: 0 to 4; it means nothing where number is not 0 */
+    uint8_t outcome;                        /* how the run ended: 0 to 5; it means nothing where number is not 0 */
     uint16_t steps;                         /* the steps taken: at most the budget */
     uint16_t traced;                        /* the trace's length: that many slots from the front of `trace` */
     uint16_t variables[FINURAHO_VARIABLES]; /* v0 to v15 as the run left them */
@@ -166,7 +167,7 @@ typedef struct finuraho_swept {
     uint32_t alarms;     /* with an alarm */
     uint32_t same;       /* finished, with the trace of the run without a jump */
     uint32_t other;      /* finished, with another trace: jumps that change it unseen */
-    uint32_t unfinished; /* any other way: the budget spent, or too many open functions */
+    uint32_t unfinished; /* any other way: the budget spent, too many open functions, or an overflow */
 } finuraho_swept;
 
 /* The answer of the call that only asks whether the sweep's `other` is above 0. */

@@ -32,7 +32,8 @@ static const uint8_t BANDS[] = {
 
 static const uint16_t VALUES[FINURAHO_VARIABLES] = {0, 1};
 
-static const char *const OUTCOMES[] = {"budget spent", "finished", "alarm", "too many open functions", "place beyond the last"};
+static const char *const OUTCOMES[] = {"budget spent", "finished", "alarm", "too many open functions", "place beyond the last",
+                                       "overflow"};
 
 static void stop_if_refused(uint8_t number)
 {
@@ -135,6 +136,8 @@ static void run_example(void)
     run_hardened("jump before step 4 to place 6", table, 4, 6);
     /* Over line 0 alone, a do: no guard lies between, so the run goes on as if nothing had happened, without row 1. */
     run_hardened("jump before step 0 to place 1", table, 0, 1);
+    /* Over guards, to the do that takes v1 = 1 from v0, which is 0 yet: the difference is no fee, and the run ends there. */
+    run_hardened("jump before step 0 to place 3", table, 0, 3);
     sweep(table, VALUES);
     free(table.lines);
 }

@@ -37,152 +37,7 @@ static void put_dos(int count)
     put(FINURAHO_ROW_END, 0, 0, 0, 0);
 }
 
-static void too_many_rows(void)
-{
-    put_dos(FINURAHO_MAX_ROWS - 2);
-    expect("bytes of 1,024 rows", length, FINURAHO_MAX_SOURCE_BYTES);
-    expect("1,024 rows", finuraho_check(rows, length), FINURAHO_ACCEPTED);
-    expect("lines within their room", put_hardened() <= FINURAHO_MAX_LINES * FINURAHO_LINE_BYTES, 1);
-    put_dos(FINURAHO_MAX_ROWS - 1);
-    expect("1,025 rows", finuraho_check(rows, length), FINURAHO_TOO_MANY_ROWS);
-}
-
-static void wrong_or_misplaced(void)
-{
-    put_example();
-    expect("half a row", finuraho_check(rows, length - 3), FINURAHO_NO_WHOLE_ROWS);
-    rows[0] = 0x0d;
-    expect("no such kind", finuraho_check(rows, length), FINURAHO_WRONG_FIELD);
-    put_example();
-    expect("a lone function row", finuraho_check(rows, FINURAHO_ROW_BYTES), FINURAHO_MISPLACED);
-    length = 0;
-    put(FINURAHO_ROW_FUNCTION, 0, 0, 0, 0);
-    put(FINURAHO_ROW_CALL, 0, 0, 0, 1);
-    put(FINURAHO_ROW_END, 0, 0, 0, 0);
-    expect("no such function", finuraho_check(rows, length), FINURAHO_NO_SUCH_FUNCTION);
-}
-
-static void expect_figures(const char *what, size_t rows_len, uint8_t number, size_t lines_count, size_t regions, size_t value)
-{
-    finuraho_measured measured = finuraho_measure(rows, rows_len);
-    expect(what, measured.number, number);
-    expect(what, measured.lines, lines_count);
-    expect(what, measured.regions, regions);
-    expect(what, measured.value, value);
-}
-
-/* A table that has a fault has no figures. */
-static void expect_fault(const char *what, size_t rows_len, uint8_t number, size_t row)
-{
-    finuraho_found found = finuraho_fault(rows, rows_len);
-    expect(what, found.number, number);
-    expect(what, found.row, row);
-    if (number != FINURAHO_ACCEPTED)
-        expect_figures(what, rows_len, number, 0, 0, 0);
-}
-
-/* The row of each number, as the header says. */
-static void found_rows(void)
-{
-    put_dos(FINURAHO_MAX_ROWS - 1);
-    expect_fault("fault, 1,025 rows", length, FINURAHO_TOO_MANY_ROWS, FINURAHO_MAX_ROWS);
-    put_example();
-    expect_fault("fault, none", length, FINURAHO_ACCEPTED, 6);
-    expect_fault("fault, half a row", length - 3, FINURAHO_NO_WHOLE_ROWS, 5);
-    expect_fault("fault, left open", length - FINURAHO_ROW_BYTES, FINURAHO_MISPLACED, 5);
-    rows[3 * FINURAHO_ROW_BYTES] = 0x0d;
-    expect_fault("fault, no such kind", length, FINURAHO_WRONG_FIELD, 3);
-    put_example();
-    put(FINURAHO_ROW_DO, 0, 0, 0, 0);
-    expect_fault("fault, outside a function", length, FINURAHO_MISPLACED, 6);
-    length = 0;
-    put(FINURAHO_ROW_FUNCTION, 0, 0, 0, 0);
-    put(FINURAHO_ROW_CALL, 0, 0, 0, 0);
-    put(FINURAHO_ROW_CALL, 0, 0, 0, 1);
-    put(FINURAHO_ROW_END, 0, 0, 0, 0);
-    expect_fault("fault, no such function", length, FINURAHO_NO_SUCH_FUNCTION, 2);
-}
-
-static uint8_t check_functions(int count)
-{
-    int i;
-    length = 0;
-    for (i = 0; i < count; i++) {
-        put(FINURAHO_ROW_FUNCTION, 0, 0, 0, 0);
-        put(FINURAHO_ROW_END, 0, 0, 0, 0);
-    }
-    return finuraho_check(rows, length);
-}
-
-static uint8_t check_open(int count)
-{
-    length = 0;
-    put(FINURAHO_ROW_FUNCTION, 0, 0, 0, 0);
-    put_many(count, FINURAHO_ROW_IF);
-    put_many(count + 1, FINURAHO_ROW_END);
-    return finuraho_check(rows, length);
-}
-
-/* The body is a region, and each if has one. */
-static uint8_t check_regions(int count)
-{
-    int i;
-    length = 0;
-    put(FINURAHO_ROW_FUNCTION, 0, 0, 0, 0);
-    for (i = 1; i < count; i++) {
-        put(FINURAHO_ROW_IF, 0, 0, 0, 0);
-        put(FINURAHO_ROW_END, 0, 0, 0, 0);
-    }
-    put(FINURAHO_ROW_END, 0, 0, 0, 0);
-    return finuraho_check(rows, length);
-}
-
-static void too_many_parts(void)
-{
-    expect("32 functions", check_functions(FINURAHO_MAX_FUNCTIONS), FINURAHO_ACCEPTED);
-    expect("33 functions", check_functions(FINURAHO_MAX_FUNCTIONS + 1), FINURAHO_TOO_MANY_FUNCTIONS);
-    expect_fault("fault, 33 functions", length, FINURAHO_TOO_MANY_FUNCTIONS, 2 * FINURAHO_MAX_FUNCTIONS);
-    expect("16 open", check_open(FINURAHO_MAX_CONSTRUCTS), FINURAHO_ACCEPTED);
-    expect("17 open", check_open(FINURAHO_MAX_CONSTRUCTS + 1), FINURAHO_TOO_MANY_PARTS);
-    expect_fault("fault, 17 open", length, FINURAHO_TOO_MANY_PARTS, FINURAHO_MAX_CONSTRUCTS + 1);
-    expect("64 regions", check_regions(FINURAHO_MAX_REGIONS), FINURAHO_ACCEPTED);
-    expect("65 regions", check_regions(FINURAHO_MAX_REGIONS + 1), FINURAHO_TOO_MANY_PARTS);
-    expect_fault("fault, 65 regions", length, FINURAHO_TOO_MANY_PARTS, 2 * FINURAHO_MAX_REGIONS - 1);
-}
-
-/* One function with a switch on v0: so many cases, 0, 1 and on, so many dos in the last of them, and a default. */
-static void put_switch(int cases, int dos)
-{
-    int i;
-    length = 0;
-    put(FINURAHO_ROW_FUNCTION, 0, 0, 0, 0);
-    put(FINURAHO_ROW_SWITCH, 0, 0, 0, 0);
-    for (i = 0; i < cases; i++)
-        put(FINURAHO_ROW_CASE, 0, 0, 0, (uint16_t)i);
-    put_many(dos, FINURAHO_ROW_DO);
-    put(FINURAHO_ROW_DEFAULT, 0, 0, 0, 0);
-    put_many(2, FINURAHO_ROW_END);
-}
-
-/* With two cases the chain has one row more than is given. */
-static void wrong_switches(void)
-{
-    put_switch(2, 1);
-    rows[3 * FINURAHO_ROW_BYTES + 4] = 0;
-    expect("case 0 again", finuraho_check(rows, length), FINURAHO_REPEATED_CASE);
-    expect_fault("fault, case 0 again", length, FINURAHO_REPEATED_CASE, 3);
-    put_switch(FINURAHO_MAX_CONSTRUCTS, 0);
-    expect("16 cases", finuraho_check(rows, length), FINURAHO_ACCEPTED);
-    put_switch(FINURAHO_MAX_CONSTRUCTS + 1, 0);
-    expect("17 cases", finuraho_check(rows, length), FINURAHO_TOO_MANY_PARTS);
-    expect_fault("fault, 17 cases", length, FINURAHO_TOO_MANY_PARTS, FINURAHO_MAX_CONSTRUCTS + 2);
-    put_switch(2, FINURAHO_MAX_ROWS - 8);
-    expect("a chain of 1,024 rows", finuraho_check(rows, length), FINURAHO_ACCEPTED);
-    put_switch(2, FINURAHO_MAX_ROWS - 7);
-    expect("bytes of 1,024 rows with a switch", length, FINURAHO_MAX_SOURCE_BYTES);
-    expect("a chain of 1,025 rows", finuraho_check(rows, length), FINURAHO_TOO_MANY_ROWS);
-    expect_fault("fault, a chain of 1,025 rows", length, FINURAHO_TOO_MANY_ROWS, FINURAHO_MAX_ROWS - 1);
-}
+#include "refusals.h"
 
 static finuraho_ran run(size_t lines_len, uint16_t budget, uint16_t step, uint16_t place)
 {
@@ -215,6 +70,47 @@ static void outcomes(void)
     lines_len = put_hardened();
     expect("a 17th open", run(lines_len, BUDGET, FINURAHO_NO_JUMP, 0).outcome, FINURAHO_TOO_MANY_OPEN);
     expect("its step", run(lines_len, BUDGET, FINURAHO_NO_JUMP, 0).steps, FINURAHO_MAX_OPEN);
+}
+
+/* One function: v0 = v0 + v1, or v0 - v1. */
+static void put_one_do(uint8_t op)
+{
+    length = 0;
+    put(FINURAHO_ROW_FUNCTION, 0, 0, 0, 0);
+    put(FINURAHO_ROW_DO, op, 0, 1, 0);
+    put(FINURAHO_ROW_END, 0, 0, 0, 0);
+}
+
+static void expect_do(const char *what, uint8_t op, uint16_t v0, uint16_t v1, uint8_t outcome, uint16_t result)
+{
+    const uint16_t given[FINURAHO_VARIABLES] = {v0, v1};
+    finuraho_ran ran;
+    put_one_do(op);
+    ran = finuraho_run_source(rows, length, given, BUDGET, trace, BUDGET);
+    expect(what, ran.outcome, outcome);
+    expect(what, ran.steps, outcome == FINURAHO_FINISHED ? 2 : 1);
+    expect(what, ran.traced, outcome == FINURAHO_FINISHED);
+    expect(what, ran.variables[0], result);
+    ran = finuraho_run_hardened(lines, put_hardened(), given, BUDGET, FINURAHO_NO_JUMP, 0, trace, BUDGET, counters,
+                                FINURAHO_COUNTER_WORDS);
+    expect(what, ran.outcome, outcome);
+    expect(what, ran.steps, outcome == FINURAHO_FINISHED ? 3 : 1);
+    expect(what, ran.variables[0], result);
+}
+
+/* The last sum and difference that fit, the first that do not, and the strike of 01's table before its difference. */
+static void overflows(void)
+{
+    finuraho_ran ran;
+    expect_do("65534 + 1", FINURAHO_DO_ADD, 65534, 1, FINURAHO_FINISHED, 65535);
+    expect_do("65535 + 1", FINURAHO_DO_ADD, 65535, 1, FINURAHO_OVERFLOW, 65535);
+    expect_do("1 - 1", FINURAHO_DO_SUBTRACT, 1, 1, FINURAHO_FINISHED, 0);
+    expect_do("1 - 2", FINURAHO_DO_SUBTRACT, 1, 2, FINURAHO_OVERFLOW, 1);
+    put_example();
+    ran = run(put_hardened(), BUDGET, 0, 3);
+    expect("struck before 0 - 1, outcome", ran.outcome, FINURAHO_OVERFLOW);
+    expect("struck before 0 - 1, steps", ran.steps, 1);
+    expect("struck before 0 - 1, trace", ran.traced, 0);
 }
 
 /* Every kind of row but a switch's, and every op: v0 = 3, v1 = v0 + v0 + v0 - v0; a loop whose if breaks, an if that calls. */
@@ -341,99 +237,7 @@ static void hardened_steps(void)
     expect("steps, the most", finuraho_hardened_steps(65535, 65535, 65535), 196605);
 }
 
-/* What slots and counter words hold before a sweep. */
-#define FILL 43690
-
-static void fill(void)
-{
-    size_t i;
-    for (i = 0; i < BUDGET; i++)
-        trace[i] = FILL;
-    for (i = 0; i < FINURAHO_COUNTER_WORDS; i++)
-        counters[i] = FILL;
-}
-
-/* Accepted: the trace at the front of the slots, and words of 0. Turned away: all as they were. */
-static void expect_lent(const char *what, uint8_t number, const uint16_t *dos, size_t traced)
-{
-    size_t i, held = 0;
-    if (number != FINURAHO_ACCEPTED)
-        traced = 0;
-    for (i = 0; i < BUDGET; i++)
-        expect(what, trace[i], i < traced ? dos[i] : FILL);
-    for (i = 0; i < FINURAHO_COUNTER_WORDS; i++)
-        held += counters[i] == (number == FINURAHO_ACCEPTED ? 0 : FILL);
-    expect(what, held, FINURAHO_COUNTER_WORDS);
-}
-
-/* A sweep: by how many bytes the table is too short, what is lent, and what must come back. */
-struct sweep {
-    const char *what;
-    size_t cut;
-    uint16_t budget;
-    size_t slots;
-    size_t words;
-    finuraho_swept must;
-};
-
-/* Both calls on the table that is there; `dos` is the trace of its run without a jump. */
-static void expect_sweep(struct sweep sweep, const uint16_t *dos, size_t traced)
-{
-    size_t lines_len = put_hardened() - sweep.cut;
-    finuraho_swept must = sweep.must, swept;
-    finuraho_any_other any;
-    fill();
-    swept = finuraho_sweep(lines, lines_len, values, sweep.budget, trace, sweep.slots, counters, sweep.words);
-    expect(sweep.what, swept.number, must.number);
-    expect(sweep.what, swept.alarms, must.alarms);
-    expect(sweep.what, swept.same, must.same);
-    expect(sweep.what, swept.other, must.other);
-    expect(sweep.what, swept.unfinished, must.unfinished);
-    expect_lent(sweep.what, must.number, dos, traced);
-    fill();
-    any = finuraho_sweep_other(lines, lines_len, values, sweep.budget, trace, sweep.slots, counters, sweep.words);
-    expect(sweep.what, any.number, must.number);
-    expect(sweep.what, any.other, must.other > 0);
-    expect_lent(sweep.what, must.number, dos, traced);
-}
-
-#define WORDS FINURAHO_COUNTER_WORDS
-
-/* 01's table: 12 steps of 8 places. Of the numbers 10 comes first, then 9, then 13. */
-static const struct sweep EXAMPLE[] = {
-    {"sweep, budget 20", 0, 20, 20, WORDS, {FINURAHO_ACCEPTED, 78, 15, 2, 1}},
-    {"sweep, budget 12", 0, 12, 12, WORDS, {FINURAHO_ACCEPTED, 76, 13, 1, 6}},
-    {"sweep, budget 11", 0, 11, 20, WORDS, {FINURAHO_NOT_FINISHED, 0, 0, 0, 0}},
-    {"sweep, budget 0", 0, 0, 0, WORDS, {FINURAHO_NOT_FINISHED, 0, 0, 0, 0}},
-    {"sweep, one slot fewer", 0, 20, 19, WORDS, {FINURAHO_SHORT_ROOM, 0, 0, 0, 0}},
-    {"sweep, one word fewer", 0, 20, 20, WORDS - 1, {FINURAHO_SHORT_ROOM, 0, 0, 0, 0}},
-    {"sweep, budget 11, one slot fewer", 0, 11, 10, WORDS, {FINURAHO_SHORT_ROOM, 0, 0, 0, 0}},
-    {"sweep, budget 11, one word fewer", 0, 11, 11, WORDS - 1, {FINURAHO_SHORT_ROOM, 0, 0, 0, 0}},
-    {"sweep, all bytes but one", 1, 20, 20, WORDS, {FINURAHO_NOT_HARDENED, 0, 0, 0, 0}},
-    {"sweep, all bytes but one, budget 11", 1, 11, 11, WORDS, {FINURAHO_NOT_HARDENED, 0, 0, 0, 0}},
-    {"sweep, all bytes but one, one slot fewer", 1, 20, 19, WORDS, {FINURAHO_NOT_HARDENED, 0, 0, 0, 0}},
-};
-
-/* One step of 2 places. 18 steps of 23 places and one of 2, with 5 dos to leave out or to do twice. A run that ends, but not by
- * finishing. */
-static const struct sweep NOTHING = {"sweep, function and end", 0, 1, 1, WORDS, {FINURAHO_ACCEPTED, 1, 1, 0, 0}};
-static const struct sweep EACH = {"sweep, each kind", 0, 20, 20, WORDS, {FINURAHO_ACCEPTED, 387, 19, 10, 0}};
-static const struct sweep DEEP = {"sweep, a 17th open", 0, 20, 20, WORDS, {FINURAHO_NOT_FINISHED, 0, 0, 0, 0}};
-
-static void sweeps(void)
-{
-    static const uint16_t dos[] = {1, 3, 3}, each[] = {1, 2, 3, 4, 5};
-    size_t i;
-    put_example();
-    for (i = 0; i < sizeof EXAMPLE / sizeof EXAMPLE[0]; i++)
-        expect_sweep(EXAMPLE[i], dos, 3);
-    put_dos(0);
-    expect_sweep(NOTHING, NULL, 0);
-    put_each_kind();
-    expect_sweep(EACH, each, 5);
-    put_recursion();
-    expect_sweep(DEEP, NULL, 0);
-}
+#include "sweeps.h"
 
 static void versions(void)
 {
@@ -507,6 +311,7 @@ int main(void)
     too_many_parts();
     wrong_switches();
     outcomes();
+    overflows();
     kinds();
     switches();
     figures();

@@ -9,14 +9,15 @@ use show::source_steps::Told;
 // Numbers on a line.
 const MANY: usize = 20;
 
-// 01's words for an outcome.
+// The words of 01 and 02 for an outcome.
 fn named(outcome: u8, at: usize, text: &mut [u8; 65536]) -> usize {
     match outcome {
         0 => print::word(b" budget spent\n", at, text),
         1 => print::word(b" finished\n", at, text),
         2 => print::word(b" alarm\n", at, text),
         3 => print::word(b" too many open functions\n", at, text),
-        _ => print::word(b" the place is beyond m\n", at, text),
+        4 => print::word(b" the place is beyond m\n", at, text),
+        _ => print::word(b" overflow\n", at, text),
     }
 }
 

@@ -1,4 +1,4 @@
-// The limit that a run met, as `show` lists it behind the steps.
+// The limit that a run met, or the row that overflows, as `show` lists it behind the steps.
 use console::print;
 use rules::step::Step;
 
@@ -9,6 +9,7 @@ pub fn list(s: Step, at: usize, text: &mut [u8; 65536]) -> usize {
         Step::Alarm => at,
         Step::TooManyOpen(n) => too_many_open(n, at, text),
         Step::Beyond(last) => beyond(last, at, text),
+        Step::Overflow(row) => overflow(row, at, text),
     }
 }
 
@@ -20,4 +21,9 @@ fn too_many_open(n: u16, at: usize, text: &mut [u8; 65536]) -> usize {
 fn beyond(last: u16, at: usize, text: &mut [u8; 65536]) -> usize {
     let named = print::named(b"the last place is ", last, at, text);
     print::put(b'\n', named, text)
+}
+
+fn overflow(row: u16, at: usize, text: &mut [u8; 65536]) -> usize {
+    let named = print::named(b"row ", row, at, text);
+    print::word(b" overflows\n", named, text)
 }

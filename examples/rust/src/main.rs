@@ -36,8 +36,14 @@ const BANDS: [[u8; 6]; 10] = [
 
 const VALUES: Variables = [0, 1, 0, 0, 0, 0, 0, 0, 0, 0, 0, 0, 0, 0, 0, 0];
 
-const OUTCOMES: [&str; 5] =
-    ["budget spent", "finished", "alarm", "too many open functions", "place beyond the last"];
+const OUTCOMES: [&str; 6] = [
+    "budget spent",
+    "finished",
+    "alarm",
+    "too many open functions",
+    "place beyond the last",
+    "overflow",
+];
 
 fn main() -> ExitCode {
     match example().and_then(|()| quote_bands()) {
@@ -69,6 +75,10 @@ fn example() -> Result<(), Refused> {
     // happened, without row 1.
     let narrow = Jump { step: 0, place: 1 };
     run_hardened("jump before step 0 to place 1", lines, Some(narrow))?;
+    // Over guards, to the do that takes v1 = 1 from v0, which is 0 yet: the difference is no fee,
+    // and the run ends there.
+    let below = Jump { step: 0, place: 3 };
+    run_hardened("jump before step 0 to place 3", lines, Some(below))?;
     sweep(lines, &VALUES)
 }
 
