@@ -8,7 +8,7 @@ use Rattle.places.proofs.wide.alarm_late.Lts as lts
 
 -- src/wide.rt:21:9
 returns : tie.Need-returns
-returns c = rw (lt-ltb 1 (c .before .args .left) (c .if1 .taken))
+returns c = rw (lt-ltb 1 (c .before .args .left) (omega (arith, c .if1 .taken)))
 
 -- src/wide.rt:17:1
 returns-2 : tie.Need-returns-2

@@ -8,7 +8,7 @@ use Rattle.state.proofs.variables.difference_of.Lts as lts
 
 -- src/variables.rt:22:9
 returns : tie.Need-returns
-returns c = rw (le-leb (c .before .args .y) (c .before .args .x) (c .if1 .taken))
+returns c = rw (le-leb (c .before .args .y) (c .before .args .x) (omega (arith, c .if1 .taken)))
 
 -- src/variables.rt:18:1
 returns-2 : tie.Need-returns-2
