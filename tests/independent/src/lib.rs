@@ -2,6 +2,7 @@
 //! from the documents alone, to test another implementation against. See README.md.
 
 pub mod around;
+pub mod by_name;
 pub mod calls;
 pub mod chain;
 pub mod damage;

@@ -1,11 +1,10 @@
 //! Programs to sweep: by hand, each for a way that a struck run can end, and random ones
 //! whose runs are short enough to be struck everywhere.
 
+use crate::by_name::{add, call, copy, differs, equal, functions, less, of, set, take, ELSE, END};
 use crate::damage;
 use crate::limits;
 use crate::line::{self, LINE_BYTES};
-use crate::machine::Variables;
-use crate::make::bytes_of;
 use crate::program::{self, Program};
 use crate::random::Random;
 use crate::row::{self, Row};
@@ -15,69 +14,6 @@ use crate::switch_limits;
 /// A random program has at most so many lines, and its run so many steps.
 const MOST_LINES: usize = 120;
 const MOST_STEPS: u16 = 300;
-
-const FUNCTION: Row = Row { kind: row::FUNCTION, op: 0, p: 0, q: 0, n: 0 };
-const END: Row = Row { kind: row::END, op: 0, p: 0, q: 0, n: 0 };
-const ELSE: Row = Row { kind: row::ELSE, op: 0, p: 0, q: 0, n: 0 };
-
-/// vp = n
-fn set(p: u8, n: u16) -> Row {
-    Row { kind: row::DO, op: 0, p, q: 0, n }
-}
-
-/// vp = vq
-fn copy(p: u8, q: u8) -> Row {
-    Row { kind: row::DO, op: 1, p, q, n: 0 }
-}
-
-/// vp = vp + vq
-fn add(p: u8, q: u8) -> Row {
-    Row { kind: row::DO, op: 2, p, q, n: 0 }
-}
-
-/// vp = vp - vq
-fn take(p: u8, q: u8) -> Row {
-    Row { kind: row::DO, op: 3, p, q, n: 0 }
-}
-
-/// vp = n
-fn equal(kind: u8, p: u8, n: u16) -> Row {
-    Row { kind, op: 0, p, q: 0, n }
-}
-
-/// vp differs from n
-fn differs(kind: u8, p: u8, n: u16) -> Row {
-    Row { kind, op: 1, p, q: 0, n }
-}
-
-/// vp less than vq
-fn less(kind: u8, p: u8, q: u8) -> Row {
-    Row { kind, op: 2, p, q, n: 0 }
-}
-
-fn call(n: u16) -> Row {
-    Row { n, ..Row::plain(row::CALL) }
-}
-
-/// Functions of these rows.
-fn functions(bodies: &[&[Row]]) -> Vec<u8> {
-    let rows: Vec<Row> =
-        bodies.iter().flat_map(|body| [&[FUNCTION], *body, &[END]].concat()).collect();
-    bytes_of(&rows)
-}
-
-/// First values, all else 0.
-fn values(given: &[(usize, u16)]) -> Variables {
-    let mut variables = [0; 16];
-    for (at, value) in given {
-        variables[*at] = *value;
-    }
-    variables
-}
-
-fn of(rows: Vec<u8>, given: &[(usize, u16)]) -> Program {
-    Program { rows, variables: values(given) }
-}
 
 /// 01's listing with its first values.
 pub fn listing() -> Program {
