@@ -1,5 +1,5 @@
 //! A run of hardened lines, with at most one jump (01, the table of "The
-//! hardened lines" and "Running").
+//! hardened lines" and "Running"; 02, No. 5).
 
 use crate::line::{self, Line};
 use crate::machine::{do_it, holds, Outcome, Variables, MOST_OPEN_FUNCTIONS};
@@ -144,10 +144,9 @@ impl<'a> HardenedRun<'a> {
     fn sight(&self) -> Sight {
         let frame = self.frames.last().expect("one function is open");
         let (function, place) = (frame.function, frame.place);
-        let span = self.span();
-        let what = match place == span.m {
-            true => self.end_seen(),
-            false => self.line_seen(self.lines[span.first + place]),
+        let what = match self.line() {
+            None => self.end_seen(),
+            Some(line) => self.line_seen(line),
         };
         Sight::Step { function, place, what }
     }
@@ -199,12 +198,9 @@ impl<'a> HardenedRun<'a> {
     /// "A hardened run does one line, or one return from place m, per step."
     fn step(&mut self) -> Result<(), Outcome> {
         self.steps += 1;
-        let span = self.span();
-        let place = self.frame().place;
-        if place == span.m {
+        let Some(line) = self.line() else {
             return self.return_();
-        }
-        let line = self.lines[span.first + place];
+        };
         match line.kind {
             line::DO => self.do_line(line),
             line::TICK => self.tick(line),
@@ -225,6 +221,13 @@ impl<'a> HardenedRun<'a> {
     /// The lines of the running function.
     pub fn span(&self) -> Span {
         self.spans[self.frames.last().expect("one function is open").function]
+    }
+
+    /// The line that the running function stands before; none at place m.
+    pub fn line(&self) -> Option<Line> {
+        let place = self.frames.last().expect("one function is open").place;
+        let span = self.span();
+        (place < span.m).then(|| self.lines[span.first + place])
     }
 
     fn counter(&mut self, region: u8) -> &mut u16 {
@@ -250,9 +253,9 @@ impl<'a> HardenedRun<'a> {
         self.frame().place = usize::from(line) - first;
     }
 
-    /// 21: "does it, next line"
+    /// 21: "does it, next line". One that overflows changes nothing and goes nowhere.
     fn do_line(&mut self, line: Line) -> Result<(), Outcome> {
-        do_it(line.op, line.p, line.q, line.n, &mut self.variables);
+        self.variables = do_it(line.op, line.p, line.q, line.n, &self.variables)?;
         self.trace.push(line.e);
         self.next();
         Ok(())

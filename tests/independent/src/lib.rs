@@ -1,5 +1,6 @@
-//! Document 01, with the switch, the figures and the sweep of 02, a second time, written
-//! from the documents alone, to test another implementation against. See README.md.
+//! Document 01, with the switch, the figures, the sweep and the overflow of 02, a second
+//! time, written from the documents alone, to test another implementation against. See
+//! README.md.
 
 pub mod around;
 pub mod by_name;
@@ -28,6 +29,7 @@ pub mod measure_text;
 pub mod parse;
 pub mod printed;
 pub mod program;
+pub mod program_dos;
 pub mod programs;
 pub mod protocol;
 pub mod random;
@@ -51,6 +53,7 @@ pub mod run_words;
 pub mod scene;
 pub mod shape;
 pub mod source_run;
+pub mod strikes;
 pub mod sweep;
 pub mod sweep_cases;
 pub mod sweep_programs;

@@ -61,12 +61,17 @@ fn piece(number: u16) -> Vec<Row> {
     ]
 }
 
-/// A do row that depends on a number.
+/// A do row that depends on a number. Those of the numbers from 2 up to 1,024, done one
+/// after the other on variables that are small or 0, do not overflow: what one adds, the
+/// next takes away.
 pub fn some_do(i: usize) -> Row {
     let byte = |i: usize| u8::try_from(i % 16).expect("below 16");
-    match i % 4 {
-        0 => Row { kind: row::DO, op: 0, p: byte(i / 4), q: 0, n: 65_535 - (i as u16) },
-        op => Row { kind: row::DO, op: byte(op), p: byte(i / 4), q: byte(i / 7), n: 0 },
+    let (op, p, q) = (byte(i % 4), i / 4, i / 7);
+    match op {
+        0 => Row { kind: row::DO, op, p: byte(p), q: 0, n: 9 * i as u16 },
+        1 => Row { kind: row::DO, op, p: byte(p + 5), q: byte(q), n: 0 },
+        2 => Row { kind: row::DO, op, p: byte(p), q: byte(q), n: 0 },
+        _ => Row { kind: row::DO, op, p: byte(p), q: byte((i - 1) / 7), n: 0 },
     }
 }
 

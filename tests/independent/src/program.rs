@@ -1,11 +1,12 @@
 //! Random programs that are worth running: most of their loops end, most of
 //! their calls return, some recurse up to the limit or past it, and their switches
-//! are taken one way or another.
+//! are taken one way or another. Their dos are those of `program_dos`.
 
 use crate::machine::Variables;
 use crate::make::{self, bytes_of};
+use crate::program_dos::{usual, BOLDNESS, SMALL};
 use crate::random::Random;
-use crate::row::{self, Row};
+use crate::row::{self, Row, ROW_BYTES};
 use crate::table::LIMITS;
 
 /// A table and the first values of a run.
@@ -16,7 +17,7 @@ pub struct Program {
 }
 
 /// Holds 1 in most programs.
-const ONE: u8 = 15;
+pub(crate) const ONE: u8 = 15;
 /// Counts the guarded recursions that are left.
 const FUEL: u8 = 14;
 /// v8 to v13 count the rounds of loops, by depth.
@@ -28,24 +29,36 @@ const DEEPEST: u8 = 6;
 /// A random program with about so many rows (at least 4).
 pub fn program(rng: &mut Random, size: usize) -> Program {
     if rng.percent(15) {
-        let rows = make::table_of(rng, size);
-        return Program { rows, variables: wild(rng) };
+        return any_program(rng, size);
     }
     let functions = rng.pick(&[1, 1, 2, 2, 3, 4]).min(size / 3).max(1);
-    let mut writer = Writer { rng, rows: Vec::new(), functions, number: 0, regions: 0 };
+    let boldness = rng.pick(&BOLDNESS);
+    let mut writer = Writer { rng, rows: Vec::new(), functions, number: 0, regions: 0, boldness };
     for number in 0..functions {
         writer.number = number;
+        writer.boldness = if number == 0 { boldness } else { (2 * boldness).min(100) };
         writer.function(size / functions);
     }
     let rows = bytes_of(&writer.rows);
     Program { rows, variables: tame(rng) }
 }
 
+/// Any table and any first values. As nearly every other sum or difference would then
+/// overflow, most tables have a copy in place of some.
+fn any_program(rng: &mut Random, size: usize) -> Program {
+    let mut rows = make::table_of(rng, size);
+    let kept = rng.pick(&[0, 30, 100]);
+    for row in rows.chunks_mut(ROW_BYTES).filter(|row| row[0] == row::DO && row[1] > 1) {
+        row[1] = if rng.percent(kept) { row[1] } else { 1 };
+    }
+    Program { rows, variables: wild(rng) }
+}
+
 /// First values that let loops and recursions end.
 fn tame(rng: &mut Random) -> Variables {
     let mut variables = [0; 16];
-    for v in variables.iter_mut() {
-        *v = if rng.percent(80) { rng.word() % 4 } else { rng.value() };
+    for (number, v) in (0..).zip(variables.iter_mut()) {
+        *v = if rng.percent(85) { usual(rng, number) } else { rng.value() };
     }
     variables[usize::from(FUEL)] = rng.pick(&[0, 1, 2, 3, 5, 14, 15, 16, 17, 40]);
     variables[usize::from(ONE)] = if rng.percent(95) { 1 } else { rng.value() };
@@ -62,14 +75,16 @@ fn wild(rng: &mut Random) -> Variables {
 }
 
 /// Writes the rows of a program.
-struct Writer<'a> {
-    rng: &'a mut Random,
-    rows: Vec<Row>,
+pub(crate) struct Writer<'a> {
+    pub(crate) rng: &'a mut Random,
+    pub(crate) rows: Vec<Row>,
     functions: usize,
     /// the function being written
     number: usize,
     /// the regions that it has, and those that its open ifs and switches will have
-    regions: usize,
+    pub(crate) regions: usize,
+    /// in so many of a hundred cases a do does as it pleases
+    pub(crate) boldness: usize,
 }
 
 /// Where a block stands.
@@ -85,11 +100,11 @@ struct Spot {
 const BODY: Spot = Spot { open: 0, in_loop: false, counter: None };
 
 impl Writer<'_> {
-    fn put(&mut self, kind: u8, op: u8, p: u8, q: u8, n: u16) {
+    pub(crate) fn put(&mut self, kind: u8, op: u8, p: u8, q: u8, n: u16) {
         self.rows.push(Row { kind, op, p, q, n });
     }
 
-    fn plain(&mut self, kind: u8) {
+    pub(crate) fn plain(&mut self, kind: u8) {
         self.rows.push(Row::plain(kind));
     }
 
@@ -112,44 +127,24 @@ impl Writer<'_> {
     fn statement(&mut self, room: usize, spot: Spot) {
         let has_regions = self.regions + 2 <= LIMITS.regions;
         let may_open = room >= 3 && spot.open < DEEPEST && has_regions;
-        match self.rng.below(22) {
+        match self.rng.below(24) {
             0..=2 if may_open => self.conditional(room, spot),
             3..=4 if may_open => self.with_else(room, spot),
             5..=7 if may_open && spot.open < COUNTER_VARIABLES => self.counted(room, spot),
             8 if may_open => self.free_loop(room, spot),
             9..=10 if may_open && spot.in_loop => self.guarded_exit(),
             11 if spot.in_loop && self.rng.percent(25) => self.exit(),
-            12 if self.number + 1 < self.functions => self.forward_call(),
-            13 if may_open => self.recursion(),
-            14 if self.rng.percent(15) => self.any_call(),
-            15..=16 if may_open => self.switch(room, spot),
-            _ => self.arithmetic(),
+            12..=13 if self.number + 1 < self.functions => self.forward_call(),
+            14 if may_open => self.recursion(),
+            15 if self.rng.percent(15) => self.any_call(),
+            16..=17 if may_open => self.switch(room, spot),
+            _ => self.arithmetic(may_open),
         }
     }
 
-    /// A do over v0 to v7, now and then over any variable.
-    fn arithmetic(&mut self) {
-        if self.rng.percent(4) {
-            let any = make::do_row(self.rng);
-            return self.rows.push(any);
-        }
-        let p = self.rng.byte() % 8;
-        match self.rng.below(4) {
-            0 => {
-                let n = self.rng.word() % 5;
-                self.put(row::DO, 0, p, 0, n);
-            }
-            op => {
-                let q = if self.rng.percent(40) { ONE } else { self.rng.byte() % 8 };
-                let op = u8::try_from(op).expect("below 4");
-                self.put(row::DO, op, p, q, 0);
-            }
-        }
-    }
-
-    /// A test over v0 to v7 that is true about every other time.
+    /// A test over v0 to v5 that is true about every other time.
     fn test(&mut self, kind: u8) {
-        let p = self.rng.byte() % 8;
+        let p = self.rng.byte() % SMALL;
         match self.rng.below(3) {
             0 => {
                 let n = self.rng.word() % 3;
@@ -160,7 +155,7 @@ impl Writer<'_> {
                 self.put(kind, 1, p, 0, n);
             }
             _ => {
-                let q = self.rng.byte() % 8;
+                let q = self.rng.byte() % SMALL;
                 self.put(kind, 2, p, q, 0);
             }
         }
@@ -213,9 +208,9 @@ impl Writer<'_> {
         self.plain(row::END);
     }
 
-    /// One of v0 to v7, as it is, or set just before, often to one of these numbers.
+    /// One of v0 to v5, as it is, or set just before, often to one of these numbers.
     fn small_variable(&mut self, numbers: &[u16]) -> u8 {
-        let p = self.rng.byte() % 8;
+        let p = self.rng.byte() % SMALL;
         match self.rng.below(10) {
             0..=2 => {}
             3..=4 => {
@@ -241,7 +236,7 @@ impl Writer<'_> {
     fn arm(&mut self, room: usize, spot: Spot) {
         let room = self.rng.between(0, room);
         self.block(room, spot);
-        if spot.in_loop && self.rng.percent(45) {
+        if spot.in_loop && self.rng.percent(60) {
             self.exit();
         }
     }

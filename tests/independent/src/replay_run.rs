@@ -4,14 +4,13 @@
 use crate::calls::COUNTER_WORDS;
 use crate::damage;
 use crate::faults;
-use crate::hardened_run::{spans_of, HardenedRun};
 use crate::limits;
-use crate::line;
 use crate::machine::{Outcome, Variables, NO_JUMP};
 use crate::program::{self, Program};
 use crate::protocol::{self, Struck, Test};
 use crate::random::Random;
 use crate::replay::LINE_LIMIT;
+use crate::strikes::{some_slots, some_strike, source_budget, unstruck, word, Standing, Unstruck};
 use crate::switch_limits;
 
 /// The fixed tests, then `count` random ones.
@@ -213,29 +212,23 @@ fn numbers_at_the_edge() -> Vec<Test> {
     tests
 }
 
-/// A run without a jump: its steps, and the lines of the function that runs
-/// before each step.
-fn unstruck(lines: &[u8], variables: &Variables, budget: u16) -> (u16, Vec<usize>) {
-    let lines = line::from_bytes(lines);
-    let mut run = HardenedRun::new(&lines, *variables);
-    let mut running = Vec::new();
-    for step in 1..=budget {
-        running.push(run.span().m);
-        if run.run(step, None) != Outcome::BudgetSpent {
-            break;
-        }
-    }
-    (run.steps, running)
-}
-
-/// A program whose hardened run is short.
+/// A program whose hardened run is short. In about a third of them it overflows, in
+/// another third it does not and a jump can make it.
 fn small_program(rng: &mut Random) -> Program {
+    let sort = rng.below(10);
     loop {
         let size = rng.between(4, 9);
         let program = program::program(rng, size);
         let lines = damage::hardened(&program.rows);
-        let (steps, _) = unstruck(&lines, &program.variables, 40);
-        if (4..=16).contains(&steps) && lines.len() <= 16 * 20 {
+        let Unstruck { outcome, steps, standing } = unstruck(&lines, &program.variables, 40);
+        let overflows = outcome == Outcome::Overflow;
+        let may_overflow = standing.iter().any(|standing| !standing.overflowing.is_empty());
+        let wanted = match sort {
+            0..=2 => overflows && steps > 1,
+            3..=6 => !overflows && may_overflow && steps > 3,
+            _ => steps > 3,
+        };
+        if wanted && steps <= 14 && lines.len() <= 13 * 20 {
             return program;
         }
     }
@@ -246,7 +239,7 @@ fn small_program(rng: &mut Random) -> Program {
 fn every_step_and_place(program: &Program) -> Vec<Test> {
     let lines = damage::hardened(&program.rows);
     let variables = &program.variables;
-    let (steps, running) = unstruck(&lines, variables, 40);
+    let Unstruck { steps, standing, .. } = unstruck(&lines, variables, 40);
     let budget = steps + 4;
     let mut tests = vec![
         protocol::source(budget, usize::from(budget), variables, &program.rows),
@@ -254,7 +247,7 @@ fn every_step_and_place(program: &Program) -> Vec<Test> {
         protocol::hardened(simple(budget, steps, 0), variables, &lines),
         protocol::hardened(simple(budget, budget, 0), variables, &lines),
     ];
-    for (k, m) in running.iter().enumerate() {
+    for (k, Standing { m, .. }) in standing.iter().enumerate() {
         for place in 0..=m + 1 {
             let how = simple(budget, word(k), word(place));
             tests.push(protocol::hardened(how, variables, &lines));
@@ -263,22 +256,18 @@ fn every_step_and_place(program: &Program) -> Vec<Test> {
     tests
 }
 
-fn word(number: usize) -> u16 {
-    u16::try_from(number).expect("a small number")
-}
-
 /// A random program with random values, budget, jump and buffers.
 fn random_test(rng: &mut Random) -> Test {
     let size = rng.between(4, 28);
     let program = program::program(rng, size);
-    let budget = some_budget(rng);
     if rng.percent(25) {
+        let budget = source_budget(rng, &program.rows, &program.variables);
         let slots = some_slots(rng, budget);
         let rows = if rng.percent(25) { small_fault(rng) } else { program.rows };
         return protocol::source(budget, slots, &program.variables, &rows);
     }
     let lines = damage::hardened(&program.rows);
-    let how = some_strike(rng, &lines, &program.variables, budget);
+    let how = some_strike(rng, &lines, &program.variables);
     let bytes = if rng.percent(8) { damage::any(rng, &lines) } else { lines };
     protocol::hardened(how, &program.variables, &bytes)
 }
@@ -291,56 +280,4 @@ fn small_fault(rng: &mut Random) -> Vec<u8> {
             return rows;
         }
     }
-}
-
-/// 0, 1, small, large, 65,535 (which `some_slots` lends too few slots).
-pub fn some_budget(rng: &mut Random) -> u16 {
-    word(match rng.below(100) {
-        0..=3 => 0,
-        4..=7 => 1,
-        8..=50 => rng.between(2, 40),
-        51..=90 => rng.between(40, 300),
-        91..=97 => rng.between(300, 1200),
-        _ => 65_535,
-    })
-}
-
-/// Mostly as many slots as the budget, sometimes one fewer, none, or more.
-fn some_slots(rng: &mut Random, budget: u16) -> usize {
-    let exact = usize::from(budget);
-    if exact > 10_000 {
-        return rng.below(50);
-    }
-    match rng.below(20) {
-        0 => exact.saturating_sub(1),
-        1 => 0,
-        2..=4 => exact + rng.between(1, 20),
-        _ => exact,
-    }
-}
-
-/// A jump within the run, at its end, past it, or none; a place in the running
-/// function, its m, or beyond.
-pub fn some_strike(rng: &mut Random, lines: &[u8], variables: &Variables, budget: u16) -> Struck {
-    let (steps, running) = unstruck(lines, variables, budget.min(2000));
-    let slots = some_slots(rng, budget);
-    let words = rng.pick(&[1024, 1024, 1024, 1024, 1024, 1024, 1024, 1100, 1100, 1025, 1023, 0]);
-    let k = match rng.below(20) {
-        0..=3 => NO_JUMP,
-        4 => budget,
-        5 => steps,
-        6 => steps + word(rng.between(1, 9)),
-        _ => word(rng.below(usize::from(steps) + 1)),
-    };
-    let m = match running.get(usize::from(k)) {
-        Some(m) => *m,
-        None => spans_of(&line::from_bytes(lines))[0].m,
-    };
-    let place = match rng.below(20) {
-        0..=1 => m,
-        2 => m + 1,
-        3 => rng.pick(&[65_535, 65_534, 256]),
-        _ => rng.below(m + 1),
-    };
-    Struck { budget, k, place: word(place), slots, words }
 }

@@ -16,11 +16,11 @@ use crate::malformed_texts;
 use crate::program;
 use crate::programs::Program;
 use crate::random::Random;
-use crate::replay_run::{some_budget, some_strike};
 use crate::row::ROW_BYTES;
 use crate::run_call_cases;
 use crate::run_trace_cases;
 use crate::run_word_cases;
+use crate::strikes::{some_strike, source_budget};
 use crate::switch_limits;
 use crate::text;
 
@@ -203,22 +203,23 @@ pub fn bad_lines(run: &str, right: &[u8]) -> Vec<Case> {
 fn random(rng: &mut Random) -> Case {
     let size = rng.between(4, 28);
     let program = program::program(rng, size);
-    let budget = some_budget(rng);
     let values = given(&program.variables);
     let show = if rng.percent(60) { "show" } else { "" };
     let trace = if rng.percent(40) { "trace" } else { "" };
-    let words = format!("{values} budget={budget} {show} {trace}");
+    let words = format!("{values} {show} {trace}");
     if rng.percent(30) {
-        return source(&shuffled(rng, &words), &program.rows);
+        let budget = source_budget(rng, &program.rows, &program.variables);
+        return source(&shuffled(rng, &format!("{words} budget={budget}")), &program.rows);
     }
     let lines = damage::hardened(&program.rows);
-    let how = some_strike(rng, &lines, &program.variables, budget);
+    let how = some_strike(rng, &lines, &program.variables);
     let jump = match how.k {
         NO_JUMP => String::new(),
         k => format!("jump={k}:{}", how.place),
     };
+    let words = format!("{jump} {words} budget={}", how.budget);
     let lines = if rng.percent(5) { damage::any(rng, &lines) } else { lines };
-    hardened(&shuffled(rng, &format!("{jump} {words}")), &lines)
+    hardened(&shuffled(rng, &words), &lines)
 }
 
 /// "the others may stand in any order"

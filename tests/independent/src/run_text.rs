@@ -67,7 +67,8 @@ fn source(asked: &Asked, rows: &[u8]) -> Result<String, Refusal> {
                 format!("step {step} function {} row {} {}", at.function, at.row, at.word),
             );
         }
-        text.push_str(&limit_met(outcome, None));
+        let row = run.reached.last().map(|at| at.row);
+        text.push_str(&limit_met(outcome, row, None));
     }
     text.push_str(&ended(asked, outcome, run.steps, &run.trace));
     line(&mut text, format!("calls {}", run.calls));
@@ -87,7 +88,8 @@ fn hardened(asked: &Asked, bytes: &[u8]) -> Result<String, Refusal> {
         }
     });
     if asked.show {
-        text.push_str(&limit_met(outcome, Some(run.span().m)));
+        let row = run.line().map(|line| usize::from(line.e));
+        text.push_str(&limit_met(outcome, row, Some(run.span().m)));
     }
     text.push_str(&ended(asked, outcome, run.steps, &run.trace));
     line(&mut text, listed("variables", &run.variables));
@@ -120,11 +122,13 @@ fn looked_at(what: &What) -> String {
 }
 
 /// "Where the run ends because a limit was met, a line behind the steps says
-/// which". The last place is m of the running function; a source run has none.
-fn limit_met(outcome: Outcome, last_place: Option<usize>) -> String {
-    match (outcome, last_place) {
-        (Outcome::TooManyOpen, _) => format!("{MOST_OPEN_FUNCTIONS} functions are open\n"),
-        (Outcome::PlaceBeyond, Some(m)) => format!("the last place is {m}\n"),
+/// which". The row is that of the do which the run stopped at. The last place is m of
+/// the running function; a source run has none.
+fn limit_met(outcome: Outcome, row: Option<usize>, last_place: Option<usize>) -> String {
+    match (outcome, row, last_place) {
+        (Outcome::TooManyOpen, ..) => format!("{MOST_OPEN_FUNCTIONS} functions are open\n"),
+        (Outcome::PlaceBeyond, _, Some(m)) => format!("the last place is {m}\n"),
+        (Outcome::Overflow, Some(row), _) => format!("row {row} overflows\n"),
         _ => String::new(),
     }
 }

@@ -1,4 +1,4 @@
-//! A run of a source table, over the tree (01, "Running").
+//! A run of a source table, over the tree (01, "Running"; 02, No. 5).
 
 use crate::machine::{do_it, holds, Outcome, Variables, MOST_OPEN_FUNCTIONS};
 use crate::row::Row;
@@ -99,7 +99,7 @@ impl<'a> SourceRun<'a> {
     fn statement(&mut self, stmt: &Stmt) -> Result<Flow, Outcome> {
         self.step(stmt.row(), word_of(stmt))?;
         match stmt {
-            Stmt::Do { row, what } => self.perform(*row, *what),
+            Stmt::Do { row, what } => self.perform(*row, *what)?,
             Stmt::Break { .. } => return Ok(Flow::Broken),
             Stmt::Continue { .. } => return Ok(Flow::Continued),
             Stmt::Call { function, .. } => self.call(usize::from(*function))?,
@@ -111,9 +111,11 @@ impl<'a> SourceRun<'a> {
         Ok(Flow::On)
     }
 
-    fn perform(&mut self, row: usize, what: Row) {
-        do_it(what.op, what.p, what.q, what.n, &mut self.variables);
+    /// A do that overflows changes nothing; its step has been counted.
+    fn perform(&mut self, row: usize, what: Row) -> Result<(), Outcome> {
+        self.variables = do_it(what.op, what.p, what.q, what.n, &self.variables)?;
         self.trace.push(u16::try_from(row).expect("row numbers are below 1,024"));
+        Ok(())
     }
 
     fn test(&self, test: Row) -> bool {

@@ -154,9 +154,9 @@ pub fn never_finished() -> Vec<Program> {
 /// A loop of 120 rounds over five dos, of which nearly every narrow jump gives another
 /// trace: more than 65,536 characters where they are listed.
 pub fn long_list() -> Program {
-    let body = [add(0, 15), add(2, 0), copy(3, 2), add(4, 3), take(5, 4)];
+    let body = [add(0, 15), add(2, 0), copy(3, 2), add(4, 0), take(5, 15)];
     let rows = [&[less(row::LOOP, 0, 1)], &body[..], &[END]].concat();
-    of(functions(&[&rows]), &[(1, 120), (15, 1)])
+    of(functions(&[&rows]), &[(1, 120), (5, 1000), (15, 1)])
 }
 
 /// The steps of an unstruck run that finishes in so many.
@@ -196,13 +196,14 @@ fn candidate(rng: &mut Random) -> Program {
 }
 
 /// Loops and calls of loops with nothing in them but the count: the traces of struck runs
-/// are often the same.
+/// are often the same. Some count just below 65,535, and only up.
 fn counting(rng: &mut Random) -> Program {
+    let high = rng.percent(30);
     let mut bodies = vec![Vec::new(); rng.between(1, 3)];
     let last = bodies.len() - 1;
     for (number, body) in bodies.iter_mut().enumerate() {
         for _ in 0..rng.between(1, 2) {
-            body.extend(count(rng));
+            body.extend(count(rng, high));
         }
         if number < last {
             body.insert(rng.pick(&[0, body.len()]), call(number as u16 + 1));
@@ -210,15 +211,16 @@ fn counting(rng: &mut Random) -> Program {
     }
     let rows = functions(&bodies.iter().map(|body| &body[..]).collect::<Vec<_>>());
     let mut variables = [0; 16];
-    variables.iter_mut().take(8).for_each(|value| *value = rng.word() % 4);
+    let lowest = if high { 65_532 } else { 0 };
+    variables.iter_mut().take(8).for_each(|value| *value = lowest + rng.word() % 4);
     variables[15] = rng.pick(&[1, 1, 1, 1, 2]);
     Program { rows, variables }
 }
 
-/// Up to a variable, or down to 0.
-fn count(rng: &mut Random) -> [Row; 3] {
+/// Up to a variable, or if it is not too far down to 0.
+fn count(rng: &mut Random, high: bool) -> [Row; 3] {
     let p = rng.byte() % 4;
-    match rng.percent(50) {
+    match high || rng.percent(50) {
         true => [less(row::LOOP, p, p + 4), add(p, 15), END],
         false => [differs(row::LOOP, p, 0), take(p, 15), END],
     }

@@ -86,10 +86,10 @@ fn every_number_comes() {
         assert!(found[number] >= 20, "{found:?}");
     }
     let found = first_words(&replay_run::tests(1, 600), 2);
-    for outcome in ["0 0", "0 1", "0 2", "0 3", "0 4", "9 0", "10 0"] {
+    for outcome in ["0 0", "0 1", "0 2", "0 3", "0 4", "0 5", "9 0", "10 0"] {
         assert!(found[outcome] >= 10, "{found:?}");
     }
-    let found = first_words(&replay_run::tests(1, 6000), 1);
+    let found = first_words(&replay_run::tests(1, 12_000), 1);
     for number in ["0", "1", "2", "3", "4", "5", "6", "7", "9", "10", "11"] {
         assert!(found[number] >= 3, "{found:?}");
     }
@@ -127,7 +127,7 @@ fn every_sweep_comes() {
 fn long_sweeps() {
     let tests = replay_sweep::long_tests();
     let answers: Vec<&str> = tests.iter().map(|test| &test.answer[..10]).collect();
-    assert_eq!(answers[..3], ["0 78 15 2 ", "0 1 1,3,3,", "9 0 0 0 0 "]);
+    assert_eq!(answers[..3], ["0 74 15 2 ", "0 1 1,3,3,", "9 0 0 0 0 "]);
     assert!(tests.iter().all(|test| test.answer.len() > 300_000));
 }
 

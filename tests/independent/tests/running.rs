@@ -1,10 +1,13 @@
 //! What 01 claims of runs, on random programs and on every short table: the
 //! unstruck hardened run is the source's run at the matching step and raises no
-//! alarm; a wide jump raises it when 01 says.
+//! alarm; a wide jump raises it when 01 says, or overflows when 02, No. 5, says.
 
+mod edge;
+
+use edge::overflows;
 use independent::hardened_run::{HardenedRun, Jump};
 use independent::line::Line;
-use independent::machine::{do_it, Outcome, Variables};
+use independent::machine::{Outcome, Variables};
 use independent::program::{self, Program};
 use independent::random::Random;
 use independent::source_run::SourceRun;
@@ -48,10 +51,25 @@ fn unstruck_is_the_sources(pair: &Pair, budget: u16) -> Outcome {
     assert_eq!(source.variables, hardened.variables);
     let open: Vec<usize> = hardened.frames.iter().map(|frame| frame.function).collect();
     assert_eq!(source.open, open);
-    if outcome == Outcome::BudgetSpent {
-        assert_eq!(hardened.steps, budget);
+    match outcome {
+        Outcome::BudgetSpent => assert_eq!(hardened.steps, budget),
+        Outcome::Overflow => stops_before_it(pair, &hardened),
+        _ => {}
     }
     outcome
+}
+
+/// "stops either run with outcome 5, before it changes a variable or the trace; the step
+/// is counted": with one step less the run is the same, and its budget spent; with just
+/// its steps it ends so in the last budgeted one.
+fn stops_before_it(pair: &Pair, run: &HardenedRun) {
+    assert!(overflows(&run.line().unwrap(), &run.variables));
+    let (outcome, less) = pair.struck(run.steps - 1, None);
+    assert_eq!((outcome, less.steps), (Outcome::BudgetSpent, run.steps - 1));
+    assert_eq!((&less.trace, less.variables), (&run.trace, run.variables));
+    assert_eq!(less.frames, run.frames);
+    let (outcome, last) = pair.struck(run.steps, None);
+    assert_eq!((outcome, last.steps), (Outcome::Overflow, run.steps));
 }
 
 /// "A source run that finishes in n steps with t dos and c calls finishes
@@ -77,29 +95,62 @@ fn wide(function: &[Line], one: usize, other: usize) -> bool {
     function[one.min(other)..one.max(other)].iter().any(Line::is_guard)
 }
 
+/// How many jumps were wide, and how many of those landed before a do that overflows:
+/// by its sum, by its difference, and with more functions open than one.
+#[derive(Default)]
+struct Met {
+    wide: usize,
+    sums: usize,
+    differences: usize,
+    deep: usize,
+}
+
+impl Met {
+    fn add(&mut self, more: Met) {
+        self.wide += more.wide;
+        self.sums += more.sums;
+        self.differences += more.differences;
+        self.deep += more.deep;
+    }
+
+    fn overflow(&mut self, line: Line, open: usize) {
+        match line.op {
+            2 => self.sums += 1,
+            _ => self.differences += 1,
+        }
+        self.deep += usize::from(open > 1);
+    }
+}
+
 /// All jumps before step k, which must be below the unstruck run's length.
-/// Answers how many were wide.
-fn jumps_at(pair: &Pair, k: u16, budget: u16) -> usize {
+fn jumps_at(pair: &Pair, k: u16, budget: u16) -> Met {
     let (_, before) = pair.struck(k, None);
     let span = before.span();
     let from = before.frames.last().unwrap().place;
     let function = &pair.lines[span.first..span.first + span.m];
-    let mut count = 0;
+    let mut met = Met::default();
     for place in 0..=span.m + 1 {
         let jump = Some(Jump { k, place: place as u16 });
         if place > span.m {
             beyond(pair, &before, budget, jump);
         } else if wide(function, from, place) {
-            count += 1;
+            met.wide += 1;
+            let overflow = function.get(place).filter(|line| overflows(line, &before.variables));
             for budget in [budget, k + 1, k + 2] {
-                wide_jump(pair, &before, budget, k, place);
+                match overflow {
+                    Some(_) => wide_overflow(pair, &before, budget, k, place),
+                    None => wide_jump(pair, &before, budget, k, place),
+                }
+            }
+            if let Some(line) = overflow {
+                met.overflow(*line, before.frames.len());
             }
         } else if place == from {
             same(&pair.struck(budget, jump), &pair.struck(budget, None));
         }
         same(&pair.struck(k, jump), &pair.struck(k, None));
     }
-    count
+    met
 }
 
 fn same(one: &(Outcome, HardenedRun), other: &(Outcome, HardenedRun)) {
@@ -115,6 +166,29 @@ fn beyond(pair: &Pair, before: &HardenedRun, budget: u16, jump: Option<Jump>) {
     assert_eq!((outcome, run.steps), (Outcome::PlaceBeyond, before.steps));
     assert_eq!(run.trace, before.trace);
     assert_eq!(run.variables, before.variables);
+}
+
+/// "A run struck across a guard therefore ends with 5, in the step struck, exactly if it
+/// lands before such a do". Every budget here holds step k.
+fn wide_overflow(pair: &Pair, before: &HardenedRun, budget: u16, k: u16, place: usize) {
+    let (outcome, run) = pair.struck(budget, Some(Jump { k, place: place as u16 }));
+    assert_eq!((outcome, run.steps), (Outcome::Overflow, k + 1));
+    assert_eq!((&run.trace, run.variables), (&before.trace, before.variables));
+    let open = |run: &HardenedRun| run.frames.iter().map(|f| f.function).collect::<Vec<_>>();
+    assert_eq!(open(&run), open(before));
+}
+
+/// The variables behind a do that does not overflow.
+fn done(line: Line, v: &Variables) -> Variables {
+    let mut after = *v;
+    let [p, q] = [line.p, line.q].map(usize::from);
+    match line.op {
+        0 => after[p] = line.n,
+        1 => after[p] = v[q],
+        2 => after[p] += v[q],
+        _ => after[p] -= v[q],
+    }
+    after
 }
 
 /// "the alarm comes in step k if the place is before a guard, or is m with one
@@ -133,7 +207,7 @@ fn wide_jump(pair: &Pair, before: &HardenedRun, budget: u16, k: u16, place: usiz
     let mut variables = before.variables;
     let mut trace = before.trace.clone();
     if let Some(line) = line.filter(|line| !line.is_guard()) {
-        do_it(line.op, line.p, line.q, line.n, &mut variables);
+        variables = done(line, &variables);
         trace.push(line.e);
     }
     let (outcome, run) = pair.struck(budget, Some(Jump { k, place: place as u16 }));
@@ -154,7 +228,7 @@ fn some_program(seed: u64, largest: usize) -> Program {
 
 #[test]
 fn unstruck_runs_of_random_programs() {
-    let mut outcomes = [0; 5];
+    let mut outcomes = [0; 6];
     let mut finished = 0;
     for seed in 0..6000 {
         let program = some_program(seed, 60);
@@ -167,7 +241,7 @@ fn unstruck_runs_of_random_programs() {
         finished += usize::from(finishing(&pair, 3000));
     }
     assert!(finished > 2000, "{finished}");
-    assert!(outcomes[3] > 200, "{outcomes:?}");
+    assert!(outcomes[3] > 200 && outcomes[5] > 2000, "{outcomes:?}");
 }
 
 #[test]
@@ -195,18 +269,20 @@ fn unstruck_runs_with_the_largest_budget() {
 
 #[test]
 fn every_jump_of_random_programs() {
-    let mut count = 0;
+    let mut met = Met::default();
     let mut deep = 0;
     for seed in 0..1500 {
         let program = some_program(seed, 24);
         let pair = Pair::new(&program.rows, program.variables);
         let (_, whole) = pair.struck(80, None);
         for k in 0..whole.steps {
-            count += jumps_at(&pair, k, 120);
+            met.add(jumps_at(&pair, k, 120));
             deep = deep.max(pair.struck(k, None).1.frames.len());
         }
     }
-    assert!(count > 100_000, "{count}");
+    assert!(met.wide > 100_000, "{}", met.wide);
+    assert!(met.sums > 1000 && met.differences > 1000, "{} {}", met.sums, met.differences);
+    assert!(met.deep > 1000, "{}", met.deep);
     assert_eq!(deep, 16);
 }
 
@@ -218,7 +294,7 @@ fn every_jump_in_the_deepest_recursion() {
         let pair = Pair::new(&limits::recursion(), variables);
         let (_, whole) = pair.struck(500, None);
         for k in 0..whole.steps {
-            assert!(jumps_at(&pair, k, 500) > 0);
+            assert!(jumps_at(&pair, k, 500).wide > 0);
         }
     }
 }

@@ -2,9 +2,11 @@
 //! the sum of the four, the second call, and another sweep, which strikes only where no
 //! guard is between; the buffers.
 
+mod edge;
 mod letters;
 
-use independent::hardened_run::{spans_of, HardenedRun, Sight};
+use edge::overflows;
+use independent::hardened_run::{spans_of, HardenedRun};
 use independent::line::{self, Line};
 use independent::machine::{Outcome, Variables};
 use independent::program::Program;
@@ -38,20 +40,21 @@ fn refused(lines: &[u8], budget: u16, slots: &mut [u16], words: &mut [u16]) -> u
     number
 }
 
-/// 12 steps of 8 places. Of the late alarms the last two come in step 12. A run with row 1
-/// left out takes 3 steps, with row 1 done twice 13; with row 3 left out of either round
-/// 15 and the same trace, with row 3 done twice in the first round 9 and the same trace,
-/// in the second it never ends.
+/// 12 steps of 8 places. A run with row 1 left out takes 3 steps, with row 1 done twice 13;
+/// with row 3 left out of either round 15 and the same trace, with row 3 done twice in the
+/// first round 9 and the same trace, in the second it overflows. Place 3 is before row 3,
+/// which overflows while v0 is 0: at step 0 and from step 8 on, of which step 8 is the do
+/// done twice. With the budget 12 one late alarm is not met, that of step 11 to place 0.
 #[test]
 fn the_listing() {
     let lines = damage::hardened(&limits::worked_listing());
     for (budget, expected) in [
-        (12, [76, 13, 1, 6]),
-        (13, [78, 13, 2, 3]),
-        (14, [78, 13, 2, 3]),
-        (15, [78, 15, 2, 1]),
-        (20, [78, 15, 2, 1]),
-        (65_535, [78, 15, 2, 1]),
+        (12, [73, 13, 1, 9]),
+        (13, [74, 13, 2, 7]),
+        (14, [74, 13, 2, 7]),
+        (15, [74, 15, 2, 5]),
+        (20, [74, 15, 2, 5]),
+        (65_535, [74, 15, 2, 5]),
     ] {
         assert_eq!(counts(&lines, &VALUES, budget), expected);
     }
@@ -104,7 +107,7 @@ fn a_call() {
 }
 
 /// The listing without its row 1: a do left out is made up for by another round, one done
-/// twice by a round less, or the loop never ends. No other trace.
+/// twice by a round less, or it overflows. No other trace.
 #[test]
 fn made_up_for() {
     let rows = [[1, 0, 0, 0, 0, 0], [5, 1, 0, 0, 0, 0], [2, 3, 0, 1, 0, 0], [6, 0, 0, 0, 0, 0]];
@@ -112,11 +115,12 @@ fn made_up_for() {
     let mut values = VALUES;
     values[0] = 2;
     // 2 rounds of test, do, tick, leave, then test and ret: 10 steps of 6 places. 4 narrow
-    // jumps, one of which never ends
-    assert_eq!(counts(&lines, &values, 20), [60 - 14, 13, 0, 1]);
+    // jumps, the last of which overflows; so do the three steps behind it, to place 1
+    assert_eq!(counts(&lines, &values, 20), [60 - 14 - 3, 13, 0, 1 + 3]);
 }
 
-/// A do left out of the recursion that takes 16 functions opens a 17th: outcome 3.
+/// A do left out of the recursion that takes 16 functions opens a 17th: outcome 3. Once v0
+/// is 0 the do overflows, in whichever function it is landed before.
 #[test]
 fn too_many_open() {
     let lines = damage::hardened(&limits::recursion());
@@ -131,14 +135,16 @@ fn too_many_open() {
             assert_eq!(ran.outcome, expected);
         }
     };
-    // test, do, tick, call: each of the 15 dos left out, and the last one done twice
+    // test, do, tick, call: each of the 15 dos left out
     let left_out: Vec<(u16, u16)> = (0..15).map(|round| (4 * round + 1, 2)).collect();
     ends(&left_out, 3);
-    ends(&[(4 * 14 + 2, 1)], 3);
+    // the last one done twice, in step 58, and the 48 steps behind it to its place
+    let at_zero: Vec<(u16, u16)> = (58..107).map(|step| (step, 1)).collect();
+    ends(&at_zero, 5);
     // done twice otherwise: a call less makes up for it
     let twice: Vec<(u16, u16)> = (0..14).map(|round| (4 * round + 2, 1)).collect();
     ends(&twice, 1);
-    assert_eq!((other, unfinished), (0, 16));
+    assert_eq!((other, unfinished), (0, 15 + 49));
 }
 
 /// "A guard is between two places if one of the lines from the lower place to just below
@@ -147,36 +153,45 @@ fn wide(function: &[Line], one: usize, other: usize) -> bool {
     function[one.min(other)..one.max(other)].iter().any(Line::is_guard)
 }
 
-/// A step of the unstruck run: function and place, and how many are open.
+/// Before a step of the unstruck run: function and place, how many are open, and the
+/// variables.
 struct Step {
     function: usize,
     place: usize,
     open: usize,
+    variables: Variables,
 }
 
 /// The steps of the unstruck run, if it finishes.
 fn steps(lines: &[Line], variables: &Variables, budget: u16) -> Option<Vec<Step>> {
+    let mut run = HardenedRun::new(lines, *variables);
     let mut steps = Vec::new();
-    let mut open = 1;
-    let outcome = HardenedRun::new(lines, *variables).run_seen(budget, None, &mut |_, sight| {
-        let Sight::Step { function, place, what } = sight else { panic!("no jump") };
-        steps.push(Step { function, place, open });
-        match what.word {
-            "call" => open += 1,
-            "ret" => open -= 1,
-            _ => {}
+    for step in 1..=budget {
+        let frame = run.frames.last().unwrap();
+        let (function, place, open) = (frame.function, frame.place, run.frames.len());
+        steps.push(Step { function, place, open, variables: run.variables });
+        match run.run(step, None) {
+            Outcome::BudgetSpent => {}
+            outcome => return (outcome == Outcome::Finished).then_some(steps),
         }
-    });
-    (outcome == Outcome::Finished).then_some(steps)
+    }
+    None
 }
 
-/// The step in which 01's rule has the alarm of a wide jump before step k to this place.
-fn alarm_step(function: &[Line], k: usize, place: usize, open: usize) -> usize {
+/// Which count a wide jump before step k to this place goes to, by 01's rule for the step
+/// of the alarm and 02's for a do that overflows.
+fn wide_jump(function: &[Line], k: usize, step: &Step, place: usize, budget: u16) -> usize {
     let late = match function.get(place) {
+        Some(line) if overflows(line, &step.variables) => return 3,
         Some(line) => !line.is_guard(),
-        None => open > 1,
+        None => step.open > 1,
     };
-    k + usize::from(late)
+    let alarm_step = k + usize::from(late);
+    if alarm_step < usize::from(budget) {
+        0
+    } else {
+        3
+    }
 }
 
 /// Which of the four counts a narrow jump goes to, by a run; never the alarms.
@@ -198,7 +213,7 @@ fn narrow(lines: &[u8], variables: &Variables, budget: u16, k: usize, place: usi
     }
 }
 
-/// The counts by 01's rule for wide jumps, and by runs for the others.
+/// The counts by the rules for wide jumps, and by runs for the others.
 fn by_the_rule(bytes: &[u8], variables: &Variables, budget: u16) -> Option<[u32; 4]> {
     let lines = line::from_bytes(bytes);
     let spans = spans_of(&lines);
@@ -210,10 +225,7 @@ fn by_the_rule(bytes: &[u8], variables: &Variables, budget: u16) -> Option<[u32;
             let which = if place == step.place {
                 1
             } else if wide(function, step.place, place) {
-                match alarm_step(function, k, place, step.open) < usize::from(budget) {
-                    true => 0,
-                    false => 3,
-                }
+                wide_jump(function, k, step, place, budget)
             } else {
                 narrow(bytes, variables, budget, k, place)
             };

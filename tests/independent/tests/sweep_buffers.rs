@@ -78,6 +78,6 @@ fn any_contents() {
     for fill in [0, 1, 3, 65_535] {
         let (mut slots, mut words) = (vec![fill; 20], vec![fill; 1024]);
         let swept = sweep(&lines(), &values, 20, &mut slots, &mut words);
-        assert_eq!(swept.counts, Counts { alarms: 78, same: 15, other: 2, unfinished: 1 });
+        assert_eq!(swept.counts, Counts { alarms: 74, same: 15, other: 2, unfinished: 5 });
     }
 }

@@ -33,27 +33,27 @@ fn hardened(rows: &str) -> String {
 
 #[test]
 fn the_worked_budgets() {
-    let counts = "alarm 78\nsame 15\nother 2\nunfinished 1\n";
+    let counts = "alarm 74\nsame 15\nother 2\nunfinished 5\n";
     assert_eq!(out("budget=20 v1=1", LINES), counts);
     assert_eq!(out("v1=1", LINES), counts);
     assert_eq!(out("v1=1", &hardened(ROWS)), counts);
-    assert_eq!(out("v1=1 budget=12", LINES), "alarm 76\nsame 13\nother 1\nunfinished 6\n");
+    assert_eq!(out("v1=1 budget=12", LINES), "alarm 73\nsame 13\nother 1\nunfinished 9\n");
     assert_eq!(out("budget=11 v1=1", LINES), "refused 13\n");
     let listed = "\
 step 0 function 0 from place 0 to place 1 row 1 left out
 step 1 function 0 from place 1 to place 0 row 1 done twice
-alarm 78
+alarm 74
 same 15
 other 2
-unfinished 1
+unfinished 5
 ";
     assert_eq!(out("budget=20 v1=1 list", LINES), listed);
     let listed = "\
 step 0 function 0 from place 0 to place 1 row 1 left out
-alarm 76
+alarm 73
 same 13
 other 1
-unfinished 6
+unfinished 9
 ";
     assert_eq!(out("list budget=12 v1=1", LINES), listed);
 }
@@ -201,12 +201,12 @@ fn the_cases_meet_everything() {
         "expected list only once\n",
         "expected at most 4096 bytes\n",
         "step 0 function 0 from place 0 to place 1 row 1 left out\nstep 1 ",
-        " row 1 done twice\nalarm 78\nsame 15\nother 2\nunfinished 1\n",
-        " row 1 left out\nalarm 76\nsame 13\nother 1\nunfinished 6\n",
+        " row 1 done twice\nalarm 74\nsame 15\nother 2\nunfinished 5\n",
+        " row 1 left out\nalarm 73\nsame 13\nother 1\nunfinished 9\n",
         " function 1 from place 0 to place 1 row ",
         " function 2 from place ",
         "other 0\nunfinished 0\n",
-        "other 0\nunfinished 16\n",
+        "other 0\nunfinished 64\n",
         "refused 10\n",
         "refused 13\n",
         "unreadable\n",

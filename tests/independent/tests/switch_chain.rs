@@ -136,7 +136,7 @@ fn faulty_tables() {
 
 #[test]
 fn random_programs() {
-    let mut outcomes = [0; 5];
+    let mut outcomes = [0; 6];
     let mut with_switch = 0;
     for seed in 0..6000 {
         let mut rng = Random::new(seed);
