@@ -10,6 +10,7 @@ use crate::program::{self, Program};
 use crate::protocol::{self, Struck, Test};
 use crate::random::Random;
 use crate::replay::LINE_LIMIT;
+use crate::replay_overflow;
 use crate::strikes::{some_slots, some_strike, source_budget, unstruck, word, Standing, Unstruck};
 use crate::switch_limits;
 
@@ -53,12 +54,12 @@ fn case_values() -> Variables {
 }
 
 /// An accepted run: as many slots as the budget, 1,024 words.
-fn simple(budget: u16, k: u16, place: u16) -> Struck {
+pub fn simple(budget: u16, k: u16, place: u16) -> Struck {
     Struck { budget, k, place, slots: usize::from(budget), words: COUNTER_WORDS }
 }
 
 /// 01's cases, every step and place of the listing, the limits of runs; runs of
-/// switches.
+/// switches; runs that overflow.
 pub fn fixed() -> Vec<Test> {
     let mut tests = cases();
     let listing = Program { rows: limits::worked_listing(), variables: case_values() };
@@ -68,6 +69,7 @@ pub fn fixed() -> Vec<Test> {
     tests.extend(buffers());
     tests.extend(budgets());
     tests.extend(numbers_at_the_edge());
+    tests.extend(replay_overflow::all());
     tests
 }
 
@@ -123,7 +125,7 @@ fn switches() -> Vec<Test> {
 }
 
 /// A table's run in both forms.
-fn both(budget: u16, variables: &Variables, rows: &[u8]) -> [Test; 2] {
+pub fn both(budget: u16, variables: &Variables, rows: &[u8]) -> [Test; 2] {
     [
         protocol::source(budget, usize::from(budget), variables, rows),
         protocol::hardened(simple(budget, NO_JUMP, 0), variables, &damage::hardened(rows)),

@@ -4,10 +4,12 @@ use crate::calls::COUNTER_WORDS;
 use crate::damage;
 use crate::limits;
 use crate::machine::Variables;
+use crate::overflow_programs;
 use crate::program::Program;
 use crate::protocol::{self, Asked, Test};
 use crate::random::Random;
 use crate::replay::LINE_LIMIT;
+use crate::strikes::unstruck;
 use crate::sweep_programs;
 
 /// The fixed tests, then `count` random ones.
@@ -55,7 +57,7 @@ fn of_bytes(how: Asked, variables: &Variables, lines: &[u8]) -> [Test; 2] {
 }
 
 /// The worked budgets, the buffers, damaged bytes, programs by hand, those that never
-/// finish, large budgets and a large table.
+/// finish, those that overflow or nearly do, large budgets and a large table.
 pub fn fixed() -> Vec<Test> {
     let listing = sweep_programs::listing();
     let mut tests = Vec::new();
@@ -69,7 +71,25 @@ pub fn fixed() -> Vec<Test> {
     for program in sweep_programs::never_finished() {
         tests.extend([0, 1, 63, 64, 200].into_iter().flat_map(|b| both(exact(b), &program)));
     }
+    tests.extend(overflows());
     tests.extend(large(&listing));
+    tests
+}
+
+/// Programs that finish at an edge, with the budget that they need, one more, and many
+/// more; programs that overflow, in and just before that step.
+fn overflows() -> Vec<Test> {
+    let mut tests = Vec::new();
+    for program in overflow_programs::finishing() {
+        let steps = sweep_programs::finishes_in(&program, 600).expect("it finishes");
+        tests.extend([steps, steps + 1].into_iter().flat_map(|b| both(exact(b), &program)));
+        let lines = damage::hardened(&program.rows);
+        tests.push(protocol::whole(exact(2 * steps), &program.variables, &lines));
+    }
+    for program in overflow_programs::overflowing() {
+        let steps = unstruck(&damage::hardened(&program.rows), &program.variables, 300).steps;
+        tests.extend([steps - 1, 300].into_iter().flat_map(|b| both(exact(b), &program)));
+    }
     tests
 }
 

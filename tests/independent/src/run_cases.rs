@@ -18,6 +18,7 @@ use crate::programs::Program;
 use crate::random::Random;
 use crate::row::ROW_BYTES;
 use crate::run_call_cases;
+use crate::run_overflow_cases;
 use crate::run_trace_cases;
 use crate::run_word_cases;
 use crate::strikes::{some_strike, source_budget};
@@ -57,6 +58,7 @@ pub fn cases(seed: u64, count: usize) -> Vec<Case> {
     cases.extend(run_word_cases::all());
     cases.extend(run_trace_cases::all());
     cases.extend(run_call_cases::all());
+    cases.extend(run_overflow_cases::all());
     cases.extend((0..count).map(|_| random(&mut rng)));
     cases
 }

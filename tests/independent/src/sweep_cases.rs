@@ -3,6 +3,7 @@
 use crate::damage;
 use crate::limits;
 use crate::line::LINE_BYTES;
+use crate::overflow_programs;
 use crate::program::Program;
 use crate::random::Random;
 use crate::replay_sweep::some_budget;
@@ -17,6 +18,7 @@ pub fn cases(seed: u64, count: usize) -> Vec<Case> {
     let mut rng = Random::new(seed);
     let mut cases = listing();
     cases.extend(by_hand());
+    cases.extend(overflows());
     cases.extend(turned_away());
     cases.extend(unreadable());
     cases.extend(sweep_word_cases::all());
@@ -64,6 +66,21 @@ fn by_hand() -> Vec<Case> {
         cases.push(of(&program, "list"));
     }
     cases.push(of(&sweep_programs::long_list(), "list budget=1500"));
+    cases
+}
+
+/// Programs that finish at an edge, with just the budget that they need and with the
+/// largest; programs that overflow.
+fn overflows() -> Vec<Case> {
+    let mut cases = Vec::new();
+    for program in overflow_programs::finishing() {
+        let steps = sweep_programs::finishes_in(&program, 600).expect("it finishes");
+        for words in [format!("budget={steps} list"), "list".to_string(), String::new()] {
+            cases.push(of(&program, &words));
+        }
+    }
+    let overflowing = overflow_programs::overflowing();
+    cases.extend(overflowing.iter().map(|program| of(program, "list")));
     cases
 }
 

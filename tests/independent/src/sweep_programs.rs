@@ -140,7 +140,8 @@ fn wide_tables() -> Vec<Program> {
     ]
 }
 
-/// Programs whose runs never finish: by the budget, and by outcome 3.
+/// Programs whose runs never finish: by the budget, and by outcome 3. (By outcome 5 they
+/// are in `overflow_programs`.)
 pub fn never_finished() -> Vec<Program> {
     vec![
         of(limits::endless(1), &[]),

@@ -108,6 +108,53 @@ fn no_jump() {
     assert_eq!(unreadable.err, [told.as_bytes(), b"line 1: an empty line\n"].concat());
 }
 
+/// What the cases meet, on standard output or standard error.
+const MET: &[&str] = &[
+    "usage: run source",
+    "expected source or hardened\n",
+    "expected budget=0..65535, v0..v15=0..65535, trace or show\n",
+    "expected budget=0..65535, v0..v15=0..65535, jump=STEP:PLACE, trace or show\n",
+    "expected budget=0..65535\n",
+    "expected v15=0..65535\n",
+    "expected jump=STEP:PLACE, each 0..65535\n",
+    "expected jump in a hardened run only\n",
+    "expected budget only once\n",
+    "expected v15 only once\n",
+    "expected jump only once\n",
+    "expected trace only once\n",
+    "expected show only once\n",
+    "expected at most 4096 bytes\n",
+    "step 65535 is no jump: no budget holds it\n",
+    "16 functions are open\noutcome 3 too many open functions\n",
+    "the last place is 3\noutcome 4 the place is beyond m\n",
+    "the last place is 7\noutcome 4 the place is beyond m\n",
+    "trace of 21 rows\n ",
+    "trace of 21 rows, listed with the word trace\nvariables",
+    "trace of 21 rows, listed with the word trace\ncalls 0\nvariables",
+    "\ntrace\ncalls 1\nvariables",
+    "\ntrace 2 2 2 2 2 2 2\ncalls 7\nvariables",
+    "finished\nsteps 77\ntrace 2 2 2 2 2 2 2 2 2 2 2 2 2 2 2\ncalls 15\nvariables",
+    "too many open functions\nsteps 48\ntrace 2 2 2 2 2 2 2 2 2 2 2 2 2 2 2 2\ncalls 15\n",
+    "\ncalls 32400\nvariables",
+    "trace of 40 rows\n ",
+    "trace of 52428 rows\n ",
+    "outcome 0 budget spent\n",
+    "outcome 1 finished\n",
+    "outcome 2 alarm\n",
+    "row 3 overflows\noutcome 5 overflow\nsteps 3\ntrace 1\ncalls 0\nvariables 2 3 0 ",
+    "row 3 overflows\noutcome 5 overflow\nsteps 4\ntrace 1\nvariables 2 3 0 ",
+    "jump to place 3\nstep 0 function 0 place 3 do\nrow 3 overflows\noutcome 5 overflow\n",
+    " row 11 do\nrow 11 overflows\noutcome 5 overflow\nsteps 6\ntrace 1 6 10\ncalls 2\n",
+    "row 10 overflows\noutcome 5 overflow\nsteps 6\ntrace 1 9\ncalls 0\n",
+    "outcome 5 overflow\nsteps 62\ntrace of 30 rows, listed with the word trace\n",
+    "outcome 5 overflow\nsteps 65535\n",
+    "refused 1\n",
+    "refused 7\n",
+    "refused 10\n",
+    "unreadable\n",
+    "line 1: ",
+];
+
 /// The command lines that the script puts to the program have a right and a wrong
 /// one for each thing that a word can be.
 #[test]
@@ -121,44 +168,7 @@ fn the_cases_meet_everything() {
         };
         all.iter().filter(with).count()
     };
-    for what in [
-        "usage: run source",
-        "expected source or hardened\n",
-        "expected budget=0..65535, v0..v15=0..65535, trace or show\n",
-        "expected budget=0..65535, v0..v15=0..65535, jump=STEP:PLACE, trace or show\n",
-        "expected budget=0..65535\n",
-        "expected v15=0..65535\n",
-        "expected jump=STEP:PLACE, each 0..65535\n",
-        "expected jump in a hardened run only\n",
-        "expected budget only once\n",
-        "expected v15 only once\n",
-        "expected jump only once\n",
-        "expected trace only once\n",
-        "expected show only once\n",
-        "expected at most 4096 bytes\n",
-        "step 65535 is no jump: no budget holds it\n",
-        "16 functions are open\noutcome 3 too many open functions\n",
-        "the last place is 3\noutcome 4 the place is beyond m\n",
-        "the last place is 7\noutcome 4 the place is beyond m\n",
-        "trace of 21 rows\n ",
-        "trace of 21 rows, listed with the word trace\nvariables",
-        "trace of 21 rows, listed with the word trace\ncalls 0\nvariables",
-        "\ntrace\ncalls 1\nvariables",
-        "\ntrace 2 2 2 2 2 2 2\ncalls 7\nvariables",
-        "finished\nsteps 77\ntrace 2 2 2 2 2 2 2 2 2 2 2 2 2 2 2\ncalls 15\nvariables",
-        "too many open functions\nsteps 48\ntrace 2 2 2 2 2 2 2 2 2 2 2 2 2 2 2 2\ncalls 15\n",
-        "\ncalls 32400\nvariables",
-        "trace of 40 rows\n ",
-        "trace of 52428 rows\n ",
-        "outcome 0 budget spent\n",
-        "outcome 1 finished\n",
-        "outcome 2 alarm\n",
-        "refused 1\n",
-        "refused 7\n",
-        "refused 10\n",
-        "unreadable\n",
-        "line 1: ",
-    ] {
+    for what in MET {
         assert!(met(what) > 0, "{what}");
     }
 }

@@ -6,14 +6,16 @@ mod edge;
 mod letters;
 
 use edge::overflows;
+use independent::by_name::{add, equal, functions, set, take, values, ELSE, END};
 use independent::hardened_run::{spans_of, HardenedRun};
 use independent::line::{self, Line};
 use independent::machine::{Outcome, Variables};
 use independent::program::Program;
 use independent::random::Random;
 use independent::replay_sweep::some_budget;
+use independent::row;
 use independent::sweep::Counts;
-use independent::{check, damage, limits, run_hardened, sweep_programs};
+use independent::{check, damage, limits, overflow_programs, run_hardened, sweep_programs};
 use independent::{sweep, sweep_other, Swept, SweptOther};
 
 /// v1 = 1, all else 0
@@ -147,6 +149,45 @@ fn too_many_open() {
     assert_eq!((other, unfinished), (0, 15 + 49));
 }
 
+/// A do alone, as in `one_do`. With the second number it overflows where it is done again:
+/// by the narrow jump of step 1 and the wide one of step 2, which with the budget 3 comes
+/// in the last budgeted step. With the first it does not.
+#[test]
+fn at_the_edge() {
+    for (what, fits, overflows, v1) in [
+        (add(0, 1), 65_533, 65_534, 1),
+        (add(0, 1), 1, 2, 32_767),
+        (add(0, 0), 16_383, 32_767, 0),
+        (take(0, 1), 2, 1, 1),
+        (take(0, 1), 65_534, 65_533, 32_767),
+    ] {
+        let lines = damage::hardened(&functions(&[&[what]]));
+        for budget in [4, 9, 65_535] {
+            assert_eq!(counts(&lines, &values(&[(0, fits), (1, v1)]), budget), [7, 3, 2, 0]);
+            assert_eq!(counts(&lines, &values(&[(0, overflows), (1, v1)]), budget), [6, 3, 1, 2]);
+        }
+        assert_eq!(counts(&lines, &values(&[(0, fits), (1, v1)]), 3), [6, 3, 1, 2]);
+        assert_eq!(counts(&lines, &values(&[(0, overflows), (1, v1)]), 3), [6, 3, 1, 2]);
+    }
+    let lines = damage::hardened(&functions(&[&[take(0, 0)]]));
+    assert_eq!(counts(&lines, &values(&[(0, 65_535)]), 4), [7, 3, 2, 0]);
+}
+
+/// test, do, tick, leave, of the else part do, tick, leave, then do, tick, ret: 7 steps of
+/// 11 places. The do of the else part, place 4, overflows at every step; that of the then
+/// part, place 1, from step 2 on. Of the three other narrow jumps the last one takes 8
+/// steps, and a late alarm comes in step 7: with the budget 7 neither is met.
+#[test]
+fn a_part_that_is_not_taken() {
+    let rows = [equal(row::IF, 0, 1), take(1, 2), ELSE, add(3, 4), END, set(5, 9)];
+    let lines = damage::hardened(&functions(&[&rows]));
+    let variables = values(&[(0, 1), (1, 7), (2, 7), (3, 65_535), (4, 1)]);
+    for budget in [8, 30] {
+        assert_eq!(counts(&lines, &variables, budget), [77 - 22, 7, 3, 7 + 5]);
+    }
+    assert_eq!(counts(&lines, &variables, 7), [77 - 23, 7, 2, 7 + 5 + 2]);
+}
+
 /// "A guard is between two places if one of the lines from the lower place to just below
 /// the higher is a guard"
 fn wide(function: &[Line], one: usize, other: usize) -> bool {
@@ -259,13 +300,17 @@ fn agree(bytes: &[u8], variables: &Variables, budget: u16) -> Option<[u32; 4]> {
 
 #[test]
 fn programs_by_hand() {
-    for Program { rows, variables } in sweep_programs::by_hand() {
+    let finishing = overflow_programs::finishing();
+    for Program { rows, variables } in sweep_programs::by_hand().into_iter().chain(finishing) {
         let lines = damage::hardened(&rows);
         for budget in 0..130 {
             agree(&lines, &variables, budget);
         }
     }
-    for Program { rows, variables } in sweep_programs::never_finished() {
+    let overflowing = overflow_programs::overflowing();
+    for Program { rows, variables } in
+        sweep_programs::never_finished().into_iter().chain(overflowing)
+    {
         assert_eq!(agree(&damage::hardened(&rows), &variables, 1000), None);
     }
 }
