@@ -6,7 +6,8 @@ use crate::harden::{LINE_BYTES, RET};
 use crate::programs::{MOST_IN, MOST_OUT};
 use independent::program::Program;
 use independent::random::Random;
-use independent::{damage, faults, limits, make, program, sweep_programs, switch_places};
+use independent::switch_places;
+use independent::{damage, faults, limits, make, overflow_programs, program, sweep_programs};
 
 /// Two implementations and how many answers of theirs were compared.
 pub struct Pair<'a> {
@@ -167,13 +168,38 @@ impl<'a> Pair<'a> {
         Ok(())
     }
 
+    /// The programs by hand that overflow or go up to the edge: every jump of the first steps, with
+    /// budgets that just hold it, one step more and many.
+    pub fn overflows(&mut self) -> Agreed {
+        let programs = [overflow_programs::overflowing(), overflow_programs::finishing()];
+        for Program { rows, variables } in programs.concat() {
+            let lines = damage::hardened(&rows);
+            self.tables += 1;
+            for budget in 0..70 {
+                let start = Start::unstruck(variables, budget);
+                self.source_run(&rows, &start, budget.into())?;
+                self.hardened_run(&lines, &start, budget.into(), COUNTER_WORDS)?;
+            }
+            for step in 0..24 {
+                for place in 0..=(lines.len() / LINE_BYTES) as u16 {
+                    for budget in [step + 1, step + 2, 70] {
+                        let start = Start { variables, budget, step, place };
+                        self.hardened_run(&lines, &start, budget.into(), COUNTER_WORDS)?;
+                    }
+                }
+            }
+        }
+        Ok(())
+    }
+
     /// Programs by hand and so many random ones, each swept with several budgets and buffers.
     pub fn random_sweeps(&mut self, rng: &mut Random, count: usize) -> Agreed {
-        for program in sweep_programs::by_hand() {
+        for program in [sweep_programs::by_hand(), overflow_programs::finishing()].concat() {
             let steps = sweep_programs::finishes_in(&program, 1000);
             self.sweeps_of(rng, &program, steps)?;
         }
-        for program in sweep_programs::never_finished() {
+        for program in [sweep_programs::never_finished(), overflow_programs::overflowing()].concat()
+        {
             self.sweeps_of(rng, &program, None)?;
         }
         for _ in 0..count {
@@ -216,8 +242,9 @@ fn some_length(rng: &mut Random, enough: usize) -> usize {
     }
 }
 
-/// A budget, and most often a jump that strikes: to a place of the first function, its m or one
-/// beyond. Other functions have other m, so places beyond theirs come as well.
+/// A budget, and most often a jump that strikes, sometimes in the last budgeted step: to a place of
+/// the first function, its m or one beyond. Other functions have other m, so places beyond theirs
+/// come as well.
 fn some_start(rng: &mut Random, program: &Program, lines: &[u8]) -> Start {
     let budget = match rng.below(10) {
         0 => rng.below(2),
@@ -229,5 +256,7 @@ fn some_start(rng: &mut Random, program: &Program, lines: &[u8]) -> Start {
     let m = ret.expect("a function has a ret") + 1;
     let step = if rng.percent(25) { NO_JUMP } else { rng.between(0, budget.min(60)) as u16 };
     let place = if rng.percent(20) { rng.between(m, m + 1) } else { rng.between(0, m) } as u16;
-    Start { variables: program.variables, budget: budget as u16, step, place }
+    let just_held = rng.percent(20) && step != NO_JUMP;
+    let budget = if just_held { step + 1 } else { budget as u16 };
+    Start { variables: program.variables, budget, step, place }
 }

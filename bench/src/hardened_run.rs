@@ -4,7 +4,7 @@
 use crate::calls::{Ran, Start, Variables, COUNTER_WORDS, NO_JUMP};
 use crate::harden::{self, LineBytes, LINE_BYTES};
 use crate::read_back;
-use crate::source_run::{FINISHED, MOST_FUNCTIONS_OPEN, SPENT, TOO_MANY_OPEN};
+use crate::source_run::{FINISHED, MOST_FUNCTIONS_OPEN, OVERFLOW, SPENT, TOO_MANY_OPEN};
 use crate::table::Refusal;
 
 pub const ALARM: u8 = 2;
@@ -198,14 +198,7 @@ impl<'a, T: Trace> Memory<'a, T> {
 
     #[inline(always)]
     fn do_line(&mut self, now: &mut Registers, line: &LineBytes) -> Next {
-        let v = &mut self.v;
-        let (p, q) = (variable(line[2]), variable(line[3]));
-        v[p] = match line[1] {
-            0 => word(line, 4),
-            1 => v[q],
-            2 => v[p].wrapping_add(v[q]),
-            _ => v[p].wrapping_sub(v[q]),
-        };
+        self.v[variable(line[2])] = done(line, &self.v).ok_or(OVERFLOW)?;
         self.trace.put(now.traced, e(line));
         now.traced += 1;
         Ok(now.at + 1)
@@ -248,6 +241,18 @@ fn region(byte: u8) -> usize {
 
 fn variable(byte: u8) -> usize {
     usize::from(byte) % 16
+}
+
+/// What the variable of a do gets; nothing where the sum or the difference overflows.
+#[inline(always)]
+pub fn done(line: &LineBytes, v: &Variables) -> Option<u16> {
+    let (p, q) = (v[variable(line[2])], v[variable(line[3])]);
+    match line[1] {
+        0 => Some(word(line, 4)),
+        1 => Some(q),
+        2 => p.checked_add(q),
+        _ => p.checked_sub(q),
+    }
 }
 
 #[inline]

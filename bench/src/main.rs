@@ -71,6 +71,7 @@ fn compare(pair: &mut Pair, brief: bool) -> Agreed {
     }
     pair.random_tables(&mut rng, COMPARED)?;
     pair.random_runs(&mut rng, COMPARED)?;
+    pair.overflows()?;
     pair.random_sweeps(&mut rng, COMPARED)?;
     sweep_times::compare(pair, brief)
 }

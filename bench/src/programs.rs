@@ -156,18 +156,19 @@ pub fn all() -> [Program; 3] {
     ]
 }
 
-/// An endless loop around one of 100 rounds with six dos each.
+/// An endless loop around one of 100 rounds with six dos each: v2 and v6 count the rounds, v1 those
+/// that are left, and v4 goes from v2 by one more to 1.
 fn loops_with_dos() -> Vec<u8> {
     bytes(&[
         plain(FUNCTION),
         row(LOOP, EQUALS, 0, 0, 0),
         row(DO, SET, 1, 0, 100),
         row(LOOP, DIFFERS, 1, 0, 0),
-        add(2, 1),
-        add(3, 2),
-        row(DO, SUBTRACT, 4, 3, 0),
-        row(DO, 1, 5, 4, 0),
-        add(6, 5),
+        add(2, 15),
+        row(DO, 1, 4, 2, 0),
+        add(4, 15),
+        row(DO, SUBTRACT, 4, 2, 0),
+        add(6, 4),
         row(DO, SUBTRACT, 1, 15, 0),
         plain(END),
         plain(END),

@@ -1,12 +1,13 @@
 //! Runs a source table. Each row is first turned into an instruction that knows where it goes, so
 //! that a step is one load and one branch over ten cases.
 
-use crate::calls::{Ran, Start};
+use crate::calls::{Ran, Start, Variables};
 use crate::table::{self, n_of, Refusal, Row, Shape, ROW_BYTES};
 
 pub const SPENT: u8 = 0;
 pub const FINISHED: u8 = 1;
 pub const TOO_MANY_OPEN: u8 = 3;
+pub const OVERFLOW: u8 = 5;
 
 pub const MOST_FUNCTIONS_OPEN: usize = 16;
 
@@ -92,10 +93,33 @@ impl Waiting {
     }
 }
 
+/// The variables and the trace.
+struct State<'a> {
+    v: Variables,
+    trace: &'a mut [u16],
+    traced: usize,
+}
+
+impl State<'_> {
+    #[inline(always)]
+    fn put(&mut self, at: usize, p: usize, value: u16) -> usize {
+        self.v[p] = value;
+        self.trace[self.traced] = at as u16;
+        self.traced += 1;
+        at + 1
+    }
+
+    /// Nothing is put where the sum or the difference overflows.
+    #[inline(always)]
+    fn put_checked(&mut self, at: usize, p: usize, value: Option<u16>) -> Result<usize, u8> {
+        value.map(|value| self.put(at, p, value)).ok_or(OVERFLOW)
+    }
+}
+
 fn steps(program: &[Instruction], start: &Start, trace: &mut [u16]) -> Ran {
-    let mut v = start.variables;
+    let mut now = State { v: start.variables, trace, traced: 0 };
     let mut waiting = Waiting { back: [0; MOST_FUNCTIONS_OPEN], open: 0 };
-    let (mut at, mut steps, mut traced) = (1, 0, 0);
+    let (mut at, mut steps) = (1, 0);
     let mut outcome = SPENT;
     while steps < start.budget {
         steps += 1;
@@ -103,18 +127,16 @@ fn steps(program: &[Instruction], start: &Start, trace: &mut [u16]) -> Ran {
         // a variable's number is below 16: saying so spares the bounds check
         let (p, q, go) = (usize::from(i.p) % 16, usize::from(i.q) % 16, usize::from(i.go));
         let next = match i.code {
-            Code::Equal => Ok(if v[p] == i.n { at + 1 } else { go }),
-            Code::Differs => Ok(if v[p] != i.n { at + 1 } else { go }),
-            Code::Less => Ok(if v[p] < v[q] { at + 1 } else { go }),
+            Code::Set => Ok(now.put(at, p, i.n)),
+            Code::Copy => Ok(now.put(at, p, now.v[q])),
+            Code::Add => now.put_checked(at, p, now.v[p].checked_add(now.v[q])),
+            Code::Subtract => now.put_checked(at, p, now.v[p].checked_sub(now.v[q])),
+            Code::Equal => Ok(if now.v[p] == i.n { at + 1 } else { go }),
+            Code::Differs => Ok(if now.v[p] != i.n { at + 1 } else { go }),
+            Code::Less => Ok(if now.v[p] < now.v[q] { at + 1 } else { go }),
             Code::Go => Ok(go),
             Code::Call => waiting.call(at + 1, go),
             Code::Return => waiting.give_back(),
-            Code::Set | Code::Copy | Code::Add | Code::Subtract => {
-                v[p] = done(i.code, i.n, v[p], v[q]);
-                trace[traced] = at as u16;
-                traced += 1;
-                Ok(at + 1)
-            }
         };
         match next {
             Ok(next) => at = next,
@@ -124,15 +146,6 @@ fn steps(program: &[Instruction], start: &Start, trace: &mut [u16]) -> Ran {
             }
         }
     }
+    let State { v, traced, .. } = now;
     Ran { number: 0, outcome, steps, traced: traced as u16, variables: v }
-}
-
-#[inline(always)]
-fn done(code: Code, n: u16, p: u16, q: u16) -> u16 {
-    match code {
-        Code::Set => n,
-        Code::Copy => q,
-        Code::Add => p.wrapping_add(q),
-        _ => p.wrapping_sub(q),
-    }
 }

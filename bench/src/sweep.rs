@@ -4,7 +4,7 @@
 
 use crate::calls::{Start, COUNTER_WORDS};
 use crate::harden::{self, LineBytes, LINE_BYTES};
-use crate::hardened_run::{Memory, Registers, Trace, ALARM, COUNTERS};
+use crate::hardened_run::{done, Memory, Registers, Trace, ALARM, COUNTERS};
 use crate::read_back;
 use crate::source_run::{FINISHED, MOST_FUNCTIONS_OPEN};
 use crate::table::Refusal;
@@ -175,38 +175,34 @@ impl<'a> Sweep<'a> {
         self.run.until(&mut self.now, steps).is_ok()
     }
 
-    /// The counts with those of each place at this step.
+    /// The counts with those of each place at this step. Place m is always wide: the ret is between.
     fn places(&mut self, mut counts: Counts) -> Counts {
         let at = self.now.at;
-        let (across, narrow) = self.narrow().unwrap_or((at, End::Same));
+        let narrow = self.narrow();
+        let across = narrow.map_or(at, |(across, _)| across);
         let Span { first, last } = self.spans[at];
-        let left = self.budget - self.now.steps;
-        for line in first..last + 1 {
-            if line != at && line != across {
-                counts.add(self.wide(line, last, left));
-            } else if line == at {
-                counts.same += 1;
-            } else {
-                counts.add(narrow);
-            }
+        let (lines, left) = (self.run.lines, self.budget - self.now.steps);
+        let (before, behind) = (&lines[first..at.min(across)], &lines[at.max(across) + 1..last]);
+        let missed_at_m = left == 1 && self.now.open != 0;
+        let missed =
+            self.missed(before, left) + self.missed(behind, left) + usize::from(missed_at_m);
+        counts.same += 1;
+        counts.alarms += (before.len() + behind.len() + 1 - missed) as u32;
+        counts.unfinished += missed as u32;
+        if let Some((_, end)) = narrow {
+            counts.add(end);
         }
         counts
     }
 
-    /// The alarm comes in this step; in the next one before a do, and at place m where another
-    /// function waits.
+    /// How many wide jumps to these lines end without an alarm: those to a do that overflows, and
+    /// those to any do if this step is the budget's last, as the alarm comes in the next one then.
     #[inline(always)]
-    fn wide(&self, line: usize, last: usize, left: u16) -> End {
-        if 1 < left {
-            return End::Alarm;
-        }
-        let late =
-            if line == last { self.now.open != 0 } else { self.run.lines[line][0] == harden::DO };
-        if late {
-            End::Unfinished
-        } else {
-            End::Alarm
-        }
+    fn missed(&self, lines: &[LineBytes], left: u16) -> usize {
+        let missed = |line: &&LineBytes| {
+            line[0] == harden::DO && (left == 1 || done(line, &self.run.v).is_none())
+        };
+        lines.iter().filter(missed).count()
     }
 
     /// The line of the place that a do and no guard parts from where the run stands, and how the

@@ -144,7 +144,7 @@ pub fn rounds(count: u16) -> Program {
 }
 
 /// A loop of so many rounds, 8 hardened steps each and 3 at the end. Its one do is no weak one: if
-/// it is left out or done twice, a round more or less makes up for it, or the loop never ends.
+/// it is left out or done twice, a round more or less makes up for it, or it overflows.
 /// Behind it stand so many dos that are never reached: 12 places and 2 for each of them.
 pub fn counting(rounds: u16, unreached: usize) -> Program {
     let mut rows = vec![plain(FUNCTION)];

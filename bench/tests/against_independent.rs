@@ -104,6 +104,14 @@ fn random_runs() {
     println!("{} programs, {} calls", pair.tables, pair.calls);
 }
 
+/// Runs that overflow, and that go up to the edge.
+#[test]
+fn overflows() {
+    let mut pair = Pair::new(&Baseline, &Independent);
+    pair.overflows().unwrap();
+    println!("{} programs, {} calls", pair.tables, pair.calls);
+}
+
 /// Every step and every place of small programs.
 #[test]
 fn every_jump() {
