@@ -80,4 +80,4 @@ module _ (ls : List Line) (m : Machine) (ws : List ℕ) (st : Standing ls m ws) 
   line-there so = (omega (arith, b .before-end, so .finish-in (m .registers .function) known), omega (arith, b .before-end, so .finish-in (m .registers .function) known, so .within .few-lines))
 
   pub inside-across : (y : ℕ) → y ≡ across ls (m .registers .at) → Inside ls (m .registers .function) y
-  inside-across y e = record { known = known; not-before = omega (arith, b .across-from); not-after = omega (arith, b .across-to) }
+  inside-across y e = record { known = known; not-before = omega (arith, b .across-from); not-after = omega (arith, b .across-before) }

@@ -51,15 +51,15 @@ module _ (ls : List Line) (held : List ℕ) (m : Map) (p : Parts) (s : Hardened)
         vars = set (s .vars) (l .operands .p) x;
         trace = s .trace ++ (l .e ∷ []);
       })
-  turned Overflows = ends (Overflow (l .e)) s
+  turned (Overflows x y) = ends (Overflow (l .e)) s
 
   turned-is : (c : Computed) → computed (l .operands) (s .vars) ≡ c → lineStep ls (p .registers .at) (asLine Do l) s ≡ turned c
   unfolding turnBy
   turned-is (Fits x) e = rw e
-  turned-is Overflows e = rw e
+  turned-is (Overflows x y) e = rw e
 
   agrees : (c : Computed) → p .registers .traced < length held → bounds.Fits ls (s .running .function) (p .registers .at) (asLine Do l) → Agrees ls held (p .registers .traced) (coded c) (turned c)
-  agrees Overflows room f =
+  agrees (Overflows x y) room f =
       record {
         is = refl;
         is-end = overflow-ends (l .e);

@@ -1,4 +1,4 @@
--- One more in a count, and all places counted. Assumes nothing.
+-- One more in a count, and what the loop over some lines keeps. Assumes nothing.
 use mathlib.Core.Path.{_≡_, ap, _∙_}
 use Prim.Native.Nat.{ℕ, suc, _+_, _-_, _≤_}
 use native.Mathlib.Nat.{add-zero}
@@ -36,7 +36,7 @@ counted-start begun f first =
       sum-is = omega arith;
     }
 
-one-more : (c : Counts) (e : Ending) → total (plus c (one e)) ≡ suc (total c)
+pub one-more : (c : Counts) (e : Ending) → total (plus c (one e)) ≡ suc (total c)
 one-more c Alarmed = omega arith
 one-more c Same = omega arith
 one-more c Other = omega arith

@@ -1,6 +1,6 @@
 -- What a jump to a line of the running function ends with, told from the line, where the run stands, the variables and the steps that are
 -- left.
-use Prim.Native.Nat.{ℕ, zero, suc, _+_, _*_, _-_, _≤_}
+use Prim.Native.Nat.{ℕ, zero, suc, _+_, _*_, _-_, _≤_, _<_}
 use mathlib.Core.Path.{_≡_}
 use mathlib.Core.Bool.{cond}
 use mathlib.Core.List.{List}
@@ -53,8 +53,12 @@ wideKind Ret o vs left = Alarmed
 abbrev pub wideLast : (depth left : ℕ) → Ending
 wideLast d left = cond (ltb 0 d) (late left) Alarmed
 
+-- a line, and place m too
+abbrev pub wideAt : (lines vars : List ℕ) → (left line : ℕ) → Ending
+wideAt bs vs left y = wideKind (lineKindAt bs y) (structAt bs y .operands) vs left
+
 abbrev pub wideOf : (lines : List ℕ) → (line last depth : ℕ) → (vars : List ℕ) → (left : ℕ) → Ending
-wideOf bs y last d vs left = cond (eqb y last) (wideLast d left) (wideKind (lineKindAt bs y) (structAt bs y .operands) vs left)
+wideOf bs y last d vs left = cond (eqb y last) (wideLast d left) (wideAt bs vs left y)
 
 -- the dos of the table name variables that there are
 pub record DosIn (lines : List ℕ) : Type 0 where
@@ -64,6 +68,21 @@ pub record DosIn (lines : List ℕ) : Type 0 where
 abbrev pub endingAt : (lines : List ℕ) → (last at across depth : ℕ) → (vars : List ℕ) → (narrow : Ending) → (left line : ℕ) → Ending
 endingAt bs last at across d vs narrow left y = cond (eqb y at) Same (cond (eqb y across) narrow (wideOf bs y last d vs left))
 
+-- where the run stands and the place across a do, or the same place again: neighbours, before lines of the function
+pub record Beside (first last at across : ℕ) : Type 0 where
+  pub at-from : first ≤ at
+  pub at-before : at < last
+  pub across-from : first ≤ across
+  pub across-before : across < last
+  pub up : across ≤ at + 1
+  pub down : at ≤ across + 1
+
+abbrev pub lowerOf : (a b : ℕ) → ℕ
+lowerOf a b = cond (ltb a b) a b
+
+abbrev pub higherOf : (a b : ℕ) → ℕ
+higherOf a b = cond (ltb a b) b a
+
 -- the most that 32 bits hold
 abbrev pub maxCount : ℕ
 maxCount = 4294967295
@@ -72,3 +91,7 @@ maxCount = 4294967295
 unfoldable pub countedTo : Counts → (n : ℕ) → (ℕ → Ending) → Counts
 countedTo c zero f = c
 countedTo c (suc n) f = plus (countedTo c n f) (one (f n))
+
+-- the counts with those of the two
+abbrev pub unguardedOf : (at across : ℕ) → (narrow : Ending) → Counts → Counts
+unguardedOf at across narrow c = cond (eqb at across) (plus c (one Same)) (plus (plus c (one Same)) (one narrow))

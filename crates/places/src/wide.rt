@@ -4,8 +4,8 @@ ghost use Prim.Native.Nat.{_+_, _*_, _≤_};
 ghost use lib.ListN.{length};
 ghost use Rattle.rules.specs.Bounds.{VariablesIn};
 ghost use Rattle.rules.specs.Line.{lineWidth};
-ghost use Rattle.line.specs.Read.{structAt, lineKindAt};
-ghost use Rattle.places.specs.Places.{late, wideDo, wideKind, wideLast, wideOf, DosIn};
+ghost use Rattle.line.specs.Read.{structAt};
+ghost use Rattle.places.specs.Places.{late, wideDo, wideAt, wideLast, DosIn};
 use line::kind::LineKind;
 use line::read;
 use rules::computed::Computed;
@@ -32,14 +32,14 @@ fn before_do(lines: &[u8], line: u16, variables: &[u16; VARIABLES], left: u16) -
     let c = compute(l.operands, variables);
     match c {
         Computed::Fits(_) => alarm_late(left),
-        Computed::Overflows => Ending::Unfinished,
+        Computed::Overflows(_, _) => Ending::Unfinished,
     }
 }
 
-// Before a guard the alarm comes at once.
-fn before_line(lines: &[u8], line: u16, variables: &[u16; VARIABLES], left: u16) -> Ending
+// How a wide jump to this line ends with so many steps left, of which the step struck is the first. Before a guard the alarm comes at once.
+pub fn before_line(lines: &[u8], line: u16, variables: &[u16; VARIABLES], left: u16) -> Ending
     requires { ⌜ (lineWidth * line + lineWidth ≤ length (now lines)) × (DosIn (now lines)) ⌝ }
-    ensures { λ r. ⌜ r ≡ wideKind (lineKindAt (now (lines .entry)) line) (structAt (now (lines .entry)) line .operands) (now (variables .entry)) left ⌝ }
+    ensures { λ r. ⌜ r ≡ wideAt (now (lines .entry)) (now (variables .entry)) left line ⌝ }
 {
     let kind = read::kind_at(lines, line);
     match kind {
@@ -55,29 +55,11 @@ fn before_line(lines: &[u8], line: u16, variables: &[u16; VARIABLES], left: u16)
 }
 
 // At place m the alarm is late where a function waits: else the host finds it at once.
-fn at_last(depth: u16, left: u16) -> Ending
+pub fn at_last(depth: u16, left: u16) -> Ending
     ensures { λ r. ⌜ r ≡ wideLast depth left ⌝ }
 {
     if 0 < depth {
         return alarm_late(left);
     }
     Ending::Alarmed
-}
-
-// How a wide jump to this line ends with so many steps left, of which the step struck is the first.
-pub fn ending(
-    lines: &[u8],
-    line: u16,
-    last: u16,
-    depth: u16,
-    variables: &[u16; VARIABLES],
-    left: u16,
-) -> Ending
-    requires { ⌜ (line ≤ last) × (lineWidth * last ≤ length (now lines)) × (DosIn (now lines)) ⌝ }
-    ensures { λ r. ⌜ r ≡ wideOf (now (lines .entry)) line last depth (now (variables .entry)) left ⌝ }
-{
-    if line == last {
-        return at_last(depth, left);
-    }
-    before_line(lines, line, variables, left)
 }

@@ -15,13 +15,13 @@ use Rattle.rules.specs.Row.{Table, kindAt}
 use Rattle.rules.specs.Scan.{Part, body, thenPart, elsePart, loopBody, Open, openAt, partOf, hasElse, functionCount}
 use Rattle.rules.specs.Line.{Line, doLine, tickLine, testLine, leaveLine, outLine, callLine, backLine, retLine, lineAt, isGuard}
 use Rattle.rules.specs.Function.{startOf, finishOf}
-use Rattle.rules.specs.Harden.{lineOf, testOf, endLine, rowLines, linesOf, harden}
+use Rattle.rules.specs.Harden.{lineCount, lineOf, testOf, endLine, rowLines, linesOf, harden}
 use Rattle.rules.specs.Match.{guardBetween}
 use Rattle.rules.specs.Settled.{acrossBy, across, StandsBefore}
 use Rattle.rules.proofs.Logic.{clash, Order, less, same, more, order}
 use Rattle.rules.proofs.Accepted.{Proper}
 use Rattle.rules.proofs.Harden.{line-at}
-use Rattle.rules.proofs.Place.{Spot, locate, lines-all, LineOf, line-of}
+use Rattle.rules.proofs.Place.{Spot, locate, lines-all, LineOf, line-of, before-finish}
 use Rattle.rules.proofs.FunctionLine.{first-in}
 use Rattle.rules.proofs.Between.{up, down, wide}
 
@@ -231,6 +231,18 @@ stands-before t ok n x kn a b = by (lineAt (harden t) x) refl
     here : LineOf t n x
     here = line-of t ok n x kn a b
 
+    -- so is the do's tick
+    before-do : isGuard (lineAt (harden t) x) ≡ false → suc x < finishOf (harden t) n
+    before-do q = pick (sort t (here .row) (openAt t (here .row)) (kindAt t (here .row)) (here .ph))
+      where
+        unguarded : isGuard (lineAt (linesOf t (here .row)) (here .ph)) ≡ false
+        unguarded = ap isGuard (sym (ap (lineAt (harden t)) (here .is) ∙ line-at t (here .row) (here .ph) (here .in-function .within) (here .ph-lt))) ∙ q
+
+        pick : Sort (kindAt t (here .row)) (here .ph) (lineAt (linesOf t (here .row)) (here .ph)) → suc x < finishOf (harden t) n
+        pick (a-do e z u) = omega (arith, here .is, z, before-finish t ok (here .in-function), ap lineCount e)
+        pick (a-tick e z g) = clash g unguarded
+        pick (neither g u) = clash g unguarded
+
     -- the tick's do is in the same row
     after-tick : isTick (lineAt (harden t) x) ≡ true → here .ph ≡ 1
     after-tick q = pick (sort t (here .row) (openAt t (here .row)) (kindAt t (here .row)) (here .ph))
@@ -243,11 +255,11 @@ stands-before t ok n x kn a b = by (lineAt (harden t) x) refl
         pick (a-tick e z g) = z
         pick (neither g n) = clash tick n
 
-    stands : (y : ℕ) → across (harden t) x ≡ y → startOf (harden t) n ≤ y → y ≤ finishOf (harden t) n → StandsBefore (harden t) n x
-    stands y e l h = record { not-before = a; before-end = b; across-from = omega arith; across-to = omega arith }
+    stands : (y : ℕ) → across (harden t) x ≡ y → startOf (harden t) n ≤ y → y < finishOf (harden t) n → StandsBefore (harden t) n x
+    stands y e l h = record { not-before = a; before-end = b; across-from = omega arith; across-before = omega arith }
 
     by : (l : Line) → lineAt (harden t) x ≡ l → StandsBefore (harden t) n x
-    by (doLine o e) q = stands (suc x) (ap (λ l. acrossBy l x) q) (omega arith) (omega arith)
+    by (doLine o e) q = stands (suc x) (ap (λ l. acrossBy l x) q) (omega arith) (before-do (ap isGuard q))
     by (tickLine r e u) q =
         stands (x - 1) (ap (λ l. acrossBy l x) q) (omega (arith, here .is, after-tick (ap isTick q), first-in t ok (here .in-function) .not-before)) (omega arith)
     by (testLine o r s v e u w z go) q = stands x (ap (λ l. acrossBy l x) q) a (omega arith)

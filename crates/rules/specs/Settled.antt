@@ -57,12 +57,12 @@ settledEnding F ls trace b k s p =
     cond (eqb y (s .running .at)) Same
     (cond (eqb y (across ls (s .running .at))) (narrowEnding F ls trace b k s) (wideEnding ls b k p s))
 
--- Where the run stands before step k: before a line of the function that runs; and the place across a do is one of that function's.
+-- Where the run stands before step k: before a line of the function that runs; and so is the place across a do.
 pub record StandsBefore (ls : List Line) (f k : ℕ) : Type 0 where
   pub not-before : startOf ls f ≤ k
   pub before-end : k < finishOf ls f
   pub across-from : startOf ls f ≤ across ls k
-  pub across-to : across ls k ≤ finishOf ls f
+  pub across-before : across ls k < finishOf ls f
 
 -- it finishes with another trace
 abbrev pub isOther : Ending → Bool

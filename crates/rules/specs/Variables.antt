@@ -10,10 +10,10 @@ use Rattle.rules.specs.declared.operands.Operands.{Operands}
 
 -- 02, No. 5: "A do whose sum passes 65,535 or whose difference falls below 0"
 abbrev pub sum : ℕ → ℕ → Computed
-sum x y = cond (leb (x + y) 65535) (Fits (x + y)) Overflows
+sum x y = cond (leb (x + y) 65535) (Fits (x + y)) (Overflows x y)
 
 abbrev pub difference : ℕ → ℕ → Computed
-difference x y = cond (leb y x) (Fits (x - y)) Overflows
+difference x y = cond (leb y x) (Fits (x - y)) (Overflows x y)
 
 -- the value of variable p
 abbrev pub variable : List ℕ → (p : ℕ) → ℕ
@@ -29,7 +29,7 @@ computed o vs =
 
 abbrev pub isOverflow : Computed → Bool
 isOverflow (Fits x) = false
-isOverflow Overflows = true
+isOverflow (Overflows x y) = true
 
 abbrev pub overflows : Operands → List ℕ → Bool
 overflows o vs = isOverflow (computed o vs)
@@ -37,7 +37,7 @@ overflows o vs = isOverflow (computed o vs)
 -- the variables after the do; one that overflows changes none
 abbrev pub assigned : Computed → (p : ℕ) → List ℕ → List ℕ
 assigned (Fits x) p vs = set vs p x
-assigned Overflows p vs = vs
+assigned (Overflows x y) p vs = vs
 
 abbrev pub doneOn : Operands → List ℕ → List ℕ
 doneOn o vs = assigned (computed o vs) (o .p) vs

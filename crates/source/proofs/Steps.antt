@@ -148,15 +148,15 @@ module _ (bs : List ℕ) (a : verdictOf bs ≡ Accepted) (p : Parts) (v : own.Fi
 
   abbrev turned : Computed → Turn (Unit {0})
   turned (Fits x) = done x (suc i) (take (p .registers .traced) (p .slots) ++ (i ∷ []))
-  turned Overflows = ends (Overflow i) (stateOf p)
+  turned (Overflows x y) = ends (Overflow i) (stateOf p)
 
   turned-is : (c : Computed) → computed (operandsAt t i) (p .vars) ≡ c → rowStep t i (openAt t i) Do (stateOf p) ≡ turned c
   unfolding rowStep
   turned-is (Fits x) e = rw e
-  turned-is Overflows e = rw e
+  turned-is (Overflows x y) e = rw e
 
   does-by : p .registers .traced < length (p .slots) → kindAt t i ≡ Do → (c : Computed) → Steps bs p (coded c) (turned c)
-  does-by h e Overflows = stops (Overflow i) (overflow-ends i) refl
+  does-by h e (Overflows x y) = stops (Overflow i) (overflow-ends i) refl
   does-by h e (Fits x) =
       record {
         turn = ap (λ j. done x j (take (p .registers .traced + 1) (set (p .slots) (p .registers .traced) i))) (add-one i)

@@ -17,9 +17,9 @@ use Rattle.state.specs.declared.machine.Moved.{Moved}
 use Rattle.state.specs.Machine.{tracedOf, moved, done, didBy, didOf}
 
 -- the arm of a `let .. else` that is not the first variant's
-not-fits : (c : Computed) → OneOf (1 ∷ []) (tagOf the-type c) → c ≡ Overflows
-not-fits (Fits x) k = absurd (let z : ⊥ = omega arith in z)
-not-fits Overflows k = refl
+not-fits : (c : Computed) → OneOf (1 ∷ []) (tagOf the-type c) → (p row : ℕ) (h : Registers) (vs tr : List ℕ) → didBy c p row h vs tr ≡ done (moved (Overflow row) h) vs tr
+not-fits (Fits x) k p row h vs tr = absurd (let z : ⊥ = omega arith in z)
+not-fits (Overflows x y) k p row h vs tr = refl
 
 module _ (o : Operands) (row : ℕ) (h : Registers) (vs tr : List ℕ) {c : Computed} (q : c ≡ computed o vs) where
   did-is : didOf o row h vs tr ≡ didBy c (o .p) row h vs tr
@@ -30,4 +30,4 @@ module _ (o : Operands) (row : ℕ) (h : Registers) (vs tr : List ℕ) {c : Comp
   did-fits {r} {x} e m = ap (λ y. done y (set vs (o .p) x) (set tr (h .traced) row)) m ∙ sym (did-is ∙ ap (λ y. didBy y (o .p) row h vs tr) e)
 
   pub did-overflows : {r : Moved} → OneOf (1 ∷ []) (tagOf the-type c) → r ≡ moved (Overflow row) h → done r vs tr ≡ didOf o row h vs tr
-  did-overflows k m = ap (λ y. done y vs tr) m ∙ sym (did-is ∙ ap (λ y. didBy y (o .p) row h vs tr) (not-fits c k))
+  did-overflows k m = ap (λ y. done y vs tr) m ∙ sym (did-is ∙ not-fits c k (o .p) row h vs tr)

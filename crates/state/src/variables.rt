@@ -12,7 +12,7 @@ fn sum_of(x: u16, y: u16) -> Computed
     if x <= 65535 - y {
         return Computed::Fits(x + y);
     }
-    Computed::Overflows
+    Computed::Overflows(x, y)
 }
 
 fn difference_of(x: u16, y: u16) -> Computed
@@ -21,7 +21,7 @@ fn difference_of(x: u16, y: u16) -> Computed
     if y <= x {
         return Computed::Fits(x - y);
     }
-    Computed::Overflows
+    Computed::Overflows(x, y)
 }
 
 // What a do gives its variable. All arithmetic on variables is here, for either run.

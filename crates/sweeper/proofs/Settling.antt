@@ -14,7 +14,7 @@ use Rattle.rules.specs.declared.ending.Ending.{Ending}
 use Rattle.rules.specs.declared.ending.Ending.the-variants.{Alarmed, Same, Unfinished}
 use Rattle.rules.specs.declared.ending.Counts.{Counts}
 use Rattle.rules.specs.Limits.{noStep}
-use Rattle.rules.specs.Line.{Line, lineAt, isGuard, linesIn}
+use Rattle.rules.specs.Line.{Line, doLine, tickLine, testLine, leaveLine, outLine, callLine, backLine, retLine, lineAt, isGuard, linesIn}
 use Rattle.rules.specs.Function.{functionAt, startOf, finishOf, lastPlace}
 use Rattle.rules.specs.State.{depth}
 use Rattle.rules.specs.Run.{outcomeOf}
@@ -25,7 +25,7 @@ use Rattle.rules.specs.Demands.{alarmStep, overflowsBy, overflowsAt}
 use Rattle.rules.specs.Bounds.{VariablesIn, Fits, Within}
 use Rattle.rules.specs.RunPromise.{stateAt}
 use Rattle.rules.specs.Sweep.{counts, one, plus, sumCounts, unstruckRun, placesAt, struckEnding, sweepStep}
-use Rattle.rules.specs.Settled.{across, narrowEnding, wideEnding, settledEnding, SweepLaw}
+use Rattle.rules.specs.Settled.{acrossBy, across, StandsBefore, narrowEnding, wideEnding, settledEnding, SweepLaw}
 use Rattle.rules.proofs.SweepSums.{sum-counts-same}
 use Rattle.rules.proofs.Form.Sweep.{caught-outcome}
 use Rattle.line.specs.declared.Line as Declared
@@ -37,7 +37,7 @@ use Rattle.state.specs.declared.machine.Machine.{Machine}
 use Rattle.machine.specs.Step.{Map}
 use Rattle.machine.specs.Stands.{Ready}
 use Rattle.machine.proofs.Agree.{waiting-length}
-use Rattle.places.specs.Places.{DosIn, late, wideKind, wideLast, wideOf, endingAt, countedTo}
+use Rattle.places.specs.Places.{DosIn, Beside, late, wideKind, wideLast, wideOf, endingAt, countedTo}
 use Rattle.compare.specs.Compared.{Stood}
 use Rattle.sweeper.specs.Steps.{firstOf, lastOf, placesOf}
 
@@ -65,6 +65,36 @@ dos-in bs w = record { each = λ k h e. each k (omega (arith, h, length-lines bs
     each k l e =
         let f = functionAt (linesIn bs) k in
         (subst (λ x. Fits (linesIn bs) f k (asLine x (structAt bs k))) e (subst (Fits (linesIn bs) f k) (line-is bs k l) (w .each-fits k l))) .0
+
+-- ---- the place across a do is a neighbour
+module _ (ls : List Line) (k : ℕ) where
+  across-up : across ls k ≤ k + 1
+  unfolding across
+  across-up = by (lineAt ls k)
+    where
+      by : (l : Line) → acrossBy l k ≤ k + 1
+      by (doLine o e) = omega arith
+      by (tickLine r e a) = omega arith
+      by (testLine o r s t e a b c go) = omega arith
+      by (leaveLine r s e a b go) = omega arith
+      by (outLine r s t e a go) = omega arith
+      by (callLine r e a b go) = omega arith
+      by (backLine r e a b) = omega arith
+      by (retLine e a) = omega arith
+
+  across-down : k ≤ across ls k + 1
+  unfolding across
+  across-down = by (lineAt ls k)
+    where
+      by : (l : Line) → k ≤ acrossBy l k + 1
+      by (doLine o e) = omega arith
+      by (tickLine r e a) = omega arith
+      by (testLine o r s t e a b c go) = omega arith
+      by (leaveLine r s e a b go) = omega arith
+      by (outLine r s t e a go) = omega arith
+      by (callLine r e a b go) = omega arith
+      by (backLine r e a b) = omega arith
+      by (retLine e a) = omega arith
 
 -- ---- what a wide jump comes to with the budget b, where it ends with 5 or an alarm in step n
 abbrev told : (overflow : Bool) → (n b : ℕ) → Ending
@@ -120,6 +150,20 @@ module _ (bs : List ℕ) (mp : Map) (rd : Ready bs mp) (k : ℕ) (s : Hardened) 
 
   ordered : startOf ls f ≤ finishOf ls f
   ordered = rd .sound .ordered f known
+
+  -- where the run stands and the place across a do, as numbers of the code
+  pub beside-is : StandsBefore ls (m .registers .function) (m .registers .at) → (x : ℕ) → x ≡ across ls (m .registers .at) → Beside first last (m .registers .at) x
+  beside-is sb x e =
+      let q = st .stands [] .function-is in
+      rw e
+      (record {
+        at-from = omega (arith, first-is, ap (startOf ls) q, sb .not-before);
+        at-before = omega (arith, last-is, ap (finishOf ls) q, sb .before-end);
+        across-from = omega (arith, first-is, ap (startOf ls) q, sb .across-from);
+        across-before = omega (arith, last-is, ap (finishOf ls) q, sb .across-before);
+        up = across-up ls (m .registers .at);
+        down = across-down ls (m .registers .at);
+      })
 
   depth-is : depth s ≡ suc (m .registers .depth)
   depth-is = ap suc (waiting-length ls _ _ _ _ _ (st .stands [] .waiting))

@@ -30,7 +30,7 @@ use Rattle.compare.specs.declared.narrow.Narrow.{Narrow}
 use Rattle.compare.specs.Compared.{pieceSteps, Standing}
 use Rattle.compare.specs.Narrow.{NarrowIs}
 use Rattle.sweeper.specs.Steps.{Finishes, InTable, placesOf}
-use Rattle.sweeper.proofs.Settling.{dos-in, first-is, last-is, step-is}
+use Rattle.sweeper.proofs.Settling.{dos-in, first-is, last-is, beside-is, step-is}
 use Rattle.sweeper.proofs.Walking as Walking
 use Rattle.sweeper.proofs.Walking.{form, unstruck, stateOf, Walking, walk-starts, from-there}
 
@@ -94,8 +94,8 @@ module _ {bs : List ℕ} {mp : Map} {b : ℕ} {tr vs : List ℕ} {k left : ℕ} 
 
   -- ---- the counts
   module _ (c : Counts) (ce : c ≡ sumCounts k (sweepStep (form bs) (linesIn bs) vs b)) where
-    pub in-table : InTable bs (mp .starts) (m .registers) c
-    in-table =
+    pub in-table : (r : Narrow) → NarrowIs (linesIn bs) m ws (take (length tr - at) (drop at tr)) left r → InTable bs (mp .starts) (m .registers) (r .line) c
+    in-table r n =
         let st = w .walking .stood in
         let s = stateOf bs vs k in
         let so = w .ready .sound in
@@ -105,7 +105,7 @@ module _ {bs : List ℕ} {mp : Map} {b : ℕ} {tr vs : List ℕ} {k left : ℕ} 
         let end = so .finish-in (s .running .function) kn in
         record {
           known = omega (arith, st .stands [] .function-is, kn, so .within .few-functions);
-          in-order = omega (arith, fi, la, so .ordered (s .running .function) kn);
+          beside = beside-is bs mp (w .ready) k s m ws st stands-before (r .line) (n .line-is);
           few = omega (arith, la, end, so .within .few-lines);
           in-lines = omega (arith, la, end, length-lines bs);
           dos-in = dos-in bs (so .within);

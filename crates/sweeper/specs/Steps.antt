@@ -12,7 +12,7 @@ use Rattle.rules.specs.Hardened.{counterForm}
 use Rattle.rules.specs.Sweep.{total, unstruckRun}
 use Rattle.state.specs.declared.machine.Machine.{Machine}
 use Rattle.state.specs.declared.machine.Registers.{Registers}
-use Rattle.places.specs.Places.{DosIn, endingAt, maxCount, countedTo}
+use Rattle.places.specs.Places.{DosIn, Beside, endingAt, maxCount, countedTo}
 
 -- the unstruck run finishes in the budget, with this trace
 pub record Finishes (ls : List Line) (vars : List ℕ) (budget : ℕ) (trace : List ℕ) : Type 0 where
@@ -26,10 +26,10 @@ firstOf ss h = getD ss (h .function) 0
 abbrev pub lastOf : (starts : List ℕ) → Registers → ℕ
 lastOf ss h = getD ss (h .function + 1) 0
 
--- its lines are in the table, and the counts have room for its places
-pub record InTable (lines starts : List ℕ) (h : Registers) (c : Counts) : Type 0 where
+-- its lines are in the table, the run stands before one of them, and the counts have room for its places
+pub record InTable (lines starts : List ℕ) (h : Registers) (across : ℕ) (c : Counts) : Type 0 where
   pub known : h .function < maxFunctions
-  pub in-order : firstOf starts h ≤ lastOf starts h
+  pub beside : Beside (firstOf starts h) (lastOf starts h) (h .at) across
   pub few : lastOf starts h < 65535
   pub in-lines : lineWidth * lastOf starts h ≤ length lines
   pub dos-in : DosIn lines

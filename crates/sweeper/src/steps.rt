@@ -38,7 +38,7 @@ fn strike_all(
     left: u16,
     begun: Counts,
 ) -> Counts
-    requires { ⌜ InTable (now lines) (now starts) (m .registers) begun ⌝ }
+    requires { ⌜ InTable (now lines) (now starts) (m .registers) across begun ⌝ }
     ensures { λ r. ⌜ r ≡ placesOf (now (lines .entry)) (now (starts .entry)) m across narrow left begun ⌝ }
 {
     let h = m.registers;

@@ -83,7 +83,7 @@ module _ {H : Type 0} (F : Form H) (ls : List Line) (tr : List ℕ) (b k : ℕ) 
       let a = startOf ls (s .running .function) in
       let y = across ls (s .running .at) in
       let from = w .across-from in
-      let to = w .across-to in
+      let to = w .across-before in
       let q : a + (y - a) ≡ y = omega (arith, from) in
       any-only (suc (lastPlace ls (s .running .function))) (y - a) (λ p. isOther (settledEnding F ls tr b k s p)) (omega (arith, from, to))
       (λ p l n. not-across p (λ x. n (omega (arith, x))))

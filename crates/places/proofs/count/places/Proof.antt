@@ -1,62 +1,75 @@
 -- `places::count::places` meets its contract. Assumes nothing.
-use mathlib.Core.Path.{_≡_, ap, _∙_}
-use Prim.Native.Nat.{_+_, _-_, _≤_}
 use native.Mathlib.Omega.{arith}
 use denote.Ref.{now}
-use Rattle.places.specs.Places.{endingAt, countedTo}
-use Rattle.places.proofs.Counting.{Counted, counted-start, counted-next}
+use Rattle.places.proofs.Ranges.{span-of, range-total, unguarded-total, all-places}
+use borrow.Author.Needs.{needs}
 use Rattle.places.proofs.count.places.Statement.{statement}
 use Rattle.places.proofs.count.places.Tie as tie
 use Rattle.places.proofs.count.places.Reads as reads
 use Rattle.places.proofs.count.places.Lts as lts
 use Rattle.places.proofs.count.add.Reads as add-reads
-use Rattle.places.proofs.count.ending_at.Reads as ending-at-reads
+use Rattle.places.proofs.count.higher.Reads as higher-reads
+use Rattle.places.proofs.count.lower.Reads as lower-reads
+use Rattle.places.proofs.count.unguarded.Reads as unguarded-reads
+use Rattle.places.proofs.count.wides.Reads as wides-reads
+use Rattle.places.proofs.wide.at_last.Reads as at-last-reads
 
-abbrev Inv-loop : tie.InvT-loop
-Inv-loop lines first last at across depth variables narrow left c₀ line₀ c line =
-    Counted c₀ (λ p. endingAt lines last at across depth variables narrow left (first + p)) first line c × (line ≤ last + 1)
+-- src/count.rt:126:9
+lower-requires : tie.Need-lower-requires
+lower-requires c κs = search needs
 
-abbrev μ-loop : tie.MeasureT-loop
-μ-loop lines first last at across depth variables narrow left c₀ line₀ c line = last + 1 - line
+-- src/count.rt:127:9
+higher-requires : tie.Need-higher-requires
+higher-requires c κs = search needs
 
--- src/count.rt:98:5
-loop-holds : tie.Need-loop-holds Inv-loop μ-loop
-loop-holds c = (counted-start _ _ _, omega (arith, c .before .pre .0))
+-- src/count.rt:128:9
+wides-requires : tie.Need-wides-requires
+wides-requires c κs =
+    let s = span-of (c .before .before .before .pre .0) (c .before .lower .ensures) (c .higher .ensures) in
+    (s .from, omega (arith, s .low-at, c .before .before .before .pre .0 .at-before, c .before .before .before .pre .2), c .before .before .before .pre .3, omega (arith, s .low-at, c .before .before .before .pre .0 .at-before, c .before .before .before .pre .4))
 
--- src/count.rt:99:20
-ending-at-requires : tie.Need-ending-at-requires Inv-loop μ-loop
-ending-at-requires c κs = (omega (arith, c .loop-test .taken), c .before .before .before .pre .2, c .before .before .before .pre .3)
+-- src/count.rt:129:9
+unguarded-requires : tie.Need-unguarded-requires
+unguarded-requires c κs =
+    let s = span-of (c .before .before .before .before .pre .0) (c .before .before .lower .ensures) (c .before .higher .ensures) in
+    omega (arith, range-total _ _ _ (c .wides .ensures), s .from, s .low-at, c .before .before .before .before .pre .0 .at-before, c .before .before .before .before .pre .4)
 
--- src/count.rt:99:9
-add-requires : tie.Need-add-requires Inv-loop μ-loop
-add-requires c κs = omega (arith, c .before .before .loop .inv .0 .sum-is, c .before .before .loop .inv .0 .from, c .before .loop-test .taken, c .before .before .before .before .pre .4)
+-- src/count.rt:130:31
+add-wides : tie.Need-add-wides
+add-wides c =
+    let s = span-of (c .before .before .before .before .before .pre .0) (c .before .before .before .lower .ensures) (c .before .before .higher .ensures) in
+    omega (arith, s .before, c .before .before .before .before .before .pre .1)
 
--- src/count.rt:100:9
-add-line : tie.Need-add-line Inv-loop μ-loop
-add-line c = omega (arith, c .before .before .loop-test .taken, c .before .before .before .before .before .pre .1)
+-- src/count.rt:130:9
+wides-requires-2 : tie.Need-wides-requires-2
+wides-requires-2 c κs =
+    let s = span-of (c .before .before .before .before .before .pre .0) (c .before .before .before .lower .ensures) (c .before .before .higher .ensures) in
+    (omega (arith, s .before), c .before .before .before .before .before .pre .2, c .before .before .before .before .before .pre .3, omega (arith, range-total _ _ _ (c .before .wides .ensures), unguarded-total (c .before .before .before .before .before .args .at) (c .before .before .before .before .before .args .across) (c .before .before .before .before .before .args .narrow) (c .before .wides .result) (c .before .before .before .lower .ensures) (c .before .before .higher .ensures) (c .unguarded .ensures), s .from, s .low-at, s .high-at, s .before, c .before .before .before .before .before .pre .4))
 
--- src/count.rt:98:5
-loop-less : tie.Need-loop-less Inv-loop μ-loop
-loop-less c = omega (arith, c .before .before .loop-test .taken)
+-- src/count.rt:131:17
+at-last-requires : tie.Need-at-last-requires
+at-last-requires c κs = search needs
 
--- src/count.rt:98:5
-loop-again : tie.Need-loop-again Inv-loop μ-loop
-loop-again c = (counted-next _ _ _ _ _ (c .before .before .before .loop .inv .0) _ (c .before .ending-at .ensures ∙ ap (endingAt (now (c .before .before .before .before .before .args .lines)) (c .before .before .before .before .before .args .last) (c .before .before .before .before .before .args .at) (c .before .before .before .before .before .args .across) (c .before .before .before .before .before .args .depth) (now (c .before .before .before .before .before .args .variables)) (c .before .before .before .before .before .args .narrow) (c .before .before .before .before .before .args .left)) (let y : c .before .before .before .loop .line ≡ c .before .before .before .before .before .args .first + (c .before .before .before .loop .line - c .before .before .before .before .before .args .first) = omega (arith, c .before .before .before .loop .inv .0 .from) in y)) _ (c .add .ensures), omega (arith, c .before .before .loop-test .taken))
+-- src/count.rt:131:5
+add-requires : tie.Need-add-requires
+add-requires c κs =
+    let s = span-of (c .before .before .before .before .before .before .before .pre .0) (c .before .before .before .before .before .lower .ensures) (c .before .before .before .before .higher .ensures) in
+    omega (arith, range-total _ _ _ (c .before .before .before .wides .ensures), unguarded-total (c .before .before .before .before .before .before .before .args .at) (c .before .before .before .before .before .before .before .args .across) (c .before .before .before .before .before .before .before .args .narrow) (c .before .before .before .wides .result) (c .before .before .before .before .before .lower .ensures) (c .before .before .before .before .higher .ensures) (c .before .before .unguarded .ensures), range-total _ _ _ (c .before .wides2 .ensures), s .from, s .low-at, s .high-at, s .before, c .before .before .before .before .before .before .before .pre .4)
 
--- src/count.rt:82:1
-returns : tie.Need-returns Inv-loop μ-loop
-returns c = c .before .loop .inv .0 .is ∙ ap (λ n. countedTo (c .before .before .before .args .begun) n (λ p. endingAt (now (c .before .before .before .args .lines)) (c .before .before .before .args .last) (c .before .before .before .args .at) (c .before .before .before .args .across) (c .before .before .before .args .depth) (now (c .before .before .before .args .variables)) (c .before .before .before .args .narrow) (c .before .before .before .args .left) (c .before .before .before .args .first + p))) (let y : c .before .loop .line - c .before .before .before .args .first ≡ c .before .before .before .args .last - c .before .before .before .args .first + 1 = omega (arith, c .before .loop .inv .1, c .loop-test .left, c .before .before .before .pre .0) in y)
+-- src/count.rt:111:1
+returns : tie.Need-returns
+returns c = all-places (now (c .before .before .before .before .before .before .before .before .args .lines)) (now (c .before .before .before .before .before .before .before .before .args .variables)) (c .before .before .before .before .before .before .before .before .args .first) (c .before .before .before .before .before .before .before .before .args .last) (c .before .before .before .before .before .before .before .before .args .at) (c .before .before .before .before .before .before .before .before .args .across) (c .before .before .before .before .before .before .before .before .args .depth) (c .before .before .before .before .before .before .before .before .args .left) (c .before .before .before .before .before .before .before .before .args .narrow) (c .before .before .before .before .before .before .before .before .pre .0) (c .before .before .before .before .before .before .before .before .args .begun) (c .before .before .before .before .wides .result) (c .before .before .before .unguarded .result) (c .before .before .wides2 .result) (c .before .before .before .before .before .before .lower .ensures) (c .before .before .before .before .before .higher .ensures) (c .before .before .before .before .wides .ensures) (c .before .before .before .unguarded .ensures) (c .before .before .wides2 .ensures) (c .before .at-last .ensures) (c .add .ensures)
 
 pub places-spec : {M : Type 1} → statement M
 places-spec =
     tie.close
     (tie.spec
-    Inv-loop
-    μ-loop
-    loop-holds
-    ending-at-requires
+    lower-requires
+    higher-requires
+    wides-requires
+    unguarded-requires
+    add-wides
+    wides-requires-2
+    at-last-requires
     add-requires
-    add-line
-    loop-less
-    loop-again
     returns)

@@ -69,7 +69,7 @@ across-requires c κs = (c .before .before .before .before .before .before .befo
 
 -- src/steps.rt:86:9
 strike-all-requires : tie.Need-strike-all-requires Inv-loop μ-loop
-strike-all-requires c κs = in-table (c .before .before .before .before .before .before .before .before .before .before .loop .inv .0 .sweeping) _ (c .before .before .before .before .before .before .before .before .before .before .loop .inv .0 .counts-are)
+strike-all-requires c κs = in-table (c .before .before .before .before .before .before .before .before .before .before .loop .inv .0 .sweeping) _ (c .before .before .before .before .before .before .before .before .before .before .loop .inv .0 .counts-are) _ (c .before .before .before .before .across .ensures)
 
 -- src/steps.rt:87:13
 step-requires : tie.Need-step-requires Inv-loop μ-loop
