@@ -87,7 +87,7 @@ fn told(step: Step, same: bool) -> Ending
         Step::Alarm => Ending::Alarmed,
         Step::TooManyOpen(_) => Ending::Unfinished,
         Step::Beyond(_) => Ending::Unfinished,
-        Step::Overflow(_) => Ending::Unfinished,
+        Step::Overflow(_, _) => Ending::Unfinished,
     }
 }
 

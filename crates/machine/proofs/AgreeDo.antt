@@ -11,7 +11,7 @@ use Rattle.rules.specs.Line.{Line}
 use Rattle.rules.specs.declared.computed.Computed.{Computed}
 use Rattle.rules.specs.declared.computed.Computed.the-variants.{Fits, Overflows}
 use Rattle.rules.specs.declared.step.Step.the-variants.{Overflow}
-use Rattle.rules.specs.Variables.{computed}
+use Rattle.rules.specs.Variables.{variable, computed}
 use Rattle.rules.specs.State.{frame}
 use Rattle.rules.specs.Run.{Turn, on, ends}
 use Rattle.rules.specs.Form.{turnBy}
@@ -51,7 +51,7 @@ module _ (ls : List Line) (held : List ℕ) (m : Map) (p : Parts) (s : Hardened)
         vars = set (s .vars) (l .operands .p) x;
         trace = s .trace ++ (l .e ∷ []);
       })
-  turned (Overflows x y) = ends (Overflow (l .e)) s
+  turned (Overflows x y) = ends (Overflow (l .e) (variable (s .vars) (l .operands .p))) s
 
   turned-is : (c : Computed) → computed (l .operands) (s .vars) ≡ c → lineStep ls (p .registers .at) (asLine Do l) s ≡ turned c
   unfolding turnBy
@@ -61,8 +61,8 @@ module _ (ls : List Line) (held : List ℕ) (m : Map) (p : Parts) (s : Hardened)
   agrees : (c : Computed) → p .registers .traced < length held → bounds.Fits ls (s .running .function) (p .registers .at) (asLine Do l) → Agrees ls held (p .registers .traced) (coded c) (turned c)
   agrees (Overflows x y) room f =
       record {
-        is = refl;
-        is-end = overflow-ends (l .e);
+        is = ap (λ v. Overflow (l .e) (variable v (l .operands .p))) (st .vars-are);
+        is-end = overflow-ends (l .e) (variable (s .vars) (l .operands .p));
         vars-are = st .vars-are;
         traces = record { slots-are = st .traces .slots-are; traced-is = st .traces .traced-is };
       }

@@ -19,7 +19,7 @@ isAlarm Finished = false
 isAlarm Alarm = true
 isAlarm (TooManyOpen n) = false
 isAlarm (Beyond m) = false
-isAlarm (Overflow i) = false
+isAlarm (Overflow i v) = false
 
 abbrev pub alarms : Turn Counters → Bool
 alarms (on s) = false

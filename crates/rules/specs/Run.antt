@@ -4,7 +4,7 @@ use mathlib.Core.Bool.{Bool, cond}
 use Rattle.rules.specs.declared.operands.Operands.{Operands}
 use Rattle.rules.specs.declared.step.Step.{Step}
 use Rattle.rules.specs.declared.step.Step.the-variants.{Went, Finished, Alarm, TooManyOpen, Beyond, Overflow}
-use Rattle.rules.specs.Variables.{overflows}
+use Rattle.rules.specs.Variables.{variable, overflows}
 use Rattle.rules.specs.State.{State, did}
 
 -- "Outcomes: 0 budget spent, 1 finished, 2 alarm, 3 too many open functions, 4 the place is beyond m." 02, No. 5: "outcome 5"
@@ -14,7 +14,7 @@ outcomeOf Finished = 1
 outcomeOf Alarm = 2
 outcomeOf (TooManyOpen limit) = 3
 outcomeOf (Beyond last) = 4
-outcomeOf (Overflow row) = 5
+outcomeOf (Overflow row held) = 5
 
 -- What a step comes to: the run goes on; it ends with this step; it ends and the step is not taken.
 pub data Turn (C : Type 0) : Type 0 where
@@ -37,7 +37,8 @@ next (untaken o s) f = untaken o s
 -- The do of row i, in either run. 02, No. 5: one that overflows "stops either run with outcome 5, before it changes a variable or the
 -- trace; the step is counted".
 abbrev pub doing : {C : Type 0} → Operands → (row : ℕ) → State C → Turn C
-doing o i s = cond (overflows o (s .vars)) (ends (Overflow i) s) (on (did o i s))
+doing o i s =
+    cond (overflows o (s .vars)) (ends (Overflow i (variable (s .vars) (o .p))) s) (on (did o i s))
 
 -- k steps are taken, and the next came to this: "The step that ends in 2 or 3 is counted .. with 4 the step struck is not taken."
 abbrev pub after : {C : Type 0} → (k : ℕ) → Turn C → (State C → Answer C) → Answer C

@@ -8,6 +8,7 @@ pub enum Step {
     TooManyOpen(u16),
     // The place of the jump is beyond this last place of the running function.
     Beyond(u16),
-    // The sum or difference of this row's do does not fit (02, No. 5).
-    Overflow(u16),
+    // The sum or difference of this row's do does not fit (02, No. 5), where its variable holds this. The second number makes an answer six
+    // bytes long: in four, as without it, the compiler kept the case and its number in one word, and every step took an eighth longer.
+    Overflow(u16, u16),
 }

@@ -12,7 +12,7 @@ use Rattle.rules.specs.Limits.{maxOpen}
 use Rattle.rules.specs.Row.{Table, tableOf, kindAt, operandsAt}
 use Rattle.rules.specs.Scan.{Part, body, thenPart, elsePart, loopBody, Open, openAt, partOf, functionRow}
 use Rattle.rules.specs.Check.{isCall}
-use Rattle.rules.specs.Variables.{overflows}
+use Rattle.rules.specs.Variables.{variable, overflows}
 use Rattle.rules.specs.State.{Frame, did, opening, depth}
 use Rattle.rules.specs.Run.{Turn, on, ends, untaken, next, after, run, ifDone, tally}
 use Rattle.rules.specs.Source.{Source, toRow, returnRow, endRow, callRow, rowStep, sourceStep}
@@ -47,14 +47,14 @@ call-settled t i n s =
     cond-either Settled (ltb (depth s) maxOpen) (on (opening n (suc (functionRow t n)) tt (toRow (suc i) s))) (ends (TooManyOpen maxOpen) s) tt
     (too-many-ends maxOpen)
 
-do-settled : (i : ℕ) (x : Bool) (s d : Source) → Settled (next (cond x (ends (Overflow i) s) (on d)) (λ y. on (toRow (suc i) y)))
-do-settled i true s d = overflow-ends i
-do-settled i false s d = tt
+do-settled : (i v : ℕ) (x : Bool) (s d : Source) → Settled (next (cond x (ends (Overflow i v) s) (on d)) (λ y. on (toRow (suc i) y)))
+do-settled i v true s d = overflow-ends i v
+do-settled i v false s d = tt
 
 row-settled : (t : Table) (i : ℕ) (fs : List Open) (k : Kind) (s : Source) → Settled (rowStep t i fs k s)
 unfolding rowStep
 row-settled t i fs Function s = tt
-row-settled t i fs Do s = do-settled i (overflows (operandsAt t i) (s .vars)) s (did (operandsAt t i) i s)
+row-settled t i fs Do s = do-settled i (variable (s .vars) (operandsAt t i .p)) (overflows (operandsAt t i) (s .vars)) s (did (operandsAt t i) i s)
 row-settled t i fs If s = tt
 row-settled t i fs Else s = tt
 row-settled t i fs Loop s = tt

@@ -9,7 +9,7 @@ pub fn list(s: Step, at: usize, text: &mut [u8; 65536]) -> usize {
         Step::Alarm => at,
         Step::TooManyOpen(n) => too_many_open(n, at, text),
         Step::Beyond(last) => beyond(last, at, text),
-        Step::Overflow(row) => overflow(row, at, text),
+        Step::Overflow(row, _) => overflow(row, at, text),
     }
 }
 

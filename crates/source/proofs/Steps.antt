@@ -22,7 +22,7 @@ use Rattle.rules.specs.declared.step.Step.the-variants.{Went, Finished, TooMany
 use Rattle.rules.specs.Row.{Table, tableOf, kindAt, operandsAt}
 use Rattle.rules.specs.Scan.{Part, body, thenPart, elsePart, loopBody, openAt, partOf, openerOf, fromLoop, endOf, functionRow}
 use Rattle.rules.specs.Check.{verdictOf}
-use Rattle.rules.specs.Variables.{computed, holdsOn}
+use Rattle.rules.specs.Variables.{variable, computed, holdsOn}
 use Rattle.rules.specs.State.{frame, opening, depth}
 use Rattle.rules.specs.Run.{Turn, on, ends}
 use Rattle.rules.specs.Links.{isOpening}
@@ -136,6 +136,9 @@ module _ (bs : List ℕ) (a : verdictOf bs ≡ Accepted) (p : Parts) (v : own.Fi
       let x = didBy c (operandsAt t i .p) i (p .registers) (p .vars) (p .slots) in
       after (x .to) (p .resumes) (p .functions) (x .vars) (x .slots)
 
+  abbrev held : ℕ
+  held = variable (p .vars) (operandsAt t i .p)
+
   abbrev done : (x row : ℕ) → (trace : List ℕ) → Turn (Unit {0})
   done x j tr =
       on (record {
@@ -148,7 +151,7 @@ module _ (bs : List ℕ) (a : verdictOf bs ≡ Accepted) (p : Parts) (v : own.Fi
 
   abbrev turned : Computed → Turn (Unit {0})
   turned (Fits x) = done x (suc i) (take (p .registers .traced) (p .slots) ++ (i ∷ []))
-  turned (Overflows x y) = ends (Overflow i) (stateOf p)
+  turned (Overflows x y) = ends (Overflow i held) (stateOf p)
 
   turned-is : (c : Computed) → computed (operandsAt t i) (p .vars) ≡ c → rowStep t i (openAt t i) Do (stateOf p) ≡ turned c
   unfolding rowStep
@@ -156,7 +159,7 @@ module _ (bs : List ℕ) (a : verdictOf bs ≡ Accepted) (p : Parts) (v : own.Fi
   turned-is (Overflows x y) e = rw e
 
   does-by : p .registers .traced < length (p .slots) → kindAt t i ≡ Do → (c : Computed) → Steps bs p (coded c) (turned c)
-  does-by h e (Overflows x y) = stops (Overflow i) (overflow-ends i) refl
+  does-by h e (Overflows x y) = stops (Overflow i held) (overflow-ends i held) refl
   does-by h e (Fits x) =
       record {
         turn = ap (λ j. done x j (take (p .registers .traced + 1) (set (p .slots) (p .registers .traced) i))) (add-one i)

@@ -24,8 +24,8 @@ finished-ends k e = let z : _≡_ {A = ℕ} 0 1 = cc in omega arith
 pub too-many-ends : (n : ℕ) → IsEnd (TooManyOpen n)
 too-many-ends n k e = let z : _≡_ {A = ℕ} 0 1 = cc in omega arith
 
-pub overflow-ends : (n : ℕ) → IsEnd (Overflow n)
-overflow-ends n k e = let z : _≡_ {A = ℕ} 0 1 = cc in omega arith
+pub overflow-ends : (n v : ℕ) → IsEnd (Overflow n v)
+overflow-ends n v k e = let z : _≡_ {A = ℕ} 0 1 = cc in omega arith
 
 pub went-same : {x y : ℕ} → Went x ≡ Went y → x ≡ y
 went-same e = cc
@@ -36,7 +36,7 @@ onward-end Finished n f z = refl
 onward-end Alarm n f z = refl
 onward-end (TooManyOpen k) n f z = refl
 onward-end (Beyond k) n f z = refl
-onward-end (Overflow k) n f z = refl
+onward-end (Overflow k v) n f z = refl
 
 -- its outcome is not 0
 pub end-not-zero : (o : Step) → IsEnd o → outcomeOf o ≢ 0
@@ -46,7 +46,7 @@ end-not-zero Finished n e = omega arith
 end-not-zero Alarm n e = omega arith
 end-not-zero (TooManyOpen k) n e = omega arith
 end-not-zero (Beyond k) n e = omega arith
-end-not-zero (Overflow k) n e = omega arith
+end-not-zero (Overflow k v) n e = omega arith
 
 -- an arm of a `match` that is none of the first variant's
 pub not-went : (s : Step) → OneOf (1 ∷ 2 ∷ 3 ∷ 4 ∷ 5 ∷ []) (tagOf the-type s) → IsEnd s

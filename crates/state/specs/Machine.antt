@@ -9,7 +9,7 @@ use Rattle.rules.specs.declared.operands.Operands.{Operands}
 use Rattle.rules.specs.declared.step.Step.{Step}
 use Rattle.rules.specs.declared.step.Step.the-variants.{Went, Finished, Alarm, TooManyOpen, Beyond, Overflow}
 use Rattle.rules.specs.Limits.{maxOpen}
-use Rattle.rules.specs.Variables.{computed}
+use Rattle.rules.specs.Variables.{variable, computed}
 use Rattle.rules.specs.Run.{outcomeOf}
 use Rattle.state.specs.declared.machine.Registers.{Registers}
 use Rattle.state.specs.declared.machine.Machine.{Machine}
@@ -38,7 +38,7 @@ onward Finished f z = z
 onward Alarm f z = z
 onward (TooManyOpen n) f z = z
 onward (Beyond n) f z = z
-onward (Overflow n) f z = z
+onward (Overflow n v) f z = z
 
 -- ---- a do
 -- there is a slot for its row
@@ -58,7 +58,7 @@ done x vs tr = record { to = x; vars = vs; slots = tr }
 -- variable p changes, and the row goes into the first slot past the trace; or nothing changes
 abbrev pub didBy : Computed → (p row : ℕ) → Registers → (vars slots : List ℕ) → Done
 didBy (Fits x) p row h vs tr = done (moved (Went (h .at + 1)) (tracedOf h)) (set vs p x) (set tr (h .traced) row)
-didBy (Overflows x y) p row h vs tr = done (moved (Overflow row) h) vs tr
+didBy (Overflows x y) p row h vs tr = done (moved (Overflow row (variable vs p)) h) vs tr
 
 unfoldable pub didOf : Operands → (row : ℕ) → Registers → (vars slots : List ℕ) → Done
 didOf o row h vs tr = didBy (computed o vs) (o .p) row h vs tr

@@ -16,7 +16,7 @@ pub fn outcome_of(step: Step) -> u8
         Step::Alarm => 2,
         Step::TooManyOpen(_) => 3,
         Step::Beyond(_) => 4,
-        Step::Overflow(_) => 5,
+        Step::Overflow(_, _) => 5,
     }
 }
 

@@ -24,11 +24,11 @@ pub fn act(
     requires { ⌜ (VariablesIn o) × (h .at < 65535) × (HasSlot h (now trace)) ⌝ }
     ensures { λ r. ⌜ done r (now (variables .exit)) (now (trace .exit)) ≡ didOf o row h (now (variables .entry)) (now (trace .entry)) ⌝ }
 {
+    let p = o.p as usize;
     let c = variables::compute(o, variables);
     let Computed::Fits(x) = c else {
-        return stay(Step::Overflow(row), h);
+        return stay(Step::Overflow(row, variables[p]), h);
     };
-    let p = o.p as usize;
     variables[p] = x;
     let k = h.traced as usize;
     trace[k] = row;

@@ -48,7 +48,7 @@ going-run bs m rd (suc b) c p g j e =
     by Alarm q e ih = absurd (let z : _≡_ {A = ℕ} 0 1 = cc in omega arith)
     by (TooManyOpen n) q e ih = absurd (let z : _≡_ {A = ℕ} 0 1 = cc in omega arith)
     by (Beyond n) q e ih = absurd (let z : _≡_ {A = ℕ} 0 1 = cc in omega arith)
-    by (Overflow n) q e ih = absurd (let z : _≡_ {A = ℕ} 0 1 = cc in omega arith)
+    by (Overflow n v) q e ih = absurd (let z : _≡_ {A = ℕ} 0 1 = cc in omega arith)
 
 pub going-fewer : (ls : List Line) (b k : ℕ) (p : Parts) → Going ls b p → k ≤ b → Going ls k p
 going-fewer ls b k p g h =
@@ -172,7 +172,7 @@ lands-inside bs m left place Finished f z e = rw e
 lands-inside bs m left place Alarm f z e = rw e
 lands-inside bs m left place (TooManyOpen n) f z e = rw e
 lands-inside bs m left place (Beyond n) f z e = rw e
-lands-inside bs m left place (Overflow n) f z e = rw e
+lands-inside bs m left place (Overflow n v) f z e = rw e
 
 module _ (bs : List ℕ) (m : Map) (rd : Ready bs m) (held : List ℕ) (b place : ℕ) where
   abbrev machine : (j : ℕ) → ℕ → Hardened → Turn Counters

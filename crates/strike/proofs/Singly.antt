@@ -33,7 +33,7 @@ splits-by bs m b c f z Finished q ih = sym (ap (λ o. onward o (λ k. runOf bs m
 splits-by bs m b c f z Alarm q ih = sym (ap (λ o. onward o (λ k. runOf bs m c (z .parts)) z) q)
 splits-by bs m b c f z (TooManyOpen n) q ih = sym (ap (λ o. onward o (λ k. runOf bs m c (z .parts)) z) q)
 splits-by bs m b c f z (Beyond n) q ih = sym (ap (λ o. onward o (λ k. runOf bs m c (z .parts)) z) q)
-splits-by bs m b c f z (Overflow n) q ih = sym (ap (λ o. onward o (λ k. runOf bs m c (z .parts)) z) q)
+splits-by bs m b c f z (Overflow n v) q ih = sym (ap (λ o. onward o (λ k. runOf bs m c (z .parts)) z) q)
 
 run-sum : (bs : List ℕ) (m : Map) (b c : ℕ) (p : Parts) → Splits bs m b c p
 unfolding runOf

@@ -12,7 +12,7 @@ use Rattle.rules.specs.declared.step.Step.the-variants.{TooManyOpen, Ove
 use Rattle.rules.specs.Limits.{maxOpen}
 use Rattle.rules.specs.Row.{Table, kindAt, operandsAt}
 use Rattle.rules.specs.Scan.{Part, body, thenPart, elsePart, loopBody, Open, openAt, partOf, functionRow}
-use Rattle.rules.specs.Variables.{overflows}
+use Rattle.rules.specs.Variables.{variable, overflows}
 use Rattle.rules.specs.State.{Frame, did, opening, depth}
 use Rattle.rules.specs.Run.{Turn, on, ends, untaken, next, after, run, ifDone, tally}
 use Rattle.rules.specs.Source.{Source, toRow, returnRow, endRow, callRow, rowStep, sourceStep, sourceStart, sourceRun}
@@ -40,15 +40,15 @@ call-traced t i n s =
     cond-either (Traced (length (s .trace)) 0) (ltb (depth s) maxOpen) (on (opening n (suc (functionRow t n)) tt (toRow (suc i) s)))
     (ends (TooManyOpen maxOpen) s) (omega arith) refl
 
-do-traced : (i : ℕ) (y : Bool) (s d : Source) → length (d .trace) ≡ length (s .trace) + 1
-    → Traced (length (s .trace)) 1 (next (cond y (ends (Overflow i) s) (on d)) (λ x. on (toRow (suc i) x)))
-do-traced i true s d q = refl
-do-traced i false s d q = q
+do-traced : (i v : ℕ) (y : Bool) (s d : Source) → length (d .trace) ≡ length (s .trace) + 1
+    → Traced (length (s .trace)) 1 (next (cond y (ends (Overflow i v) s) (on d)) (λ x. on (toRow (suc i) x)))
+do-traced i v true s d q = refl
+do-traced i v false s d q = q
 
 row-traced : (t : Table) (i : ℕ) (fs : List Open) (k : Kind) (s : Source) → Traced (length (s .trace)) (cond (isDo k) 1 0) (rowStep t i fs k s)
 unfolding rowStep
 row-traced t i fs Function s = omega arith
-row-traced t i fs Do s = do-traced i (overflows (operandsAt t i) (s .vars)) s (did (operandsAt t i) i s) (length-append (s .trace) (i ∷ []))
+row-traced t i fs Do s = do-traced i (variable (s .vars) (operandsAt t i .p)) (overflows (operandsAt t i) (s .vars)) s (did (operandsAt t i) i s) (length-append (s .trace) (i ∷ []))
 row-traced t i fs If s = omega arith
 row-traced t i fs Else s = omega arith
 row-traced t i fs Loop s = omega arith

@@ -18,7 +18,7 @@ use Rattle.rules.specs.Scan.{Open}
 use Rattle.rules.specs.Line.{Line, doLine, tickLine, backLine, lineAt, isGuard}
 use Rattle.rules.specs.Harden.{lineCount, lineOf, backOf, rowLines, harden}
 use Rattle.rules.specs.Function.{startOf, finishOf, lastPlace}
-use Rattle.rules.specs.Variables.{doneOn, overflows}
+use Rattle.rules.specs.Variables.{variable, doneOn, overflows}
 use Rattle.rules.specs.State.{Frame, State}
 use Rattle.rules.specs.Run.{on, ends}
 use Rattle.rules.specs.Source.{Source}
@@ -142,14 +142,14 @@ module _ (t : Table) (ok : Proper t) {H : Type 0} {F : Form H} (S : Settles t F)
 
     -- a do, by whether it overflows on the variables of the run
     does : (j : ℕ) → lineAt (harden t) at ≡ doLine (operandsAt t j) j → (y : Bool) → overflows (operandsAt t j) vs ≡ y
-        → stepOf F (harden t) (landedAt (harden t) p (from rest)) ≡ cond y (ends (Overflow j) (landedAt (harden t) p (from rest))) (on (hard n (suc at) cn rest l (doneOn (operandsAt t j) vs) (tr ++ (j ∷ []))))
+        → stepOf F (harden t) (landedAt (harden t) p (from rest)) ≡ cond y (ends (Overflow j (variable vs (operandsAt t j .p))) (landedAt (harden t) p (from rest))) (on (hard n (suc at) cn rest l (doneOn (operandsAt t j) vs) (tr ++ (j ∷ []))))
     unfolding turnBy
     does j q true o = step-at S n at _ (omega arith) q cn rest l vs tr ∙ rw o
     does j q false o = step-at S n at _ (omega arith) q cn rest l vs tr ∙ rw o
 
     caught-overflow : (j : ℕ) → lineAt (harden t) at ≡ doLine (operandsAt t j) j → overflows (operandsAt t j) vs ≡ true → Caught F (harden t) p (from rest)
     unfolding overflowsAt
-    caught-overflow j q o = overflowing (rw (not-last, q) o) j (landedAt (harden t) p (from rest)) (does j q true o) (record { vars-are = refl; trace-is = refl })
+    caught-overflow j q o = overflowing (rw (not-last, q) o) j (variable vs (operandsAt t j .p)) (landedAt (harden t) p (from rest)) (does j q true o) (record { vars-are = refl; trace-is = refl })
 
     caught-do : (j : ℕ) (h : Open) (hs : List Open) → InFunction t n j h hs → at ≡ lineOf t j → kindAt t j ≡ Do → lineAt (harden t) at ≡ doLine (operandsAt t j) j → overflows (operandsAt t j) vs ≡ false
         → Caught F (harden t) p (from rest)

@@ -15,7 +15,7 @@ use Rattle.rules.specs.Scan.{Part, thenPart, loopBody, Open, pushes, sha
 use Rattle.rules.specs.Value.{past, takes, base, value}
 use Rattle.rules.specs.Line.{Line, doLine, testLine, lineAt}
 use Rattle.rules.specs.Harden.{lineCount, lineOf, testOf, rowLines, harden}
-use Rattle.rules.specs.Variables.{doneOn, holdsOn, overflows}
+use Rattle.rules.specs.Variables.{variable, doneOn, holdsOn, overflows}
 use Rattle.rules.specs.State.{Frame}
 use Rattle.rules.specs.Run.{on, ends, outcomeOf}
 use Rattle.rules.specs.Source.{falseRow, rowStep, sourceStep}
@@ -37,31 +37,35 @@ test-line : {H : Type 0} (F : Form H) (ls : List Line) (n k : ℕ) (c : H) (rest
 unfolding turnBy
 test-line F ls n k c rest l vs tr o r s t e a b d go h y z = rw (h, z)
 
-overflow-early : {d : ℕ} (i : ℕ) → SharedEnd d (Overflow i)
+overflow-early : {d : ℕ} (i v : ℕ) → SharedEnd d (Overflow i v)
 unfolding outcomeOf
-overflow-early i = early (omega arith) (omega arith) (omega arith)
+overflow-early i v = early (omega arith) (omega arith) (omega arith)
 
 module _ (t : Table) (ok : Proper t) {H : Type 0} {F : Form H} (S : Settles t F) (n i : ℕ) (f : Open) (fs : List Open) (m : InFunction t n i f fs) (rest : List Back) (lk : Linked t n rest) (l : H) (vs tr : List ℕ) where
   abbrev Step : ℕ → Type 0
   Step d = Both S d (sourceStep t (src n i rest vs tr)) (stepOf F (harden t) (here S n i f fs rest l vs tr))
+
+  -- what the variable of a do holds
+  abbrev held : ℕ
+  held = variable vs (operandsAt t i .p)
 
   pub step-do : kindAt t i ≡ Do → Step (length rest + 1)
   unfolding rowStep turnBy rowLines
   step-do e = by (overflows (operandsAt t i) vs) refl
     where
       row-is : (y : Bool) → overflows (operandsAt t i) vs ≡ y
-          → sourceStep t (src n i rest vs tr) ≡ cond y (ends (Overflow i) (src n i rest vs tr)) (on (src n (suc i) rest (doneOn (operandsAt t i) vs) (tr ++ (i ∷ []))))
+          → sourceStep t (src n i rest vs tr) ≡ cond y (ends (Overflow i held) (src n i rest vs tr)) (on (src n (suc i) rest (doneOn (operandsAt t i) vs) (tr ++ (i ∷ []))))
       row-is true q = source-step t n i rest vs tr e (m .open-is) ∙ rw q
       row-is false q = source-step t n i rest vs tr e (m .open-is) ∙ rw q
 
       line-is : (y : Bool) → overflows (operandsAt t i) vs ≡ y
-          → stepOf F (harden t) (here S n i f fs rest l vs tr) ≡ cond y (ends (Overflow i) (here S n i f fs rest l vs tr)) (on (hard n (suc (lineOf t i)) (S .at (lineOf t i) (f ∷ fs) (value t (f .region) i)) (lineBacks S rest) l (doneOn (operandsAt t i) vs) (tr ++ (i ∷ []))))
+          → stepOf F (harden t) (here S n i f fs rest l vs tr) ≡ cond y (ends (Overflow i held) (here S n i f fs rest l vs tr)) (on (hard n (suc (lineOf t i)) (S .at (lineOf t i) (f ∷ fs) (value t (f .region) i)) (lineBacks S rest) l (doneOn (operandsAt t i) vs) (tr ++ (i ∷ []))))
       line-is true q = line-step t ok S m (lineOf t i) 0 (doLine (operandsAt t i) i) (omega arith) (rw e (omega arith)) (rw e) _ _ l vs tr ∙ rw q
       line-is false q = line-step t ok S m (lineOf t i) 0 (doLine (operandsAt t i) i) (omega arith) (rw e (omega arith)) (rw e) _ _ l vs tr ∙ rw q
 
       by : (y : Bool) → overflows (operandsAt t i) vs ≡ y → Step (length rest + 1)
-      by true q = both-end (Overflow i) _ _ (row-is true q) (line-is true q)
-          (record { n = n; i = i; k = lineOf t i; l = l; rest = rest; c = S .at (lineOf t i) (f ∷ fs) (value t (f .region) i); vs = vs; tr = tr; s-is = refl; h-is = refl }) (overflow-early i)
+      by true q = both-end (Overflow i held) _ _ (row-is true q) (line-is true q)
+          (record { n = n; i = i; k = lineOf t i; l = l; rest = rest; c = S .at (lineOf t i) (f ∷ fs) (value t (f .region) i); vs = vs; tr = tr; s-is = refl; h-is = refl }) (overflow-early i held)
       by false q = both-on _ _ (row-is false q) (line-is false q)
           (record {
             n = n;

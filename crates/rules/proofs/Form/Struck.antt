@@ -46,7 +46,7 @@ pub data Caught {H : Type 0} (F : Form H) (ls : List Line) (p : ℕ) (s : State 
   at-once : overflowsAt ls p s ≡ false → ((k : ℕ) → alarmStep ls p k s ≡ k) → (h : State H) → stepOf F ls (landedAt ls p s) ≡ ends Alarm h → Keeps h (doneAt ls p s) → Caught F ls p s
   one-later : overflowsAt ls p s ≡ false → ((k : ℕ) → alarmStep ls p k s ≡ suc k) → (h g : State H) → stepOf F ls (landedAt ls p s) ≡ on h → h .running .at < finishOf ls (h .running .function) → stepOf F ls h ≡ ends Alarm g
       → Keeps h (doneAt ls p s) → Keeps g (doneAt ls p s) → Caught F ls p s
-  overflowing : overflowsAt ls p s ≡ true → (row : ℕ) (h : State H) → stepOf F ls (landedAt ls p s) ≡ ends (Overflow row) h → Keeps h s → Caught F ls p s
+  overflowing : overflowsAt ls p s ≡ true → (row held : ℕ) (h : State H) → stepOf F ls (landedAt ls p s) ≡ ends (Overflow row held) h → Keeps h s → Caught F ls p s
 
 pub after-same : {H : Type 0} (k : ℕ) (r : Turn H) (f g : State H → Answer H) → ((h : State H) → f h ≡ g h) → after k r f ≡ after k r g
 after-same k (on h) f g e = e h
@@ -129,7 +129,7 @@ module _ {H : Type 0} (F : Form H) (ls : List Line) where
   caught-from p k (suc b) s l (one-later v x h g e₁ i e₂ q r) =
       rw (struck-on p k s l, e₁, not-now k p (suc k) h (omega arith), e₂, v, x k, lt-ltb (suc k) (k + suc (suc b)) (omega arith))
       (shown-of 2 (suc (suc k)) g (doneAt ls p s) r)
-  caught-from p k b s l (overflowing v row h e q) = rw (struck-on p k s l, e, v) (shown-of 5 (suc k) h s q)
+  caught-from p k b s l (overflowing v row held h e q) = rw (struck-on p k s l, e, v) (shown-of 5 (suc k) h s q)
 
   -- from the step struck on, the run goes unstruck from the place that it lands at
   strike-now : (p k b : ℕ) (h : State H) → p ≤ lastPlace ls (h .running .function)

@@ -13,7 +13,7 @@ use Rattle.rules.specs.declared.step.Step.the-variants.{Went, Finished, 
 use Rattle.rules.specs.declared.strike.Strike.the-variants.{None}
 use Rattle.rules.specs.Bytes.{same}
 use Rattle.rules.specs.Limits.{maxOpen}
-use Rattle.rules.specs.Variables.{holdsOn, overflows}
+use Rattle.rules.specs.Variables.{variable, holdsOn, overflows}
 use Rattle.rules.specs.Line.{Line, doLine, tickLine, testLine, leaveLine, outLine, callLine, backLine, retLine, lineAt, isGuard}
 use Rattle.rules.specs.Function.{functionAt, finishOf}
 use Rattle.rules.specs.State.{Frame, State, goTo, did, opening, retraced, depth}
@@ -47,15 +47,15 @@ unfolding outcomeOf
 many-sound s = omega arith
 
 -- a do that overflows, or is done
-do-sound : {H : Type 0} (k : ℕ) (y : Bool) (e : ℕ) (s d : State H) → Sound (next (cond y (ends (Overflow e) s) (on d)) (λ x. moved (suc k) (λ c. c) x))
+do-sound : {H : Type 0} (k : ℕ) (y : Bool) (e v : ℕ) (s d : State H) → Sound (next (cond y (ends (Overflow e v) s) (on d)) (λ x. moved (suc k) (λ c. c) x))
 unfolding outcomeOf
-do-sound k true e s d = omega arith
-do-sound k false e s d = tt
+do-sound k true e v s d = omega arith
+do-sound k false e v s d = tt
 
-do-ahead : {H : Type 0} (tr : List ℕ) (k : ℕ) (y : Bool) (e : ℕ) (s d x : State H) → d ≡ ahead tr x
-    → next (cond y (ends (Overflow e) (ahead tr s)) (on d)) (λ z. moved (suc k) (λ c. c) z) ≡ turnAhead tr (next (cond y (ends (Overflow e) s) (on x)) (λ z. moved (suc k) (λ c. c) z))
-do-ahead tr k true e s d x q = refl
-do-ahead tr k false e s d x q = ap (λ z. moved (suc k) (λ c. c) z) q
+do-ahead : {H : Type 0} (tr : List ℕ) (k : ℕ) (y : Bool) (e v : ℕ) (s d x : State H) → d ≡ ahead tr x
+    → next (cond y (ends (Overflow e v) (ahead tr s)) (on d)) (λ z. moved (suc k) (λ c. c) z) ≡ turnAhead tr (next (cond y (ends (Overflow e v) s) (on x)) (λ z. moved (suc k) (λ c. c) z))
+do-ahead tr k true e v s d x q = refl
+do-ahead tr k false e v s d x q = ap (λ z. moved (suc k) (λ c. c) z) q
 
 must-ahead : {H : Type 0} (tr : List ℕ) (b : Bool) (s : State H) (x y : Turn H) → x ≡ turnAhead tr y → must b (ahead tr s) x ≡ turnAhead tr (must b s y)
 must-ahead tr true s x y e = e
@@ -101,7 +101,7 @@ module _ {H : Type 0} (F : Form H) (ls : List Line) where
   leaves-sound s (f ∷ fs) = tt
 
   passed-sound : (k : ℕ) (l : Line) (g : Guard H) (now : State H) → Sound (passed F ls k l g now)
-  passed-sound k (doLine o e) g now = do-sound k (overflows o (now .vars)) e now (did o e now)
+  passed-sound k (doLine o e) g now = do-sound k (overflows o (now .vars)) e (variable (now .vars) (o .p)) now (did o e now)
   passed-sound k (tickLine r e a) g now = tt
   passed-sound k (testLine o r s t e a b c go) g now = cond-either Sound (holdsOn o (now .vars)) (moved (suc k) (g .moves true) now) (moved go (g .moves false) now) tt tt
   passed-sound k (leaveLine r s e a b go) g now = tt
@@ -133,7 +133,7 @@ module _ {H : Type 0} (F : Form H) (ls : List Line) where
 
   passed-ahead : (tr : List ℕ) (k : ℕ) (l : Line) (g : Guard H) (now : State H) → passed F ls k l g (ahead tr now) ≡ turnAhead tr (passed F ls k l g now)
   passed-ahead tr k (doLine o e) g now =
-      do-ahead tr k (overflows o (now .vars)) e now (did o e (ahead tr now)) (did o e now) (ap (λ y. retraced y (did o e now)) (append-assoc tr (now .trace) (e ∷ [])))
+      do-ahead tr k (overflows o (now .vars)) e (variable (now .vars) (o .p)) now (did o e (ahead tr now)) (did o e now) (ap (λ y. retraced y (did o e now)) (append-assoc tr (now .trace) (e ∷ [])))
   passed-ahead tr k (tickLine r e a) g now = refl
   passed-ahead tr k (testLine o r s t e a b c go) g now =
       cond-ahead tr (holdsOn o (now .vars)) (moved (suc k) (g .moves true) (ahead tr now)) (moved go (g .moves false) (ahead tr now)) (moved (suc k) (g .moves true) now) (moved go (g .moves false) now) refl refl

@@ -8,29 +8,37 @@ use Rattle.state.proofs.trace.act.Lts as lts
 use Rattle.state.proofs.machine.stay.Reads as stay-reads
 use Rattle.state.proofs.variables.compute.Reads as compute-reads
 
--- src/trace.rt:27:9
+-- src/trace.rt:27:13
+cast-p : tie.Need-cast-p
+cast-p c = search needs
+
+-- src/trace.rt:28:9
 compute-requires : tie.Need-compute-requires
 compute-requires c κs = search needs
 
--- src/trace.rt:28:24
+-- src/trace.rt:29:24
 enum-known-c : tie.Need-enum-known-c
 enum-known-c c = search needs
 
--- src/trace.rt:29:21
+-- src/trace.rt:30:41
 enum-told : tie.Need-enum-told
 enum-told c = search needs
 
--- src/trace.rt:29:9
+-- src/trace.rt:30:41
+mul-t12 : tie.Need-mul-t12
+mul-t12 c = search needs
+
+-- src/trace.rt:30:41
+element-copy-out-t15 : tie.Need-element-copy-out-t15
+element-copy-out-t15 c = search needs
+
+-- src/trace.rt:30:9
 stay-requires : tie.Need-stay-requires
 stay-requires c κs = search needs
 
--- src/trace.rt:29:9
+-- src/trace.rt:30:9
 returns : tie.Need-returns
-returns c = did-overflows _ _ _ _ _ (c .before .before .before .compute .ensures) (c .before .before .match .keys2) (c .stay .ensures)
-
--- src/trace.rt:31:13
-cast-p : tie.Need-cast-p
-cast-p c = search needs
+returns c = did-overflows _ _ _ _ _ (c .before .before .before .before .compute .ensures) (c .before .before .before .match .keys2) (c .stay .ensures)
 
 -- src/trace.rt:32:5
 mul-variables : tie.Need-mul-variables
@@ -57,8 +65,8 @@ add-at : tie.Need-add-at
 add-at c = search needs
 
 -- src/trace.rt:44:21
-add-t18 : tie.Need-add-t18
-add-t18 c = search needs
+add-t22 : tie.Need-add-t22
+add-t22 c = search needs
 
 -- src/trace.rt:36:5
 stay-requires-2 : tie.Need-stay-requires-2
@@ -70,25 +78,27 @@ same-length c = search needs
 
 -- src/trace.rt:17:1
 returns-2 : tie.Need-returns-2
-returns-2 c = did-fits _ _ _ _ _ (c .before .before .before .before .before .before .before .before .compute .ensures) (c .before .before .before .before .before .before .c .given .1) (c .stay2 .ensures)
+returns-2 c = did-fits _ _ _ _ _ (c .before .before .before .before .before .before .before .compute .ensures) (c .before .before .before .before .before .c .given .1) (c .stay2 .ensures)
 
 pub act-spec : {M : Type 1} → statement M
 act-spec =
     tie.close
     (tie.spec
+    cast-p
     compute-requires
     enum-known-c
     enum-told
+    mul-t12
+    element-copy-out-t15
     stay-requires
     returns
-    cast-p
     mul-variables
     element-write-variables
     cast-k
     mul-trace
     slice-write-trace
     add-at
-    add-t18
+    add-t22
     stay-requires-2
     same-length
     returns-2)
