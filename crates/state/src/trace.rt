@@ -5,6 +5,7 @@ ghost use Rattle.rules.specs.Bounds.{VariablesIn};
 ghost use Rattle.state.specs.Machine.{HasSlot, done, didOf};
 use crate::machine::Moved;
 use crate::machine::Registers;
+use crate::machine::standing;
 use crate::machine::stay;
 use crate::variables;
 use rules::computed::Computed;
@@ -13,7 +14,7 @@ use rules::operands::Operands;
 use rules::step::Step;
 
 // A do, in either run: its variable changes, its row goes into the next trace slot, and the run goes on at the next row or line. One that
-// overflows ends the run before anything changes.
+// overflows ends the run before anything changes; the registers are made field by field there too, as in `standing`.
 pub fn act(
     o: Operands,
     row: u16,
@@ -27,7 +28,10 @@ pub fn act(
     let p = o.p as usize;
     let c = variables::compute(o, variables);
     let Computed::Fits(x) = c else {
-        return stay(Step::Overflow(row, variables[p]), h);
+        return stay(
+            Step::Overflow(row, variables[p]),
+            standing(h, h.at, h.steps),
+        );
     };
     variables[p] = x;
     let k = h.traced as usize;

@@ -1,82 +1,89 @@
 -- `state::trace::act` meets its contract. Assumes nothing.
+use mathlib.Core.Path.{ap, _∙_}
+use Rattle.state.specs.Machine.{moved}
 use Rattle.state.proofs.Dos.{did-fits, did-overflows}
 use borrow.Author.Needs.{needs}
 use Rattle.state.proofs.trace.act.Statement.{statement}
 use Rattle.state.proofs.trace.act.Tie as tie
 use Rattle.state.proofs.trace.act.Reads as reads
 use Rattle.state.proofs.trace.act.Lts as lts
+use Rattle.state.proofs.machine.standing.Reads as standing-reads
 use Rattle.state.proofs.machine.stay.Reads as stay-reads
 use Rattle.state.proofs.variables.compute.Reads as compute-reads
 
--- src/trace.rt:27:13
+-- src/trace.rt:28:13
 cast-p : tie.Need-cast-p
 cast-p c = search needs
 
--- src/trace.rt:28:9
+-- src/trace.rt:29:9
 compute-requires : tie.Need-compute-requires
 compute-requires c κs = search needs
 
--- src/trace.rt:29:24
+-- src/trace.rt:30:24
 enum-known-c : tie.Need-enum-known-c
 enum-known-c c = search needs
 
--- src/trace.rt:30:41
+-- src/trace.rt:32:33
 enum-told : tie.Need-enum-told
 enum-told c = search needs
 
--- src/trace.rt:30:41
+-- src/trace.rt:32:33
 mul-t12 : tie.Need-mul-t12
 mul-t12 c = search needs
 
--- src/trace.rt:30:41
+-- src/trace.rt:32:33
 element-copy-out-t15 : tie.Need-element-copy-out-t15
 element-copy-out-t15 c = search needs
 
--- src/trace.rt:30:9
+-- src/trace.rt:33:13
+standing-requires : tie.Need-standing-requires
+standing-requires c κs = search needs
+
+-- src/trace.rt:31:9
 stay-requires : tie.Need-stay-requires
 stay-requires c κs = search needs
 
--- src/trace.rt:30:9
+-- src/trace.rt:31:9
 returns : tie.Need-returns
-returns c = did-overflows _ _ _ _ _ (c .before .before .before .before .compute .ensures) (c .before .before .before .match .keys2) (c .stay .ensures)
+returns c = did-overflows _ _ _ _ _ (c .before .before .before .before .before .compute .ensures) (c .before .before .before .before .match .keys2) (c .stay .ensures ∙ ap (moved _) (c .before .standing .ensures))
 
--- src/trace.rt:32:5
+-- src/trace.rt:36:5
 mul-variables : tie.Need-mul-variables
 mul-variables c = search needs
 
--- src/trace.rt:32:5
+-- src/trace.rt:36:5
 element-write-variables : tie.Need-element-write-variables
 element-write-variables c = search needs
 
--- src/trace.rt:33:13
+-- src/trace.rt:37:13
 cast-k : tie.Need-cast-k
 cast-k c = search needs
 
--- src/trace.rt:34:5
+-- src/trace.rt:38:5
 mul-trace : tie.Need-mul-trace
 mul-trace c = search needs
 
--- src/trace.rt:34:5
+-- src/trace.rt:38:5
 slice-write-trace : tie.Need-slice-write-trace
 slice-write-trace c = search needs
 
--- src/trace.rt:35:14
+-- src/trace.rt:39:14
 add-at : tie.Need-add-at
 add-at c = search needs
 
--- src/trace.rt:44:21
-add-t22 : tie.Need-add-t22
-add-t22 c = search needs
+-- src/trace.rt:48:21
+add-t23 : tie.Need-add-t23
+add-t23 c = search needs
 
--- src/trace.rt:36:5
+-- src/trace.rt:40:5
 stay-requires-2 : tie.Need-stay-requires-2
 stay-requires-2 c κs = search needs
 
--- src/trace.rt:17:1
+-- src/trace.rt:18:1
 same-length : tie.Need-same-length
 same-length c = search needs
 
--- src/trace.rt:17:1
+-- src/trace.rt:18:1
 returns-2 : tie.Need-returns-2
 returns-2 c = did-fits _ _ _ _ _ (c .before .before .before .before .before .before .before .compute .ensures) (c .before .before .before .before .before .c .given .1) (c .stay2 .ensures)
 
@@ -90,6 +97,7 @@ act-spec =
     enum-told
     mul-t12
     element-copy-out-t15
+    standing-requires
     stay-requires
     returns
     mul-variables
@@ -98,7 +106,7 @@ act-spec =
     mul-trace
     slice-write-trace
     add-at
-    add-t22
+    add-t23
     stay-requires-2
     same-length
     returns-2)
