@@ -8,7 +8,7 @@ use Rattle.rules.specs.declared.computed.Computed.the-variants.{Fits, Overflows
 use Rattle.rules.specs.declared.ending.Ending.{Ending}
 use Rattle.rules.specs.declared.ending.Ending.the-variants.{Unfinished}
 use Rattle.rules.specs.declared.operands.Operands.{Operands}
-use Rattle.rules.specs.Variables.{computed, isOverflow, overflows}
+use Rattle.rules.specs.Variables.{computed, isOverflow}
 use Rattle.line.specs.declared.Line.{Line}
 use Rattle.line.specs.declared.kind.LineKind.{LineKind}
 use Rattle.line.specs.Read.{structAt, lineKindAt}

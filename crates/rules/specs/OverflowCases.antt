@@ -2,7 +2,7 @@
 -- program of one sum. proofs/OverflowCases.antt closes them by computation.
 use Prim.Native.Nat.{ℕ}
 use mathlib.Core.Path.{_≡_}
-use mathlib.Core.List.{List, [], _∷_}
+use mathlib.Core.List.{[], _∷_}
 use Rattle.rules.specs.Limits.{noStep}
 use Rattle.rules.specs.Row.{rowWidth}
 use Rattle.rules.specs.Calls.{Running, HardenedRunning, runSourceCall, runHardenedCall}

@@ -9,6 +9,7 @@ pub enum Step {
     // The place of the jump is beyond this last place of the running function.
     Beyond(u16),
     // The sum or difference of this row's do does not fit (02, No. 5), where its variable holds this. The second number makes an answer six
-    // bytes long: in four, as without it, the compiler kept the case and its number in one word, and every step took an eighth longer.
+    // bytes long: in four, as without it, the compiler keeps the case and its number in one word, and takes them apart again for each step
+    // (docs/SPEED.md).
     Overflow(u16, u16),
 }

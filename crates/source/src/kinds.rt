@@ -93,7 +93,7 @@ fn returned(h: Registers, resumes: &[u16; OPEN], functions: &[u8; OPEN]) -> Move
     if 0 < h.depth {
         return returning(h, 0, resumes, functions);
     }
-    stay(Step::Finished, h)
+    stay(Step::Finished, standing(h, h.at, h.steps))
 }
 
 // The end of a function, of a loop, or of an if.
@@ -127,7 +127,7 @@ pub fn call_row(
     ensures { λ r. ⌜ opened r (now (resumes .exit)) (now (functions .exit)) ≡ afterCall (tableOf (now (rows .entry))) h (now (resumes .entry)) (now (functions .entry)) ⌝ }
 {
     if DEEPEST <= h.depth + 1 {
-        return stay(Step::TooManyOpen(DEEPEST), h);
+        return stay(Step::TooManyOpen(DEEPEST), standing(h, h.at, h.steps));
     }
     let o = row::operands_of(rows, row::index(h.at));
     opening(h, o.n as u8, go_of(rows, goes, h), resumes, functions)

@@ -1,11 +1,10 @@
 -- Demand 3 of whole runs with a jump, of every strict form. Assumes that the table is accepted.
 use mathlib.Core.Logic.{_≢_}
-use mathlib.Core.Path.{_≡_, ap}
+use mathlib.Core.Path.{ap}
 use mathlib.Core.List.{List}
 use Prim.Native.Nat.{ℕ}
 use native.Mathlib.Omega.{arith}
 use Rattle.rules.specs.declared.step.Step.{Step}
-use Rattle.rules.specs.declared.step.Step.the-variants.{Finished}
 use Rattle.rules.specs.Row.{Table}
 use Rattle.rules.specs.Harden.{harden}
 use Rattle.rules.specs.State.{State}

@@ -7,7 +7,6 @@ use Prim.Native.Nat.{ℕ, zero, suc, _+_}
 use native.Mathlib.Omega.{arith}
 use Rattle.rules.specs.declared.strike.Strike.the-variants.{None}
 use Rattle.rules.specs.declared.step.Step.{Step}
-use Rattle.rules.specs.declared.step.Step.the-variants.{Finished}
 use Rattle.rules.specs.Row.{Table}
 use Rattle.rules.specs.Harden.{harden}
 use Rattle.rules.specs.State.{State, numbersOf, openFunctions}

@@ -1,5 +1,5 @@
 -- `places::wide::before_do` meets its contract. Assumes nothing.
-use mathlib.Core.Path.{sym, ap, subst}
+use mathlib.Core.Path.{sym, subst}
 use Rattle.rules.specs.Bounds.{VariablesIn}
 use denote.Ref.{now}
 use Rattle.places.proofs.Landing.{do-fits, do-overflows}
