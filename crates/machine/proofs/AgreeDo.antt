@@ -43,30 +43,30 @@ module _ (ls : List Line) (held : List ℕ) (m : Map) (p : Parts) (s : Hardened)
       after (x .to) (p .resumes) (p .functions) (x .vars) (p .words) (x .slots)
 
   abbrev turned : Computed → Turn Counters
-  turned (Fits x) =
+  turned (Fits to x) =
       on (record {
         running = frame (s .running .function) (suc (p .registers .at)) (s .running .own);
         callers = s .callers;
         last = s .last;
-        vars = set (s .vars) (l .operands .p) x;
+        vars = set (s .vars) to x;
         trace = s .trace ++ (l .e ∷ []);
       })
-  turned (Overflows x y) = ends (Overflow (l .e) (variable (s .vars) (l .operands .p))) s
+  turned Overflows = ends (Overflow (l .e) (variable (s .vars) (l .operands .p))) s
 
   turned-is : (c : Computed) → computed (l .operands) (s .vars) ≡ c → lineStep ls (p .registers .at) (asLine Do l) s ≡ turned c
   unfolding turnBy
-  turned-is (Fits x) e = rw e
-  turned-is (Overflows x y) e = rw e
+  turned-is (Fits to x) e = rw e
+  turned-is Overflows e = rw e
 
   agrees : (c : Computed) → p .registers .traced < length held → bounds.Fits ls (s .running .function) (p .registers .at) (asLine Do l) → Agrees ls held (p .registers .traced) (coded c) (turned c)
-  agrees (Overflows x y) room f =
+  agrees Overflows room f =
       record {
         is = ap (λ v. Overflow (l .e) (variable v (l .operands .p))) (st .vars-are);
         is-end = overflow-ends (l .e) (variable (s .vars) (l .operands .p));
         vars-are = st .vars-are;
         traces = record { slots-are = st .traces .slots-are; traced-is = st .traces .traced-is };
       }
-  agrees (Fits x) room f =
+  agrees (Fits to x) room f =
       let t = st .traces in
       record {
         line = p .registers .at + 1;
@@ -79,7 +79,7 @@ module _ (ls : List Line) (held : List ℕ) (m : Map) (p : Parts) (s : Hardened)
           own-is = st .own-is;
           waiting = st .waiting;
           last-is = st .last-is;
-          vars-are = ap (λ v. set v (l .operands .p) x) (st .vars-are);
+          vars-are = ap (λ v. set v to x) (st .vars-are);
           traces = record {
             slots-are = ap (λ x. set x (p .registers .traced) (l .e)) (t .slots-are) ∙ ap (λ i. set (over (s .trace) held) i (l .e)) (t .traced-is)
                 ∙ over-more (s .trace) held (l .e) (omega (arith, t .traced-is));

@@ -18,11 +18,11 @@ module _ (bs vs : List ℕ) (k left : ℕ) {l : Line} {c : Computed} (e : l ≡ 
   told : (x : Computed) → c ≡ x → cond (isOverflow x) Unfinished (late left) ≡ wideDo (structAt bs k .operands) vs left
   told x p = ap (λ y. cond (isOverflow y) Unfinished (late left)) (sym p ∙ q ∙ ap (λ y. computed (y .operands) vs) e)
 
-  pub do-fits : {x : ℕ} {r : Ending} → c ≡ Fits x → r ≡ late left → r ≡ wideDo (structAt bs k .operands) vs left
-  do-fits {x} p z = z ∙ told (Fits x) p
+  pub do-fits : {p x : ℕ} {r : Ending} → c ≡ Fits p x → r ≡ late left → r ≡ wideDo (structAt bs k .operands) vs left
+  do-fits {p} {x} e z = z ∙ told (Fits p x) e
 
-  pub do-overflows : {x y : ℕ} → c ≡ Overflows x y → Unfinished ≡ wideDo (structAt bs k .operands) vs left
-  do-overflows {x} {y} p = told (Overflows x y) p
+  pub do-overflows : c ≡ Overflows → Unfinished ≡ wideDo (structAt bs k .operands) vs left
+  do-overflows p = told Overflows p
 
 pub kind-arm : (bs vs : List ℕ) (k left : ℕ) (o : Operands) {kd K : LineKind} {r : Ending} → kd ≡ lineKindAt bs k → kd ≡ K → r ≡ wideKind K o vs left → r ≡ wideKind (lineKindAt bs k) o vs left
 kind-arm bs vs k left o e p z = z ∙ ap (λ x. wideKind x o vs left) (sym p ∙ e)

@@ -31,8 +31,8 @@ fn before_do(lines: &[u8], line: u16, variables: &[u16; VARIABLES], left: u16) -
     let l = read::line_at(lines, line);
     let c = compute(l.operands, variables);
     match c {
-        Computed::Fits(_) => alarm_late(left),
-        Computed::Overflows(_, _) => Ending::Unfinished,
+        Computed::Fits(_, _) => alarm_late(left),
+        Computed::Overflows => Ending::Unfinished,
     }
 }
 

@@ -17,10 +17,10 @@ pub record Arithmetic : Type 0 where
   pub sum : doneOn (on01 2 0) (variables 40000 25535 3 4) ≡ variables 65535 25535 3 4
   pub difference : doneOn (on01 3 0) (variables 7 7 3 4) ≡ variables 0 7 3 4
   -- the last that fits, and the first that does not
-  pub sum-fits : computed (on01 2 0) (variables 40000 25535 3 4) ≡ Fits 65535
-  pub sum-overflows : computed (on01 2 0) (variables 40000 25536 3 4) ≡ Overflows 40000 25536
-  pub difference-fits : computed (on01 3 0) (variables 7 7 3 4) ≡ Fits 0
-  pub difference-overflows : computed (on01 3 0) (variables 6 7 3 4) ≡ Overflows 6 7
+  pub sum-fits : computed (on01 2 0) (variables 40000 25535 3 4) ≡ Fits 0 65535
+  pub sum-overflows : computed (on01 2 0) (variables 40000 25536 3 4) ≡ Overflows
+  pub difference-fits : computed (on01 3 0) (variables 7 7 3 4) ≡ Fits 0 0
+  pub difference-overflows : computed (on01 3 0) (variables 6 7 3 4) ≡ Overflows
   -- which leaves the variables
   pub sum-changes-nothing : doneOn (on01 2 0) (variables 40000 25536 3 4) ≡ variables 40000 25536 3 4
   pub difference-changes-nothing : doneOn (on01 3 0) (variables 6 7 3 4) ≡ variables 6 7 3 4

@@ -139,31 +139,31 @@ module _ (bs : List ℕ) (a : verdictOf bs ≡ Accepted) (p : Parts) (v : own.Fi
   abbrev held : ℕ
   held = variable (p .vars) (operandsAt t i .p)
 
-  abbrev done : (x row : ℕ) → (trace : List ℕ) → Turn (Unit {0})
-  done x j tr =
+  abbrev done : (to x row : ℕ) → (trace : List ℕ) → Turn (Unit {0})
+  done to x j tr =
       on (record {
         running = frame (p .registers .function) j tt;
         callers = framesOf (p .resumes) (p .functions) (p .registers .depth);
         last = tt;
-        vars = set (p .vars) (operandsAt t i .p) x;
+        vars = set (p .vars) to x;
         trace = tr;
       })
 
   abbrev turned : Computed → Turn (Unit {0})
-  turned (Fits x) = done x (suc i) (take (p .registers .traced) (p .slots) ++ (i ∷ []))
-  turned (Overflows x y) = ends (Overflow i held) (stateOf p)
+  turned (Fits to x) = done to x (suc i) (take (p .registers .traced) (p .slots) ++ (i ∷ []))
+  turned Overflows = ends (Overflow i held) (stateOf p)
 
   turned-is : (c : Computed) → computed (operandsAt t i) (p .vars) ≡ c → rowStep t i (openAt t i) Do (stateOf p) ≡ turned c
   unfolding rowStep
-  turned-is (Fits x) e = rw e
-  turned-is (Overflows x y) e = rw e
+  turned-is (Fits to x) e = rw e
+  turned-is Overflows e = rw e
 
   does-by : p .registers .traced < length (p .slots) → kindAt t i ≡ Do → (c : Computed) → Steps bs p (coded c) (turned c)
-  does-by h e (Overflows x y) = stops (Overflow i held) (overflow-ends i held) refl
-  does-by h e (Fits x) =
+  does-by h e Overflows = stops (Overflow i held) (overflow-ends i held) refl
+  does-by h e (Fits to x) =
       record {
-        turn = ap (λ j. done x j (take (p .registers .traced + 1) (set (p .slots) (p .registers .traced) i))) (add-one i)
-            ∙ ap (done x (suc i))
+        turn = ap (λ j. done to x j (take (p .registers .traced + 1) (set (p .slots) (p .registers .traced) i))) (add-one i)
+            ∙ ap (done to x (suc i))
             (ap (λ n. take n (set (p .slots) (p .registers .traced) i)) (add-one (p .registers .traced)) ∙ take-suc-set (p .slots) (p .registers .traced) i h);
         next = λ k z. record {
           deep = v .deep;

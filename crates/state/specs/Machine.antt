@@ -57,8 +57,8 @@ done x vs tr = record { to = x; vars = vs; slots = tr }
 
 -- variable p changes, and the row goes into the first slot past the trace; or nothing changes
 abbrev pub didBy : Computed → (p row : ℕ) → Registers → (vars slots : List ℕ) → Done
-didBy (Fits x) p row h vs tr = done (moved (Went (h .at + 1)) (tracedOf h)) (set vs p x) (set tr (h .traced) row)
-didBy (Overflows x y) p row h vs tr = done (moved (Overflow row (variable vs p)) h) vs tr
+didBy (Fits to x) p row h vs tr = done (moved (Went (h .at + 1)) (tracedOf h)) (set vs to x) (set tr (h .traced) row)
+didBy Overflows p row h vs tr = done (moved (Overflow row (variable vs p)) h) vs tr
 
 unfoldable pub didOf : Operands → (row : ℕ) → Registers → (vars slots : List ℕ) → Done
 didOf o row h vs tr = didBy (computed o vs) (o .p) row h vs tr

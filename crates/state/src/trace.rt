@@ -25,15 +25,12 @@ pub fn act(
     requires { ⌜ (VariablesIn o) × (h .at < 65535) × (HasSlot h (now trace)) ⌝ }
     ensures { λ r. ⌜ done r (now (variables .exit)) (now (trace .exit)) ≡ didOf o row h (now (variables .entry)) (now (trace .entry)) ⌝ }
 {
-    let p = o.p as usize;
     let c = variables::compute(o, variables);
-    let Computed::Fits(x) = c else {
-        return stay(
-            Step::Overflow(row, variables[p]),
-            standing(h, h.at, h.steps),
-        );
+    let Computed::Fits(p, x) = c else {
+        let held = variables[o.p as usize];
+        return stay(Step::Overflow(row, held), standing(h, h.at, h.steps));
     };
-    variables[p] = x;
+    variables[p as usize] = x;
     let k = h.traced as usize;
     trace[k] = row;
     let at = h.at + 1;

@@ -6,43 +6,43 @@ use rules::computed::Computed;
 use rules::limits::VARIABLES;
 use rules::operands::Operands;
 
-fn sum_of(x: u16, y: u16) -> Computed
-    ensures { λ r. ⌜ r ≡ sum x y ⌝ }
+fn sum_of(p: u16, x: u16, y: u16) -> Computed
+    ensures { λ r. ⌜ r ≡ sum p x y ⌝ }
 {
     if x <= 65535 - y {
-        return Computed::Fits(x + y);
+        return Computed::Fits(p, x + y);
     }
-    Computed::Overflows(x, y)
+    Computed::Overflows
 }
 
-fn difference_of(x: u16, y: u16) -> Computed
-    ensures { λ r. ⌜ r ≡ difference x y ⌝ }
+fn difference_of(p: u16, x: u16, y: u16) -> Computed
+    ensures { λ r. ⌜ r ≡ difference p x y ⌝ }
 {
     if y <= x {
-        return Computed::Fits(x - y);
+        return Computed::Fits(p, x - y);
     }
-    Computed::Overflows(x, y)
+    Computed::Overflows
 }
 
-// What a do gives its variable. All arithmetic on variables is here, for either run.
+// Which variable a do gives which number. All arithmetic on variables is here, for either run.
 pub fn compute(o: Operands, variables: &[u16; VARIABLES]) -> Computed
     requires { ⌜ VariablesIn o ⌝ }
     ensures { λ r. ⌜ r ≡ computed o (now (variables .entry)) ⌝ }
 {
-    let p = o.p as usize;
+    let p = o.p as u16;
     let q = o.q as usize;
     if o.op == 0 {
-        return Computed::Fits(o.n);
+        return Computed::Fits(p, o.n);
     }
     let y = variables[q];
     if o.op == 1 {
-        return Computed::Fits(y);
+        return Computed::Fits(p, y);
     }
-    let x = variables[p];
+    let x = variables[o.p as usize];
     if o.op == 2 {
-        return sum_of(x, y);
+        return sum_of(p, x, y);
     }
-    difference_of(x, y)
+    difference_of(p, x, y)
 }
 
 pub fn holds(o: Operands, variables: &[u16; VARIABLES]) -> bool

@@ -1,7 +1,8 @@
 -- `state::trace::act` meets its contract. Assumes nothing.
 use mathlib.Core.Path.{ap, _∙_}
+use native.Mathlib.Omega.{arith}
 use Rattle.state.specs.Machine.{moved}
-use Rattle.state.proofs.Dos.{did-fits, did-overflows}
+use Rattle.state.proofs.Dos.{fits-own, did-fits, did-overflows}
 use borrow.Author.Needs.{needs}
 use Rattle.state.proofs.trace.act.Statement.{statement}
 use Rattle.state.proofs.trace.act.Tie as tie
@@ -11,31 +12,31 @@ use Rattle.state.proofs.machine.standing.Reads as standing-reads
 use Rattle.state.proofs.machine.stay.Reads as stay-reads
 use Rattle.state.proofs.variables.compute.Reads as compute-reads
 
--- src/trace.rt:28:13
-cast-p : tie.Need-cast-p
-cast-p c = search needs
-
--- src/trace.rt:29:9
+-- src/trace.rt:28:9
 compute-requires : tie.Need-compute-requires
 compute-requires c κs = search needs
 
--- src/trace.rt:30:24
+-- src/trace.rt:29:24
 enum-known-c : tie.Need-enum-known-c
 enum-known-c c = search needs
 
--- src/trace.rt:32:33
+-- src/trace.rt:30:30
 enum-told : tie.Need-enum-told
 enum-told c = search needs
 
--- src/trace.rt:32:33
-mul-t12 : tie.Need-mul-t12
-mul-t12 c = search needs
+-- src/trace.rt:30:30
+cast-held : tie.Need-cast-held
+cast-held c = search needs
 
--- src/trace.rt:32:33
-element-copy-out-t15 : tie.Need-element-copy-out-t15
-element-copy-out-t15 c = search needs
+-- src/trace.rt:30:20
+mul-held : tie.Need-mul-held
+mul-held c = search needs
 
--- src/trace.rt:33:13
+-- src/trace.rt:30:20
+element-copy-out-held : tie.Need-element-copy-out-held
+element-copy-out-held c = search needs
+
+-- src/trace.rt:31:48
 standing-requires : tie.Need-standing-requires
 standing-requires c κs = search needs
 
@@ -45,37 +46,41 @@ stay-requires c κs = search needs
 
 -- src/trace.rt:31:9
 returns : tie.Need-returns
-returns c = did-overflows _ _ _ _ _ (c .before .before .before .before .before .compute .ensures) (c .before .before .before .before .match .keys2) (c .stay .ensures ∙ ap (moved _) (c .before .standing .ensures))
+returns c = did-overflows _ _ _ _ _ (c .before .before .before .before .before .before .compute .ensures) (c .before .before .before .before .before .match .keys2) (c .stay .ensures ∙ ap (moved _) (c .before .standing .ensures))
 
--- src/trace.rt:36:5
+-- src/trace.rt:33:15
+cast-variables : tie.Need-cast-variables
+cast-variables c = search needs
+
+-- src/trace.rt:33:5
 mul-variables : tie.Need-mul-variables
 mul-variables c = search needs
 
--- src/trace.rt:36:5
+-- src/trace.rt:33:5
 element-write-variables : tie.Need-element-write-variables
-element-write-variables c = search needs
+element-write-variables c = omega (arith, fits-own _ _ (c .before .before .before .compute .ensures) (c .before .c .given .1), c .before .before .before .before .before .before .pre .0 .p-in)
 
--- src/trace.rt:37:13
+-- src/trace.rt:34:13
 cast-k : tie.Need-cast-k
 cast-k c = search needs
 
--- src/trace.rt:38:5
+-- src/trace.rt:35:5
 mul-trace : tie.Need-mul-trace
 mul-trace c = search needs
 
--- src/trace.rt:38:5
+-- src/trace.rt:35:5
 slice-write-trace : tie.Need-slice-write-trace
 slice-write-trace c = search needs
 
--- src/trace.rt:39:14
+-- src/trace.rt:36:14
 add-at : tie.Need-add-at
 add-at c = search needs
 
--- src/trace.rt:48:21
-add-t23 : tie.Need-add-t23
-add-t23 c = search needs
+-- src/trace.rt:45:21
+add-t26 : tie.Need-add-t26
+add-t26 c = search needs
 
--- src/trace.rt:40:5
+-- src/trace.rt:37:5
 stay-requires-2 : tie.Need-stay-requires-2
 stay-requires-2 c κs = search needs
 
@@ -91,22 +96,23 @@ pub act-spec : {M : Type 1} → statement M
 act-spec =
     tie.close
     (tie.spec
-    cast-p
     compute-requires
     enum-known-c
     enum-told
-    mul-t12
-    element-copy-out-t15
+    cast-held
+    mul-held
+    element-copy-out-held
     standing-requires
     stay-requires
     returns
+    cast-variables
     mul-variables
     element-write-variables
     cast-k
     mul-trace
     slice-write-trace
     add-at
-    add-t23
+    add-t26
     stay-requires-2
     same-length
     returns-2)

@@ -35,6 +35,10 @@ returns-2 : tie.Need-returns-2
 unfolding computed
 returns-2 c = rw (ne-eqb _ _ (c .before .before .before .if1 .left), eq-eqb _ _ (c .if2 .taken))
 
+-- src/variables.rt:41:23
+cast-x : tie.Need-cast-x
+cast-x c = search needs
+
 -- src/variables.rt:41:13
 mul-x : tie.Need-mul-x
 mul-x c = search needs
@@ -50,7 +54,7 @@ sum-of-requires c κs = search needs
 -- src/variables.rt:43:9
 returns-3 : tie.Need-returns-3
 unfolding computed
-returns-3 c = rw (c .sum-of .ensures, ne-eqb _ _ (c .before .before .before .before .before .before .before .if1 .left), ne-eqb _ _ (c .before .before .before .before .if2 .left), eq-eqb _ _ (c .before .if3 .taken))
+returns-3 c = rw (c .sum-of .ensures, ne-eqb _ _ (c .before .before .before .before .before .before .before .before .if1 .left), ne-eqb _ _ (c .before .before .before .before .before .if2 .left), eq-eqb _ _ (c .before .if3 .taken))
 
 -- src/variables.rt:45:5
 difference-of-requires : tie.Need-difference-of-requires
@@ -59,7 +63,7 @@ difference-of-requires c κs = search needs
 -- src/variables.rt:28:1
 returns-4 : tie.Need-returns-4
 unfolding computed
-returns-4 c = rw (c .difference-of .ensures, ne-eqb _ _ (c .before .before .before .before .before .before .before .if1 .left), ne-eqb _ _ (c .before .before .before .before .if2 .left), ne-eqb _ _ (c .before .if3 .left))
+returns-4 c = rw (c .difference-of .ensures, ne-eqb _ _ (c .before .before .before .before .before .before .before .before .if1 .left), ne-eqb _ _ (c .before .before .before .before .before .if2 .left), ne-eqb _ _ (c .before .if3 .left))
 
 pub compute-spec : {M : Type 1} → statement M
 compute-spec =
@@ -71,6 +75,7 @@ compute-spec =
     mul-y
     element-copy-out-y
     returns-2
+    cast-x
     mul-x
     element-copy-out-x
     sum-of-requires

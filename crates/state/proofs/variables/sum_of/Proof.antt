@@ -13,8 +13,8 @@ sub-if1 : tie.Need-sub-if1
 sub-if1 c = search needs
 
 -- src/variables.rt:13:31
-add-t5 : tie.Need-add-t5
-add-t5 c = search needs
+add-t6 : tie.Need-add-t6
+add-t6 c = search needs
 
 -- src/variables.rt:13:9
 returns : tie.Need-returns
@@ -25,4 +25,4 @@ returns-2 : tie.Need-returns-2
 returns-2 c = rw (lt-leb (c .before .args .x + c .before .args .y) 65535 (omega (arith, c .if1 .left)))
 
 pub sum-of-spec : {M : Type 1} → statement M
-sum-of-spec = tie.close (tie.spec sub-if1 add-t5 returns returns-2)
+sum-of-spec = tie.close (tie.spec sub-if1 add-t6 returns returns-2)
