@@ -54,11 +54,11 @@ record Finishes {H : Type 0} {t : Table} {F : Form H} (S : Settles t F) (b k d j
 abbrev Goal : {H : Type 0} {t : Table} {F : Form H} → Settles t F → ℕ → Type 0
 Goal {H} {t} S b = (s : Source) (d k j x : ℕ) (h : State H) → Related S d s h → outcomeOf ((run (sourceMachine t) b k s) .step) ≡ 1 → Finishes S b k d j x s h
 
-both-step : {H : Type 0} {t : Table} {F : Form H} (S : Settles t F) (b d k j x : ℕ) (s : Source) (h : State H) → Goal S b → Both S (d + extraAt t s) (sourceStep t s) (stepOf F (harden t) h)
+both-step : {H : Type 0} {t : Table} {F : Form H} (S : Settles t F) (b d k j x : ℕ) (s : Source) (h : State H) → Goal S b → Both S (d + extraAt t s) s (stepOf F (harden t) h)
     → outcomeOf ((run (sourceMachine t) (suc b) k s) .step) ≡ 1 → Finishes S (suc b) k d j x s h
 unfolding run tally outcomeOf
-both-step {H} {t} {F} S b d k j x s h ih (both-on s′ h′ es eh r) o =
-    let f = ih s′ (d + extraAt t s) (suc k) (suc j) x h′ r (rw es at o) in
+both-step {H} {t} {F} S b d k j x s h ih (both-on s′ h′ es eh a) o =
+    let f = ih s′ (d + extraAt t s) (suc k) (suc j) x h′ (a .related) (rw es at o) in
     let kd = kindAt t (s .running .at) in
     let e : suc (f .n) + (cond (isDo kd) 1 0 + dos t b (suc k) s′) + (cond (isCall kd) 1 0 + calls t b (suc k) s′) + d + x
     ≡ suc (f .n + dos t b (suc k) s′ + calls t b (suc k) s′ + (d + extraAt t s) + x) = omega (arith, extra-is kd) in

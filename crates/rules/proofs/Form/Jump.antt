@@ -36,7 +36,7 @@ pub onward : (t : Table) → Proper t → {H : Type 0} {F : Form H} (S : Settles
 onward t ok {H = H} {F = F} S h r = by (next t ok S (r .owed) (r .source) h (r .related))
   where
     by : Next S (r .owed) (r .source) h → Onward F (harden t) (Goes S) h
-    by (moves q (both-on s′ h′ es eh r′)) = goes-on h′ eh (record { owed = _; source = s′; related = r′ })
+    by (moves q (both-on s′ h′ es eh a)) = goes-on h′ eh (record { owed = _; source = s′; related = a .related })
     by (moves q (both-end z s′ h′ es eh sm which)) = stops z h′ eh (end-not-zero _ z which)
     by (waits q h′ d′ eh r′ de) = goes-on h′ eh (record { owed = d′; source = r .source; related = r′ })
 

@@ -2,6 +2,7 @@
 -- the tick or back that follows; what the form settles there is kept. Assumes that the table is accepted, where it says so.
 use mathlib.Core.Logic.{_≢_}
 use mathlib.Core.Path.{_≡_, refl, ap, _∙_, subst}
+use mathlib.Core.Bool.{Bool, true, false}
 use mathlib.Core.List.{List, [], _∷_}
 use Prim.Native.Nat.{ℕ, suc, _+_, _-_, _<_}
 use native.Mathlib.Omega.{arith}
@@ -21,6 +22,7 @@ use Rattle.rules.specs.State.{Frame, State, frame}
 use Rattle.rules.specs.Run.{Turn, on, ends, outcomeOf}
 use Rattle.rules.specs.Source.{Source, rowStep, sourceStep}
 use Rattle.rules.specs.Form.{Form, lineStepOf, stepOf}
+use Rattle.rules.proofs.Logic.{clash}
 use Rattle.rules.proofs.Accepted.{Proper}
 use Rattle.rules.proofs.Harden.{line-at}
 use Rattle.rules.proofs.Function.{InFunction}
@@ -84,6 +86,12 @@ due (ready a b c) = 0
 due (ticking e a b c) = 1
 due (backing e a b c l) = 1
 
+-- the tick of row i is due
+abbrev pub tickDue : {H : Type 0} {t : Table} {F : Form H} {S : Settles t F} {i j k w last u : ℕ} → Mode S i j k w last u → Bool
+tickDue (ready a b c) = false
+tickDue (ticking e a b c) = true
+tickDue (backing e a b c l) = false
+
 -- d more ticks and backs are owed: the one that is due, and a back for each caller that waits
 pub record Related {H : Type 0} {t : Table} {F : Form H} (S : Settles t F) (d : ℕ) (s : Source) (h : State H) : Type 0 where
   pub n : ℕ
@@ -104,6 +112,11 @@ pub record Related {H : Type 0} {t : Table} {F : Form H} (S : Settles t F) (d : 
   pub mode : Mode S i j k w (S .seen l) (value t (f .region) i)
   pub owes : d ≡ length rest + due mode
 
+-- where a step of the source from row x leads: a tick is due only right after its do
+pub record Arrives {H : Type 0} {t : Table} {F : Form H} (S : Settles t F) (d x : ℕ) (s : Source) (h : State H) : Type 0 where
+  pub related : Related S d s h
+  pub after-do : tickDue (related .mode) ≡ true → related .i ≡ x
+
 -- an end leaves the same variables, the same trace and the same open functions
 pub record Same {H : Type 0} {t : Table} {F : Form H} (S : Settles t F) (s : Source) (h : State H) : Type 0 where
   pub n : ℕ
@@ -122,12 +135,13 @@ pub data SharedEnd (d : ℕ) (o : Step) : Type 0 where
   finish : o ≡ Finished → d ≡ 0 → SharedEnd d o
   early : outcomeOf o ≢ 0 → outcomeOf o ≢ 1 → outcomeOf o ≢ 2 → SharedEnd d o
 
-pub data Both {H : Type 0} {t : Table} {F : Form H} (S : Settles t F) (d : ℕ) (a : Turn (Unit {0})) (b : Turn H) : Type 0 where
-  both-on : (s : Source) (h : State H) → a ≡ on s → b ≡ on h → Related S d s h → Both S d a b
-  both-end : (o : Step) (s : Source) (h : State H) → a ≡ ends o s → b ≡ ends o h → Same S s h → SharedEnd d o → Both S d a b
+-- the step of the source from g, and a step b of the hardened run
+pub data Both {H : Type 0} {t : Table} {F : Form H} (S : Settles t F) (d : ℕ) (g : Source) (b : Turn H) : Type 0 where
+  both-on : (s : Source) (h : State H) → sourceStep t g ≡ on s → b ≡ on h → Arrives S d (g .running .at) s h → Both S d g b
+  both-end : (o : Step) (s : Source) (h : State H) → sourceStep t g ≡ ends o s → b ≡ ends o h → Same S s h → SharedEnd d o → Both S d g b
 
-pub owing : {H : Type 0} {t : Table} {F : Form H} {S : Settles t F} {d e : ℕ} {a : Turn (Unit {0})} {b : Turn H} → d ≡ e → Both S d a b → Both S e a b
-owing {H} {t} {F} {S} {d} {e} {a} {b} q x = subst (λ y. Both S y a b) q x
+pub owing : {H : Type 0} {t : Table} {F : Form H} {S : Settles t F} {d e : ℕ} {g : Source} {b : Turn H} → d ≡ e → Both S d g b → Both S e g b
+owing {H} {t} {F} {S} {d} {e} {g} {b} q x = subst (λ y. Both S y g b) q x
 
 -- a do is followed by a tick, a call by a back
 abbrev pub extra : Kind → ℕ
@@ -182,6 +196,13 @@ ready-at S {n} {j} {k} {w} {g} {gs} m rest lk a e l vs tr c p =
       mode = ready refl a e;
       owes = omega arith;
     }
+
+-- the same, after a step from row x
+pub ready-after : {H : Type 0} {t : Table} {F : Form H} (S : Settles t F) (x : ℕ) {n j k w : ℕ} {g : Open} {gs : List Open} → InFunction t n j g gs → (rest : List Back) → Linked t n rest → k ≡ lineOf t j
+    → w ≡ value t (g .region) j → (l : H) (vs tr : List ℕ) → (c : H) → c ≡ S .at k (g ∷ gs) w
+    → Arrives S (length rest) x (src n j rest vs tr) (hard n k c (lineBacks S rest) l vs tr)
+unfolding ready-at
+ready-after S x m rest lk a e l vs tr c p = record { related = ready-at S m rest lk a e l vs tr c p; after-do = λ q. clash {b = false} q refl }
 
 -- a line of the function that is known
 pub step-at : {H : Type 0} {t : Table} {F : Form H} (S : Settles t F) (n k : ℕ) (ℓ : Line) → k < finishOf (harden t) n → lineAt (harden t) k ≡ ℓ → (c : H) (rest : List (Frame H)) (l : H) (vs tr : List ℕ)

@@ -37,7 +37,7 @@ use Rattle.rules.proofs.Form.StepCall.{step-call, step-return, step-tic
 
 -- ---- every row
 step-ready : (t : Table) (ok : Proper t) {H : Type 0} {F : Form H} (S : Settles t F) (n i : ℕ) (f : Open) (fs : List Open) → InFunction t n i f fs → (rest : List Back) → Linked t n rest → (l : H) (vs tr : List ℕ)
-    → (k : Kind) → kindAt t i ≡ k → Both S (length rest + extra k) (sourceStep t (src n i rest vs tr)) (stepOf F (harden t) (here S n i f fs rest l vs tr))
+    → (k : Kind) → kindAt t i ≡ k → Both S (length rest + extra k) (src n i rest vs tr) (stepOf F (harden t) (here S n i f fs rest l vs tr))
 unfolding misplacedIn
 step-ready t ok S n i f fs m rest lk l vs tr Function e = absurd (not-silent t ok i (m .within) (m .open-is) (subst Silent (sym e) a-function))
 step-ready t ok S n i f fs m rest lk l vs tr Do e = step-do t ok S n i f fs m rest lk l vs tr e
@@ -94,7 +94,7 @@ abbrev pub extraAt : Table → Source → ℕ
 extraAt t s = extra (kindAt t (s .running .at))
 
 pub data Next {H : Type 0} {t : Table} {F : Form H} (S : Settles t F) (d : ℕ) (s : Source) (h : State H) : Type 0 where
-  moves : quietAt (harden t) h ≡ false → Both S (d + extraAt t s) (sourceStep t s) (stepOf F (harden t) h) → Next S d s h
+  moves : quietAt (harden t) h ≡ false → Both S (d + extraAt t s) s (stepOf F (harden t) h) → Next S d s h
   waits : quietAt (harden t) h ≡ true → (h′ : State H) (d′ : ℕ) → stepOf F (harden t) h ≡ on h′ → Related S d′ s h′ → d ≡ suc d′ → Next S d s h
 
 next-by : (t : Table) → Proper t → {H : Type 0} {F : Form H} (S : Settles t F) → (n i j k w : ℕ) (l : H) (rest : List Back) (vs tr : List ℕ) (f : Open) (fs : List Open) → InFunction t n i f fs → Linked t n rest

@@ -20,6 +20,7 @@ use Rattle.rules.specs.State.{Frame, State, frame}
 use Rattle.rules.specs.Run.{on, ends, outcomeOf}
 use Rattle.rules.specs.Source.{returnRow, endRow, rowStep, sourceStep}
 use Rattle.rules.specs.Form.{Form, must, leavesOf, turnBy, lineStepOf, stepOf}
+use Rattle.rules.proofs.Logic.{clash}
 use Rattle.rules.proofs.Accepted.{Proper}
 use Rattle.rules.proofs.Scan.{open-next}
 use Rattle.rules.proofs.Value.{value-next, fresh-value}
@@ -29,7 +30,7 @@ use Rattle.rules.proofs.Place.{callee}
 use Rattle.rules.proofs.Words.{word-at}
 use Rattle.rules.proofs.Parts.{body-below}
 use Rattle.rules.proofs.Form.Settles.{Settles, bodyPart, is-tick, is-call}
-use Rattle.rules.proofs.Form.Relation.{Back, waiting, sourceBacks, lineBacks, backs-length, src, hard, here, Linked, ready, backing, Related, SharedEnd, finish, early, Both, both-on, both-end, owing, source-step, line-step, ready-at}
+use Rattle.rules.proofs.Form.Relation.{Back, waiting, sourceBacks, lineBacks, backs-length, src, hard, here, Linked, ready, backing, Related, Arrives, SharedEnd, finish, early, Both, both-on, both-end, owing, source-step, line-step, ready-at}
 
 -- ---- call
 call-line : {H : Type 0} (F : Form H) (ls : List Line) (n k : ℕ) (c : H) (rest : List (Frame H)) (l : H) (vs tr : List ℕ) (r e a b go : ℕ) → F .guard k (callLine r e a b go) .passes c l ≡ true
@@ -62,34 +63,37 @@ module _ (t : Table) (ok : Proper t) {H : Type 0} {F : Form H} (S : Settles t F)
   waits : left ≡ waiting S i
   waits = S .steady-moves _ f fs _ _ _ (body-below t m) (omega (arith, word-at t ok m)) (omega (arith, word-at t ok m)) (is-call _ _) ∙ ap (λ s. S .at (suc (lineOf t i)) s (valueIn t i s + 1)) (sym (m .open-is))
 
-  opened : Related S (suc (length rest)) (src called (suc (functionRow t called)) (record { function = n; row = i } ∷ rest) vs tr)
+  opened : Arrives S (suc (length rest)) i (src called (suc (functionRow t called)) (record { function = n; row = i } ∷ rest) vs tr)
       (hard (functionAt (harden t) (lineOf t (suc (functionRow t called)))) (lineOf t (suc (functionRow t called))) entered
       (frame n (suc (lineOf t i)) left ∷ lineBacks S rest) l vs tr)
   unfolding known
   opened =
       record {
-        n = called;
-        i = suc (functionRow t called);
-        j = suc (functionRow t called);
-        k = lineOf t (suc (functionRow t called));
-        w = base t (regions t (functionRow t called));
-        l = l;
-        rest = record { function = n; row = i } ∷ rest;
-        vs = vs;
-        tr = tr;
-        f = bodyPart t called;
-        fs = [];
-        s-is = refl;
-        h-is = ap (λ x. hard x (lineOf t (suc (functionRow t called))) entered (frame n (suc (lineOf t i)) left ∷ lineBacks S rest) l vs tr) (callee t ok called known)
-            ∙ ap (λ x. hard called (lineOf t (suc (functionRow t called))) entered (frame n (suc (lineOf t i)) x ∷ lineBacks S rest) l vs tr) waits
-            ∙ ap (λ x. hard called (lineOf t (suc (functionRow t called))) x (lineBacks S (record { function = n; row = i } ∷ rest)) l vs tr) (S .call-opens _ called _ _ _);
-        in-function = entry t ok called known;
-        linked = (record { calls = e; callee = refl; top = f; others = fs; in-function = m }, lk);
-        mode = ready refl refl (sym (fresh-value t (functionRow t called)));
-        owes = omega arith;
+        related = record {
+          n = called;
+          i = suc (functionRow t called);
+          j = suc (functionRow t called);
+          k = lineOf t (suc (functionRow t called));
+          w = base t (regions t (functionRow t called));
+          l = l;
+          rest = record { function = n; row = i } ∷ rest;
+          vs = vs;
+          tr = tr;
+          f = bodyPart t called;
+          fs = [];
+          s-is = refl;
+          h-is = ap (λ x. hard x (lineOf t (suc (functionRow t called))) entered (frame n (suc (lineOf t i)) left ∷ lineBacks S rest) l vs tr) (callee t ok called known)
+              ∙ ap (λ x. hard called (lineOf t (suc (functionRow t called))) entered (frame n (suc (lineOf t i)) x ∷ lineBacks S rest) l vs tr) waits
+              ∙ ap (λ x. hard called (lineOf t (suc (functionRow t called))) x (lineBacks S (record { function = n; row = i } ∷ rest)) l vs tr) (S .call-opens _ called _ _ _);
+          in-function = entry t ok called known;
+          linked = (record { calls = e; callee = refl; top = f; others = fs; in-function = m }, lk);
+          mode = ready refl refl (sym (fresh-value t (functionRow t called)));
+          owes = omega arith;
+        };
+        after-do = λ q. clash {b = false} q refl;
       }
 
-  pub step-call : Both S (length rest + 1) (sourceStep t (src n i rest vs tr)) (stepOf F (harden t) (here S n i f fs rest l vs tr))
+  pub step-call : Both S (length rest + 1) (src n i rest vs tr) (stepOf F (harden t) (here S n i f fs rest l vs tr))
   unfolding rowStep rowLines
   step-call = by (ltb (suc (length (sourceBacks rest))) maxOpen) refl
     where
@@ -104,7 +108,7 @@ module _ (t : Table) (ok : Proper t) {H : Type 0} {F : Form H} (S : Settles t F)
       room : (y : Bool) → ltb (suc (length (sourceBacks rest))) maxOpen ≡ y → ltb (suc (length (lineBacks S rest))) maxOpen ≡ y
       room y ey = ap (λ x. ltb (suc x) maxOpen) (backs-length S rest) ∙ ey
 
-      by : (y : Bool) → ltb (suc (length (sourceBacks rest))) maxOpen ≡ y → Both S (length rest + 1) (sourceStep t (src n i rest vs tr)) (stepOf F (harden t) (here S n i f fs rest l vs tr))
+      by : (y : Bool) → ltb (suc (length (sourceBacks rest))) maxOpen ≡ y → Both S (length rest + 1) (src n i rest vs tr) (stepOf F (harden t) (here S n i f fs rest l vs tr))
       by true ey = owing (omega arith) (both-on _ _ (row-is true ey)
           (line-is ∙ call-line F (harden t) n _ _ (lineBacks S rest) l vs tr _ _ _ _ _ (S .steady-passes _ f fs _ _ _ _ (body-below t m) (is-call _ _)) true (room true ey)) opened)
       by false ey = both-end (TooManyOpen maxOpen) _ _ (row-is false ey)
@@ -131,7 +135,7 @@ module _ (t : Table) (ok : Proper t) {H : Type 0} {F : Form H} (S : Settles t F)
   unfolding rowStep
   row-is rest = source-step t n i rest vs tr e (m .open-is) ∙ ap (λ y. endRow i (f ∷ []) y (src n i rest vs tr)) w
 
-  pub step-return : (rest : List Back) → Linked t n rest → Both S (length rest) (sourceStep t (src n i rest vs tr)) (stepOf F (harden t) (here S n i f [] rest l vs tr))
+  pub step-return : (rest : List Back) → Linked t n rest → Both S (length rest) (src n i rest vs tr) (stepOf F (harden t) (here S n i f [] rest l vs tr))
   step-return [] lk = both-end Finished _ _ (row-is [])
       (line-is [] ∙ ap (λ y. must y (hard n (lineOf t i) ended [] l vs tr) (ends Finished (hard n (lineOf t i) ended [] l vs tr)))
       (S .host-agrees (zero-known lk) ended (S .ret-ends m e ∙ ap (S .end) lk)))
@@ -141,23 +145,26 @@ module _ (t : Table) (ok : Proper t) {H : Type 0} {F : Form H} (S : Settles t F)
       zero-known q = omega (arith, m .known)
   step-return (b ∷ bs) lk = both-on _ _ (row-is (b ∷ bs)) (line-is (b ∷ bs))
       (record {
-        n = b .function;
-        i = b .row;
-        j = suc (b .row);
-        k = suc (lineOf t (b .row));
-        w = value t (lk .0 .top .region) (b .row) + 1;
-        l = ended;
-        rest = bs;
-        vs = vs;
-        tr = tr;
-        f = lk .0 .top;
-        fs = lk .0 .others;
-        s-is = refl;
-        h-is = ap (λ s. hard (b .function) (suc (lineOf t (b .row))) (S .at (suc (lineOf t (b .row))) s (valueIn t (b .row) s + 1)) (lineBacks S bs) ended vs tr) (lk .0 .in-function .open-is);
-        in-function = lk .0 .in-function;
-        linked = lk .1;
-        mode = backing (lk .0 .calls) refl refl refl (S .ret-ends m e ∙ ap (S .end) (sym (lk .0 .callee)));
-        owes = omega arith;
+        related = record {
+          n = b .function;
+          i = b .row;
+          j = suc (b .row);
+          k = suc (lineOf t (b .row));
+          w = value t (lk .0 .top .region) (b .row) + 1;
+          l = ended;
+          rest = bs;
+          vs = vs;
+          tr = tr;
+          f = lk .0 .top;
+          fs = lk .0 .others;
+          s-is = refl;
+          h-is = ap (λ s. hard (b .function) (suc (lineOf t (b .row))) (S .at (suc (lineOf t (b .row))) s (valueIn t (b .row) s + 1)) (lineBacks S bs) ended vs tr) (lk .0 .in-function .open-is);
+          in-function = lk .0 .in-function;
+          linked = lk .1;
+          mode = backing (lk .0 .calls) refl refl refl (S .ret-ends m e ∙ ap (S .end) (sym (lk .0 .callee)));
+          owes = omega arith;
+        };
+        after-do = λ q. clash {b = false} q refl;
       })
 
 -- ---- ticks and backs

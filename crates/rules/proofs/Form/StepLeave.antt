@@ -25,7 +25,7 @@ use Rattle.rules.proofs.Function.{isBody, part-takes, InFunction, move-
 use Rattle.rules.proofs.Words.{word-of, region-in}
 use Rattle.rules.proofs.Form.Settles.{Settles}
 use Rattle.rules.proofs.Parts.{holding}
-use Rattle.rules.proofs.Form.Relation.{Back, src, hard, here, Linked, Both, both-on, source-step, line-step, ready-at}
+use Rattle.rules.proofs.Form.Relation.{Back, src, hard, here, Linked, Both, both-on, source-step, line-step, ready-after}
 
 leave-line : {H : Type 0} (F : Form H) (ls : List Line) (n k : ℕ) (c : H) (rest : List (Frame H)) (l : H) (vs tr : List ℕ) (r s e a b go : ℕ) → F .guard k (leaveLine r s e a b go) .passes c l ≡ true
     → lineStepOf F ls k (leaveLine r s e a b go) (hard n k c rest l vs tr) ≡ on (hard n go (F .guard k (leaveLine r s e a b go) .moves true c) rest l vs tr)
@@ -34,7 +34,7 @@ leave-line F ls n k c rest l vs tr r s e a b go h = rw h
 
 module _ (t : Table) (ok : Proper t) {H : Type 0} {F : Form H} (S : Settles t F) (n i : ℕ) (f h : Open) (hs : List Open) (m : InFunction t n i f (h ∷ hs)) (rest : List Back) (lk : Linked t n rest) (l : H) (vs tr : List ℕ) where
   abbrev Step : Type 0
-  Step = Both S (length rest) (sourceStep t (src n i rest vs tr)) (stepOf F (harden t) (here S n i f (h ∷ hs) rest l vs tr))
+  Step = Both S (length rest) (src n i rest vs tr) (stepOf F (harden t) (here S n i f (h ∷ hs) rest l vs tr))
 
   part : Held t i f (h ∷ hs)
   part = (subst (AllHeld t i) (m .open-is) (held t i)) .0
@@ -57,7 +57,7 @@ module _ (t : Table) (ok : Proper t) {H : Type 0} {F : Form H} (S : Settles t F)
       both-on _ _ (source-step t n i rest vs tr e (m .open-is) ∙ sr)
       (line-step t ok S m (lineOf t i) 0 _ (omega arith) (rw e (omega arith)) (ap (λ x. lineAt (rowLines t i (f ∷ h ∷ hs) x) 0) e ∙ ln) _ _ l vs tr
       ∙ leave-line F (harden t) n _ _ _ l vs tr _ _ _ _ _ _ (S .leave-passes _ f h hs _ _ _ _ zh lower))
-      (ready-at S (move-to t ok m j jl q refl) rest lk refl av l vs tr _ (S .leave-moves _ f h hs _ a _ zh lower
+      (ready-after S i (move-to t ok m j jl q refl) rest lk refl av l vs tr _ (S .leave-moves _ f h hs _ a _ zh lower
       (omega (arith, word-of t ok (h .region) (f .opener) h-in (omega (arith, part .before, m .within)))) (omega (arith, av, word-of t ok (h .region) j h-in jl))))
 
   pub step-else : kindAt t i ≡ Else → Step

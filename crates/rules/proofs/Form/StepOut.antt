@@ -27,7 +27,7 @@ use Rattle.rules.proofs.Function.{held-takes, Formed, home, InFunction,
 use Rattle.rules.proofs.Words.{word-of, region-in}
 use Rattle.rules.proofs.Form.Settles.{Settles}
 use Rattle.rules.proofs.Parts.{loop-in, body-below}
-use Rattle.rules.proofs.Form.Relation.{Back, src, hard, here, Linked, Both, both-on, source-step, line-step, ready-at}
+use Rattle.rules.proofs.Form.Relation.{Back, src, hard, here, Linked, Both, both-on, source-step, line-step, ready-after}
 
 out-line : {H : Type 0} (F : Form H) (ls : List Line) (n k : ℕ) (c : H) (rest : List (Frame H)) (l : H) (vs tr : List ℕ) (r s t e a go : ℕ) → F .guard k (outLine r s t e a go) .passes c l ≡ true
     → lineStepOf F ls k (outLine r s t e a go) (hard n k c rest l vs tr) ≡ on (hard n go (F .guard k (outLine r s t e a go) .moves true c) rest l vs tr)
@@ -65,7 +65,7 @@ whole-stack t ok {n} {i} m =
 
 module _ (t : Table) (ok : Proper t) {H : Type 0} {F : Form H} (S : Settles t F) (n i : ℕ) (f : Open) (fs : List Open) (m : InFunction t n i f fs) (rest : List Back) (lk : Linked t n rest) (l : H) (vs tr : List ℕ) where
   abbrev Step : Type 0
-  Step = Both S (length rest) (sourceStep t (src n i rest vs tr)) (stepOf F (harden t) (here S n i f fs rest l vs tr))
+  Step = Both S (length rest) (src n i rest vs tr) (stepOf F (harden t) (here S n i f fs rest l vs tr))
 
   -- row i leaves the loop body lf for row j, where the region around the loop has value a
   out-to : (k : Kind) → ((kindAt t i ≡ Break) ⊎ (kindAt t i ≡ Continue)) → (lf h : Open) (hs : List Open) (j a : ℕ) → kindAt t i ≡ k → fromLoop (f ∷ fs) ≡ lf ∷ h ∷ hs → Stack t i (bodyRegion (f ∷ fs)) (home (f ∷ fs)) (lf ∷ h ∷ hs)
@@ -79,7 +79,7 @@ module _ (t : Table) (ok : Proper t) {H : Type 0} {F : Form H} (S : Settles t F)
       both-on _ _ (source-step t n i rest vs tr e (m .open-is) ∙ sr)
       (line-step t ok S m (lineOf t i) 0 _ (omega arith) (rw e (omega arith)) (ap (λ x. lineAt (rowLines t i (f ∷ fs) x) 0) e ∙ ln) _ _ l vs tr
       ∙ out-line F (harden t) n _ _ _ l vs tr _ _ _ _ _ _ (S .out-passes m out _ _ _ _ _ (body-below t m)))
-      (ready-at S (move-to t ok m j jl q (p .same-home)) rest lk refl av l vs tr _
+      (ready-after S i (move-to t ok m j jl q (p .same-home)) rest lk refl av l vs tr _
       (S .out-moves m out lf h hs a _ fl ch zh (p .same-body)
       (omega (arith, av, word-of t ok (h .region) j (omega (arith, il .low, il .rest .0, region-in t m)) jl))))
 

@@ -29,7 +29,7 @@ use Rattle.rules.proofs.Function.{InFunction, move-to}
 use Rattle.rules.proofs.Words.{word-base, word-at}
 use Rattle.rules.proofs.Parts.{body-below}
 use Rattle.rules.proofs.Form.Settles.{Settles}
-use Rattle.rules.proofs.Form.Relation.{Back, lineBacks, src, hard, here, Linked, ticking, Related, SharedEnd, early, Both, both-on, both-end, source-step, line-step, ready-at}
+use Rattle.rules.proofs.Form.Relation.{Back, lineBacks, src, hard, here, Linked, ticking, Related, Arrives, SharedEnd, early, Both, both-on, both-end, source-step, line-step, ready-after}
 
 test-line : {H : Type 0} (F : Form H) (ls : List Line) (n k : ℕ) (c : H) (rest : List (Frame H)) (l : H) (vs tr : List ℕ) (o : Operands) (r s t e a b d go : ℕ) → F .guard k (testLine o r s t e a b d go) .passes c l ≡ true
     → (y : Bool) → holdsOn o vs ≡ y → lineStepOf F ls k (testLine o r s t e a b d go) (hard n k c rest l vs tr)
@@ -43,7 +43,7 @@ overflow-early i v = early (omega arith) (omega arith) (omega arith)
 
 module _ (t : Table) (ok : Proper t) {H : Type 0} {F : Form H} (S : Settles t F) (n i : ℕ) (f : Open) (fs : List Open) (m : InFunction t n i f fs) (rest : List Back) (lk : Linked t n rest) (l : H) (vs tr : List ℕ) where
   abbrev Step : ℕ → Type 0
-  Step d = Both S d (sourceStep t (src n i rest vs tr)) (stepOf F (harden t) (here S n i f fs rest l vs tr))
+  Step d = Both S d (src n i rest vs tr) (stepOf F (harden t) (here S n i f fs rest l vs tr))
 
   -- what the variable of a do holds
   abbrev held : ℕ
@@ -68,23 +68,26 @@ module _ (t : Table) (ok : Proper t) {H : Type 0} {F : Form H} (S : Settles t F)
           (record { n = n; i = i; k = lineOf t i; l = l; rest = rest; c = S .at (lineOf t i) (f ∷ fs) (value t (f .region) i); vs = vs; tr = tr; s-is = refl; h-is = refl }) (overflow-early i held)
       by false q = both-on _ _ (row-is false q) (line-is false q)
           (record {
-            n = n;
-            i = i;
-            j = suc i;
-            k = suc (lineOf t i);
-            w = value t (f .region) i;
-            l = l;
-            rest = rest;
-            vs = doneOn (operandsAt t i) vs;
-            tr = tr ++ (i ∷ []);
-            f = f;
-            fs = fs;
-            s-is = refl;
-            h-is = ap (λ x. hard n (suc (lineOf t i)) x (lineBacks S rest) l (doneOn (operandsAt t i) vs) (tr ++ (i ∷ []))) (S .over-do m e (value t (f .region) i));
-            in-function = m;
-            linked = lk;
-            mode = ticking e refl refl refl;
-            owes = refl;
+            related = record {
+              n = n;
+              i = i;
+              j = suc i;
+              k = suc (lineOf t i);
+              w = value t (f .region) i;
+              l = l;
+              rest = rest;
+              vs = doneOn (operandsAt t i) vs;
+              tr = tr ++ (i ∷ []);
+              f = f;
+              fs = fs;
+              s-is = refl;
+              h-is = ap (λ x. hard n (suc (lineOf t i)) x (lineBacks S rest) l (doneOn (operandsAt t i) vs) (tr ++ (i ∷ []))) (S .over-do m e (value t (f .region) i));
+              in-function = m;
+              linked = lk;
+              mode = ticking e refl refl refl;
+              owes = refl;
+            };
+            after-do = λ q. refl;
           })
 
   above : Chain (regions t i) (f ∷ fs)
@@ -97,28 +100,28 @@ module _ (t : Table) (ok : Proper t) {H : Type 0} {F : Form H} (S : Settles t F)
 
   -- true: a part opens at the next row
   test-true : (k : Kind) (p : Part) → kindAt t i ≡ k → shapeOf k ≡ pushes p → lineCount k ≡ 1 → (u c go : ℕ)
-      → Related S (length rest) (src n (suc i) rest vs tr) (hard n (suc (lineOf t i)) (tested true u c go) (lineBacks S rest) l vs tr)
+      → Arrives S (length rest) i (src n (suc i) rest vs tr) (hard n (suc (lineOf t i)) (tested true u c go) (lineBacks S rest) l vs tr)
   unfolding above
   test-true k p e sh one u c go =
       let q : openAt t (suc i) ≡ record { part = p; opener = i; region = regions t i } ∷ f ∷ fs = open-next t i e (m .open-is) ∙ ap (λ x. openAfter x i (regions t i) (f ∷ fs)) sh in
-      ready-at S (move-to t ok m (suc i) (m .within) q refl) rest lk (omega (arith, line-suc t i e)) (sym (fresh-value t i)) l vs tr _
+      ready-after S i (move-to t ok m (suc i) (m .within) q refl) rest lk (omega (arith, line-suc t i e)) (sym (fresh-value t i)) l vs tr _
       (S .test-true (lineOf t i) f (record { part = p; opener = i; region = regions t i }) fs _ _ _ _ _ _ _ (body-below t m) (omega (arith, above .0, body-below t m)) refl
       (omega (arith, word-at t ok m)) (omega (arith, word-at t ok m)) (word-base t ok i (omega (arith, m .within))))
 
   -- false: past the end of what this row opens
   test-past : (k : Kind) (p : Part) → kindAt t i ≡ k → shapeOf k ≡ pushes p → takes k (f .part) ≡ past
-      → Related S (length rest) (src n (suc (endOf t i)) rest vs tr) (hard n (lineOf t (suc (endOf t i))) (tested false (f .region - bodyRegion (f ∷ fs)) (value t (f .region) i + past) (lineOf t (suc (endOf t i)))) (lineBacks S rest) l vs tr)
+      → Arrives S (length rest) i (src n (suc (endOf t i)) rest vs tr) (hard n (lineOf t (suc (endOf t i))) (tested false (f .region - bodyRegion (f ∷ fs)) (value t (f .region) i + past) (lineOf t (suc (endOf t i)))) (lineBacks S rest) l vs tr)
   test-past k p e sh tp =
       let en = end-is t i p ok (m .within) (ap shapeOf e ∙ sh) in
       let cl = closed-is t i (endOf t i) (en .ends) in
       let v : value t (f .region) (suc (endOf t i)) ≡ value t (f .region) i + past
       = cl .moved-on f fs (m .open-is) ∙ ap (λ x. value t (f .region) i + takes x (f .part)) e ∙ ap (λ x. value t (f .region) i + x) tp in
-      ready-at S (move-to t ok m (suc (endOf t i)) (en .inside) (cl .open-after ∙ m .open-is) refl) rest lk refl (sym v) l vs tr _
+      ready-after S i (move-to t ok m (suc (endOf t i)) (en .inside) (cl .open-after ∙ m .open-is) refl) rest lk refl (sym v) l vs tr _
       (S .test-past (lineOf t i) f fs _ _ _ _ _ _ _ (body-below t m) (omega (arith, word-at t ok m)) (omega (arith, word-at t ok m)))
 
   -- false: to the else part
   test-else : hasElse t i ≡ true
-      → Related S (length rest) (src n (suc (elseOf t i)) rest vs tr)
+      → Arrives S (length rest) i (src n (suc (elseOf t i)) rest vs tr)
       (hard n (lineOf t (suc (elseOf t i))) (tested false (regions t (elseOf t i) - bodyRegion (f ∷ fs)) (base t (regions t (elseOf t i))) (lineOf t (suc (elseOf t i)))) (lineBacks S rest) l vs tr)
   test-else x =
       let tu = else-is t i (m .within) x in
@@ -126,7 +129,7 @@ module _ (t : Table) (ok : Proper t) {H : Type 0} {F : Form H} (S : Settles t F)
       let q : openAt t (suc (elseOf t i)) ≡ record { part = tu .part; opener = i; region = regions t (elseOf t i) } ∷ f ∷ fs
       = tu .open-after ∙ ap (λ y. record { part = tu .part; opener = i; region = regions t (elseOf t i) } ∷ y) (m .open-is) in
       let ch = subst (Chain (regions t (suc (elseOf t i)))) q (chain t (suc (elseOf t i))) in
-      ready-at S (move-to t ok m (suc (elseOf t i)) lt q refl) rest lk refl (sym (fresh-value t (elseOf t i))) l vs tr _
+      ready-after S i (move-to t ok m (suc (elseOf t i)) lt q refl) rest lk refl (sym (fresh-value t (elseOf t i))) l vs tr _
       (S .test-else (lineOf t i) f (record { part = tu .part; opener = i; region = regions t (elseOf t i) }) fs _ _ _ _ _ _ _ (body-below t m) (omega (arith, ch .1 .0, body-below t m)) refl (λ e. omega (arith, ch .1 .0))
       (omega (arith, word-at t ok m)) (omega (arith, word-at t ok m)) (word-base t ok (elseOf t i) (omega arith)))
 

@@ -65,8 +65,8 @@ simulates t ok {H = H} S (suc b) k j d s h r =
   where
     by : Next S d s h → ((d′ : ℕ) (s′ : Source) (h′ : State H) → Related S d′ s′ h′ → Simulates S b (suc k) (suc j) s′ h′)
         → ((d′ : ℕ) (h′ : State H) → Related S d′ s h′ → Simulates S b (suc k) j s h′) → Simulates S (suc b) k j s h
-    by (moves q (both-on s′ h′ es eh r′)) both-go line-goes =
-        let x = both-go _ s′ h′ r′ in
+    by (moves q (both-on s′ h′ es eh a)) both-go line-goes =
+        let x = both-go _ s′ h′ (a .related) in
         record {
           m = suc (x .m);
           counted = rw (eh, q) (omega (arith, x .counted));
