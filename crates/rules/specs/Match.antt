@@ -4,6 +4,7 @@ use Prim.Native.Nat.{ℕ, zero, suc, _+_, _-_}
 use mathlib.Core.Bool.{Bool, true, false, not, _&&_, _||_}
 use mathlib.Core.List.{List}
 use lib.Dec.{eqb}
+use Rattle.rules.specs.declared.strike.Strike.{Strike}
 use Rattle.rules.specs.declared.strike.Strike.the-variants.{None}
 use Rattle.rules.specs.declared.kind.Kind.{Kind}
 use Rattle.rules.specs.declared.kind.Kind.the-variants.{Function, Do, If, Else, Loop, End, Break, Continue, Call, Unknown}
@@ -12,9 +13,9 @@ use Rattle.rules.specs.Check.{isCall}
 use Rattle.rules.specs.Line.{Line, doLine, tickLine, testLine, leaveLine, outLine, callLine, backLine, retLine, lineAt, isGuard}
 use Rattle.rules.specs.Function.{finishOf}
 use Rattle.rules.specs.State.{State, openFunctions}
-use Rattle.rules.specs.Run.{Answer, outcomeOf, tally}
+use Rattle.rules.specs.Run.{Turn, on, ends, untaken, Answer, outcomeOf, tally}
 use Rattle.rules.specs.Source.{sourceStep, sourceStart}
-use Rattle.rules.specs.Form.{Form, strikingStepOf, startBy, runOf}
+use Rattle.rules.specs.Form.{Form, struck, strikingStepOf, startBy, runOf}
 
 -- what demand 3 compares of a hardened and a source run
 pub record Shown : Type 0 where
@@ -47,9 +48,21 @@ unfoldable pub quietAt : {H : Type 0} → List Line → State H → Bool
 quietAt ls s =
     not (eqb (s .running .at) (finishOf ls (s .running .function))) && isQuiet (lineAt ls (s .running .at))
 
+-- step k is one, where this strikes the run: the step struck is that of the place which it lands at
+abbrev pub quietOn : {H : Type 0} → List Line → Turn H → Bool
+quietOn ls (on s) = quietAt ls s
+quietOn ls (ends o s) = false
+quietOn ls (untaken o s) = false
+
+abbrev pub quietStep : {H : Type 0} → List Line → Strike → (k : ℕ) → State H → Bool
+quietStep ls x k s = quietOn ls (struck ls x k s)
+
 -- "Matching step: hardened steps less the ticks and backs done."
-unfoldable pub matching : {H : Type 0} → Form H → List Line → (budget : ℕ) → (vars : List ℕ) → ℕ
-matching F ls b vs = (runOf F ls None b vs) .steps - tally (quietAt ls) (strikingStepOf F ls None) b 0 (startBy F vs)
+unfoldable pub matchingOf : {H : Type 0} → Form H → List Line → Strike → (budget : ℕ) → (vars : List ℕ) → ℕ
+matchingOf F ls x b vs = (runOf F ls x b vs) .steps - tally (quietStep ls x) (strikingStepOf F ls x) b 0 (startBy F vs)
+
+abbrev pub matching : {H : Type 0} → Form H → List Line → (budget : ℕ) → (vars : List ℕ) → ℕ
+matching F ls b vs = matchingOf F ls None b vs
 
 -- "a source run that finishes in n steps with t dos and c calls": those among its first b steps
 abbrev pub isDo : Kind → Bool
@@ -65,10 +78,10 @@ isDo Call = false
 isDo Unknown = false
 
 unfoldable pub dosIn : Table → (b : ℕ) → (vars : List ℕ) → ℕ
-dosIn t b vs = tally (λ s. isDo (kindAt t (s .running .at))) (λ k s. sourceStep t s) b 0 (sourceStart vs)
+dosIn t b vs = tally (λ k s. isDo (kindAt t (s .running .at))) (λ k s. sourceStep t s) b 0 (sourceStart vs)
 
 unfoldable pub callsIn : Table → (b : ℕ) → (vars : List ℕ) → ℕ
-callsIn t b vs = tally (λ s. isCall (kindAt t (s .running .at))) (λ k s. sourceStep t s) b 0 (sourceStart vs)
+callsIn t b vs = tally (λ k s. isCall (kindAt t (s .running .at))) (λ k s. sourceStep t s) b 0 (sourceStart vs)
 
 -- the steps of the hardened run that finishes as that source run does
 abbrev pub hardenedSteps : (steps dos calls : ℕ) → ℕ

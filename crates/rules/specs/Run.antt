@@ -52,12 +52,12 @@ unfoldable pub run : {C : Type 0} → (machine : ℕ → State C → Turn C) →
 run m zero k s = record { step = Went (s .running .at); steps = k; state = s }
 run m (suc b) k s = after k (m k s) (λ s'. run m b (suc k) s')
 
--- how many of those steps are done and start in a state that passes the test
+-- how many of those steps are done and pass the test, which is told the number of the step and the state before it
 abbrev pub ifDone : {C : Type 0} → Turn C → (State C → ℕ) → ℕ
 ifDone (on s) f = f s
 ifDone (ends o s) f = 0
 ifDone (untaken o s) f = 0
 
-unfoldable pub tally : {C : Type 0} → (State C → Bool) → (machine : ℕ → State C → Turn C) → (b k : ℕ) → State C → ℕ
+unfoldable pub tally : {C : Type 0} → (ℕ → State C → Bool) → (machine : ℕ → State C → Turn C) → (b k : ℕ) → State C → ℕ
 tally p m zero k s = 0
-tally p m (suc b) k s = ifDone (m k s) (λ s'. cond (p s) 1 0 + tally p m b (suc k) s')
+tally p m (suc b) k s = ifDone (m k s) (λ s'. cond (p k s) 1 0 + tally p m b (suc k) s')

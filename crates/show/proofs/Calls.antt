@@ -89,7 +89,7 @@ module _ (t : Table) (p : Parts) (a : After) (e : runFrom t 1 p ≡ answerOf a) 
   calls-went i q (suc b) h =
       let less : suc b - 1 ≡ b = omega arith in
       went-by (p .registers .steps) a (sourceStep t (stateOf p)) (step-settled t (stateOf p)) e i q
-      (λ k s. callAt t (p .registers .at) + tally (λ s. isCall (kindAt t (s .running .at))) (λ k s. sourceStep t s) b k s)
+      (λ k s. callAt t (p .registers .at) + tally (λ k s. isCall (kindAt t (s .running .at))) (λ k s. sourceStep t s) b k s)
       ∙ ap (λ n. callAt t (p .registers .at) + callsFrom t n (a .parts)) (sym less)
 
   pub calls-end : IsEnd (a .step) → (left : ℕ) → callsFrom t left p ≡ 0
@@ -97,7 +97,7 @@ module _ (t : Table) (p : Parts) (a : After) (e : runFrom t 1 p ≡ answerOf a) 
   calls-end n zero = refl
   calls-end n (suc b) =
       end-by (p .registers .steps) a (sourceStep t (stateOf p)) e n
-      (λ s. callAt t (p .registers .at) + tally (λ s. isCall (kindAt t (s .running .at))) (λ k s. sourceStep t s) b (suc (p .registers .steps)) s)
+      (λ s. callAt t (p .registers .at) + tally (λ k s. isCall (kindAt t (s .running .at))) (λ k s. sourceStep t s) b (suc (p .registers .steps)) s)
 
 pub calls-none : (t : Table) (left : ℕ) (p : Parts) → left ≤ 0 → callsFrom t left p ≡ 0
 unfolding tally

@@ -24,7 +24,7 @@ callAt t i = cond (isCall (kindAt t i)) 1 0
 
 -- those of a run from these parts
 abbrev pub callsFrom : Table → (budget : ℕ) → Parts → ℕ
-callsFrom t b p = tally (λ s. isCall (kindAt t (s .running .at))) (λ k s. sourceStep t s) b (p .registers .steps) (stateOf p)
+callsFrom t b p = tally (λ k s. isCall (kindAt t (s .running .at))) (λ k s. sourceStep t s) b (p .registers .steps) (stateOf p)
 
 -- the budget is spent
 abbrev pub spentAt : Machine → Stopped

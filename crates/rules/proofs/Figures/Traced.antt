@@ -59,8 +59,8 @@ row-traced t i fs Call s = call-traced t i (operandsAt t i .n) s
 row-traced t i fs Unknown s = omega arith
 
 -- the dos of the first b steps, and what they add to the trace
-isDoAt : Table → Source → Bool
-isDoAt t s = isDo (kindAt t (s .running .at))
+isDoAt : Table → (k : ℕ) → Source → Bool
+isDoAt t k s = isDo (kindAt t (s .running .at))
 
 traced-by : (t : Table) (b k n d : ℕ) (u : Turn (Unit {0})) → Traced n d u
     → ((s : Source) → length ((run (λ k s. sourceStep t s) b (suc k) s) .state .trace) ≡ length (s .trace) + tally (isDoAt t) (λ k s. sourceStep t s) b (suc k) s)

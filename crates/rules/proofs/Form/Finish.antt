@@ -25,10 +25,10 @@ use Rattle.rules.proofs.Form.Unstruck.{sourceMachine, lineMachine}
 
 -- the dos and the calls of the first b steps
 abbrev dos : Table → (b k : ℕ) → Source → ℕ
-dos t b k s = tally (λ s. isDo (kindAt t (s .running .at))) (sourceMachine t) b k s
+dos t b k s = tally (λ k s. isDo (kindAt t (s .running .at))) (sourceMachine t) b k s
 
 abbrev calls : Table → (b k : ℕ) → Source → ℕ
-calls t b k s = tally (λ s. isCall (kindAt t (s .running .at))) (sourceMachine t) b k s
+calls t b k s = tally (λ k s. isCall (kindAt t (s .running .at))) (sourceMachine t) b k s
 
 -- a do and a call have one line more
 extra-is : (k : Kind) → extra k ≡ cond (isDo k) 1 0 + cond (isCall k) 1 0

@@ -13,7 +13,7 @@ use Rattle.rules.specs.State.{State, numbersOf, openFunctions}
 use Rattle.rules.specs.Run.{Turn, run, tally, outcomeOf}
 use Rattle.rules.specs.Source.{Source, sourceStep, sourceStart, sourceRun}
 use Rattle.rules.specs.Form.{Form, strikingStepOf, startBy}
-use Rattle.rules.specs.Match.{Shown, shown, quietAt, matching}
+use Rattle.rules.specs.Match.{Shown, shown, quietAt, quietStep, matchingOf, matching}
 use Rattle.rules.specs.Demands.{Unstruck}
 use Rattle.rules.proofs.Accepted.{Proper}
 use Rattle.rules.proofs.Form.Settles.{Settles}
@@ -46,7 +46,7 @@ same-shown S o s h m = rw (m .s-is, m .h-is)
 -- ---- whole runs from related states: the hardened run of b steps is the source's of m
 pub record Simulates {H : Type 0} {t : Table} {F : Form H} (S : Settles t F) (b k j : ℕ) (s : Source) (h : State H) : Type 0 where
   pub m : ℕ
-  pub counted : (run (lineMachine S) b k h) .steps ≡ k + m + tally (quietAt (harden t)) (lineMachine S) b k h
+  pub counted : (run (lineMachine S) b k h) .steps ≡ k + m + tally (quietStep (harden t) None) (lineMachine S) b k h
   pub took : (run (sourceMachine t) m j s) .steps ≡ j + m
   pub alike : shown (run (lineMachine S) b k h) ≡ shown (run (sourceMachine t) m j s)
   pub no-alarm : outcomeOf ((run (lineMachine S) b k h) .step) ≢ 2
@@ -94,7 +94,7 @@ simulates t ok {H = H} S (suc b) k j d s h r =
 
 -- ---- from the start
 pub unstruck : (t : Table) → Proper t → {H : Type 0} {F : Form H} (S : Settles t F) → (vs : List ℕ) (b : ℕ) → Unstruck F (harden t) t vs b
-unfolding matching
+unfolding matchingOf
 unstruck t ok {F = F} S vs b =
     let x = simulates t ok S b 0 0 0 (sourceStart vs) (startBy F vs) (start t ok S vs) in
     let m : matching F (harden t) b vs ≡ x .m = omega (arith, x .counted) in
