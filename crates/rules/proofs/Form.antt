@@ -12,9 +12,13 @@ pub mod Finish
 pub mod Where
 pub mod Strict
 pub mod Struck
+pub mod Landing
 pub mod Trace
 pub mod Alarm
 pub mod Jump
+pub mod Progress
+pub mod TakenUp
+pub mod Slip
 pub mod Demand
 pub mod Promise
 pub mod Sweep

@@ -19,6 +19,14 @@
 -- is before a guard, or is m with one function open, and else in step k + 1; a budget that ends before that step gives outcome 0. Trace
 -- and variables are what the first k steps left, with the do at that place, if one stands there, done on them once.
 --
+-- Small. A jump that strikes, within the function, with no guard between its two places: these are equal, or a do's own and its tick's.
+-- The run stops with the outcome, trace, variables and open functions of the source's run in which nothing is changed (equal places), or
+-- that one do, at that one time, is left out and takes no step (forward), or is done twice and takes two (back). The budget of that
+-- source run is the matching step of the struck run; it takes exactly that many steps; the outcome is never an alarm. A do left out
+-- overflows no more; one done twice may end the run with 5 the second time.
+--
+-- Told. Every jump that strikes is beyond m, wide or small, and its run is what is said there.
+--
 -- The "source's run" is that of the table which the bytes are read back to.
 --
 -- Each part is said of any form of hardened lines; `Demand3` and `Theorem` are about the counter form, whose bytes are 01's. A form is given
@@ -33,7 +41,7 @@ use lib.Dec.{eqb, ltb}
 use Rattle.rules.specs.declared.strike.Strike.the-variants.{None}
 use Rattle.rules.specs.declared.step.Step.the-variants.{Beyond}
 use Rattle.rules.specs.Limits.{noStep}
-use Rattle.rules.specs.Row.{Table, tableOf}
+use Rattle.rules.specs.Row.{Table, tableOf, operandsAt}
 use Rattle.rules.specs.Line.{Line, doLine, tickLine, testLine, leaveLine, outLine, callLine, backLine, retLine, lineAt, isGuard, linesIn}
 use Rattle.rules.specs.Function.{lastPlace}
 use Rattle.rules.specs.ReadBack.{sourceBytes, isHardened}
@@ -43,7 +51,8 @@ use Rattle.rules.specs.Run.{Answer, outcomeOf}
 use Rattle.rules.specs.Source.{sourceRun}
 use Rattle.rules.specs.Form.{Form, strikeBy, placeLine, runOf}
 use Rattle.rules.specs.Hardened.{counterForm}
-use Rattle.rules.specs.Match.{shown, matching, dosIn, callsIn, hardenedSteps, guardBetween}
+use Rattle.rules.specs.Match.{shown, matchingOf, matching, dosIn, callsIn, hardenedSteps, guardBetween}
+use Rattle.rules.specs.Slip.{Slip, untouched, leftOut, doneTwice, slippedRun, slipBetween}
 
 -- ---- unstruck
 pub record Unstruck {H : Type 0} (F : Form H) (ls : List Line) (t : Table) (vs : List ℕ) (b : ℕ) : Type 0 where
@@ -134,24 +143,67 @@ overflowIn k s = record { outcome = 5; steps = suc k; trace = s .trace; variable
 unfoldable pub caughtFrom : {H : Type 0} → List Line → (b k place : ℕ) → State H → Struck
 caughtFrom ls b k p s = cond (overflowsAt ls p s) (overflowIn k s) (alarmIn (alarmStep ls p k s) b (doneAt ls p s))
 
+-- a jump beyond place m: outcome 4 after k steps, with nothing more done
+abbrev pub pastM : {H : Type 0} → Form H → List Line → (vs : List ℕ) → (k : ℕ) → Answer H
+pastM F ls vs k =
+    let s = (before F ls vs k) .state in
+    record { step = Beyond (lastPlace ls (s .running .function)); steps = k; state = s }
+
 pub record Jumped {H : Type 0} (F : Form H) (ls : List Line) (vs : List ℕ) (b k p : ℕ) : Type 0 where
   pub not-struck : strikes F ls vs b k ≡ false → runOf F ls (strikeBy k p) b vs ≡ runOf F ls None b vs
   pub beyond : strikes F ls vs b k ≡ true → lastPlace ls ((before F ls vs k) .state .running .function) < p
-      → runOf F ls (strikeBy k p) b vs
-      ≡ record {
-        step = Beyond (lastPlace ls ((before F ls vs k) .state .running .function));
-        steps = k;
-        state = (before F ls vs k) .state;
-      }
+      → runOf F ls (strikeBy k p) b vs ≡ pastM F ls vs k
   pub caught : strikes F ls vs b k ≡ true → p ≤ lastPlace ls ((before F ls vs k) .state .running .function)
       → guardBetween ls ((before F ls vs k) .state .running .at) (placeLine ls p ((before F ls vs k) .state)) ≡ true
       → struckShown (runOf F ls (strikeBy k p) b vs) ≡ caughtFrom ls b k p ((before F ls vs k) .state)
+
+-- ---- a small jump
+-- the do, or nothing, that slips: the source has taken as many steps as the matching step of the first k
+unfoldable pub slipOf : {H : Type 0} → Form H → List Line → (vs : List ℕ) → (k place : ℕ) → Slip
+slipOf F ls vs k p =
+    let s = (before F ls vs k) .state in
+    slipBetween (s .running .at) (placeLine ls p s) (matching F ls k vs)
+
+-- line x is the do that the source's run does in its step j
+pub record DoneIn (ls : List Line) (t : Table) (vs : List ℕ) (x j : ℕ) : Type 0 where
+  pub goes-on : outcomeOf ((sourceRun t j vs) .step) ≡ 0
+  pub takes-j : (sourceRun t j vs) .steps ≡ j
+  pub row : ℕ
+  pub reached : (sourceRun t j vs) .state .running .at ≡ row
+  pub is-do : lineAt ls x ≡ doLine (operandsAt t row) row
+
+-- the do between lines x and y, where this slips
+abbrev pub ThatDo : List Line → Table → (vs : List ℕ) → (x y : ℕ) → Slip → Type 0
+ThatDo ls t vs x y untouched = y ≡ x
+ThatDo ls t vs x y (leftOut j) = (y ≡ suc x) × DoneIn ls t vs x j
+ThatDo ls t vs x y (doneTwice j) = (x ≡ suc y) × DoneIn ls t vs y j
+
+-- the source's run with the slip, at the matching step of the struck run
+abbrev pub slippedAt : {H : Type 0} → Form H → List Line → Table → (vs : List ℕ) → (b k place : ℕ) → Answer (Unit {0})
+slippedAt F ls t vs b k p = slippedRun t (slipOf F ls vs k p) (matchingOf F ls (strikeBy k p) b vs) vs
+
+-- 02, No. 6: "outcome, variables, trace and open functions agree at the matching step"
+pub record Slipped {H : Type 0} (F : Form H) (ls : List Line) (t : Table) (vs : List ℕ) (b k p : ℕ) : Type 0 where
+  pub as-slipped : shown (runOf F ls (strikeBy k p) b vs) ≡ shown (slippedAt F ls t vs b k p)
+  pub at-matching : (slippedAt F ls t vs b k p) .steps ≡ matchingOf F ls (strikeBy k p) b vs
+  pub no-alarm : outcomeOf ((runOf F ls (strikeBy k p) b vs) .step) ≢ 2
+  pub that-do : ThatDo ls t vs ((before F ls vs k) .state .running .at) (placeLine ls p ((before F ls vs k) .state)) (slipOf F ls vs k p)
+
+-- ---- every jump that strikes
+pub data Told {H : Type 0} (F : Form H) (ls : List Line) (t : Table) (vs : List ℕ) (b k p : ℕ) : Type 0 where
+  beyond-m : lastPlace ls ((before F ls vs k) .state .running .function) < p → runOf F ls (strikeBy k p) b vs ≡ pastM F ls vs k → Told F ls t vs b k p
+  wide : p ≤ lastPlace ls ((before F ls vs k) .state .running .function)
+      → guardBetween ls ((before F ls vs k) .state .running .at) (placeLine ls p ((before F ls vs k) .state)) ≡ true
+      → struckShown (runOf F ls (strikeBy k p) b vs) ≡ caughtFrom ls b k p ((before F ls vs k) .state) → Told F ls t vs b k p
+  small : p ≤ lastPlace ls ((before F ls vs k) .state .running .function)
+      → guardBetween ls ((before F ls vs k) .state .running .at) (placeLine ls p ((before F ls vs k) .state)) ≡ false → Slipped F ls t vs b k p → Told F ls t vs b k p
 
 -- ---- demand 3, of a form's lines, the source table, one set of first values, one budget and one jump
 pub record Demand {H : Type 0} (F : Form H) (ls : List Line) (t : Table) (vars : List ℕ) (budget k place : ℕ) : Type 0 where
   pub unstruck : Unstruck F ls t vars budget
   pub finishing : (c : ℕ) → Finishing F ls t vars budget c
   pub jumped : Jumped F ls vars budget k place
+  pub told : strikes F ls vars budget k ≡ true → Told F ls t vars budget k place
 
 -- ---- of a hardened table of the counter form
 abbrev pub Demand3 : (lines vars : List ℕ) (budget k place : ℕ) → Type 0

@@ -26,6 +26,7 @@ pub mod Refusals
 pub mod Arithmetic
 pub mod Checks
 pub mod Match
+pub mod Slip
 pub mod Demands
 pub mod Reading
 pub mod Chained

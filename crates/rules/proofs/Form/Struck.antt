@@ -104,7 +104,7 @@ module _ {H : Type 0} (F : Form H) (ls : List Line) where
   not-struck vs b k p e = not-struck-by vs b k p (eqb k noStep) (ltb k b) (eqb (outcomeOf ((before F ls vs k) .step)) 0) refl refl refl e
 
   -- ---- the struck step, and the one after it
-  struck-on : (p k : ℕ) (h : State H) → p ≤ lastPlace ls (h .running .function) → struck ls (Jump k p) k h ≡ on (landedAt ls p h)
+  pub struck-on : (p k : ℕ) (h : State H) → p ≤ lastPlace ls (h .running .function) → struck ls (Jump k p) k h ≡ on (landedAt ls p h)
   struck-on p k h l = rw (eq-eqb k k refl, le-leb p (lastPlace ls (h .running .function)) l)
 
   struck-beyond : (p k : ℕ) (h : State H) → lastPlace ls (h .running .function) < p → struck ls (Jump k p) k h ≡ untaken (Beyond (lastPlace ls (h .running .function))) h
@@ -137,6 +137,21 @@ module _ {H : Type 0} (F : Form H) (ls : List Line) where
   unfolding run
   strike-now p k b h l =
       rw (struck-on p k h l) (after-same k (stepOf F ls (landedAt ls p h)) _ _ (λ h′. over-same (Jump k p) k (not-now k p) b (suc k) h′ (omega arith)))
+
+  -- ---- a jump that strikes is one, before a step that the budget holds, of a run that has not ended
+  module _ (vs : List ℕ) (b k : ℕ) (e : strikes F ls vs b k ≡ true) where
+    some-step : eqb k noStep ≡ false
+    some-step = not-true (eqb k noStep) (and-left (not (eqb k noStep)) (ltb k b) (and-left _ (eqb (outcomeOf ((before F ls vs k) .step)) 0) e))
+
+    pub in-budget : k < b
+    in-budget = ltb-true k b (and-right (not (eqb k noStep)) (ltb k b) (and-left _ (eqb (outcomeOf ((before F ls vs k) .step)) 0) e))
+
+    pub not-over : outcomeOf ((before F ls vs k) .step) ≡ 0
+    not-over = eqb-true _ _ (and-right (not (eqb k noStep) && ltb k b) (eqb (outcomeOf ((before F ls vs k) .step)) 0) e)
+
+    pub is-jump : (p : ℕ) → strikeBy k p ≡ Jump k p
+    unfolding some-step
+    is-jump p = rw some-step
 
   -- ---- the state before step k + d of an unstruck run that has not ended, and a run with a strike there up to it
   module _ (I : State H → Type 0) (step : (h : State H) → I h → Onward F ls I h) where
@@ -174,33 +189,21 @@ module _ {H : Type 0} (F : Form H) (ls : List Line) where
         subst I (sym (ap (λ y. y .state) (z .plainly))) (z .holds)
 
     module _ (vs : List ℕ) (start : I (startBy F vs)) (b k : ℕ) (e : strikes F ls vs b k ≡ true) where
-      some-step : eqb k noStep ≡ false
-      some-step = not-true (eqb k noStep) (and-left (not (eqb k noStep)) (ltb k b) (and-left _ (eqb (outcomeOf ((before F ls vs k) .step)) 0) e))
-
-      in-budget : k < b
-      in-budget = ltb-true k b (and-right (not (eqb k noStep)) (ltb k b) (and-left _ (eqb (outcomeOf ((before F ls vs k) .step)) 0) e))
-
       there-by : (x : Strike) → Named F ls x k → Reached x k 0 (startBy F vs)
-      there-by x w = reach x k w k 0 (startBy F vs) (zero-add k) start (eqb-true _ _ (and-right (not (eqb k noStep) && ltb k b) (eqb (outcomeOf ((before F ls vs k) .step)) 0) e))
+      there-by x w = reach x k w k 0 (startBy F vs) (zero-add k) start (not-over vs b k e)
 
       state-is : (x : Strike) (w : Named F ls x k) → (before F ls vs k) .state ≡ (there-by x w) .there
       state-is x w = ap (λ y. y .state) ((there-by x w) .plainly)
 
       -- the run with the strike, from step k on
       from-there : (x : Strike) (w : Named F ls x k) → runOf F ls x b vs ≡ run (strikingStepOf F ls x) (suc (b - suc k)) k ((there-by x w) .there)
-      unfolding in-budget
       from-there x w =
-          let q : b ≡ k + suc (b - suc k) = omega (arith, in-budget) in
+          let q : b ≡ k + suc (b - suc k) = omega (arith, in-budget vs b k e) in
           ap (λ y. runOf F ls x y vs) q ∙ (there-by x w) .likewise (suc (b - suc k)) ∙ ap (λ y. run (strikingStepOf F ls x) (suc (b - suc k)) y ((there-by x w) .there)) (zero-add k)
-
-      is-jump : (p : ℕ) → strikeBy k p ≡ Jump k p
-      unfolding some-step
-      is-jump p = rw some-step
 
       -- the run taken up at the step struck: as it goes on unstruck, and struck
       left-is : suc (b - suc k) ≡ b - k
-      unfolding in-budget
-      left-is = omega (arith, in-budget)
+      left-is = omega (arith, in-budget vs b k e)
 
       pub goes-plainly : runOf F ls None b vs ≡ run (strikingStepOf F ls None) (b - k) k ((before F ls vs k) .state)
       goes-plainly =
@@ -213,29 +216,28 @@ module _ {H : Type 0} (F : Form H) (ls : List Line) where
           let w = not-now k p in
           let x = (there-by (Jump k p) w) .there in
           let si = state-is (Jump k p) w in
-          ap (λ y. runOf F ls y b vs) (is-jump p) ∙ from-there (Jump k p) w ∙ strike-now p k (b - suc k) x (subst (λ y. p ≤ lastPlace ls (y .running .function)) si l)
+          ap (λ y. runOf F ls y b vs) (is-jump vs b k e p) ∙ from-there (Jump k p) w ∙ strike-now p k (b - suc k) x (subst (λ y. p ≤ lastPlace ls (y .running .function)) si l)
           ∙ ap (λ y. run (strikingStepOf F ls None) y k (landedAt ls p x)) left-is ∙ ap (λ y. run (strikingStepOf F ls None) (b - k) k (landedAt ls p y)) (sym si)
 
       beyond : (p : ℕ) → lastPlace ls ((before F ls vs k) .state .running .function) < p
           → runOf F ls (strikeBy k p) b vs ≡ record { step = Beyond (lastPlace ls ((before F ls vs k) .state .running .function)); steps = k; state = (before F ls vs k) .state }
       beyond p l =
           let w = not-now k p in
-          ap (λ y. runOf F ls y b vs) (is-jump p) ∙ from-there (Jump k p) w
+          ap (λ y. runOf F ls y b vs) (is-jump vs b k e p) ∙ from-there (Jump k p) w
           ∙ rw (state-is (Jump k p) w) (beyond-from p k (b - suc k) ((there-by (Jump k p) w) .there) (subst (λ y. lastPlace ls (y .running .function) < p) (state-is (Jump k p) w) l))
 
       caught : (p : ℕ) → ((s : State H) → I s → p ≤ lastPlace ls (s .running .function) → guardBetween ls (s .running .at) (placeLine ls p s) ≡ true → Caught F ls p s)
           → p ≤ lastPlace ls ((before F ls vs k) .state .running .function)
           → guardBetween ls ((before F ls vs k) .state .running .at) (placeLine ls p ((before F ls vs k) .state)) ≡ true
           → struckShown (runOf F ls (strikeBy k p) b vs) ≡ caughtFrom ls b k p ((before F ls vs k) .state)
-      unfolding in-budget
       caught p catches l w =
           let nm = not-now k p in
           let x = (there-by (Jump k p) nm) .there in
           let si = state-is (Jump k p) nm in
           let l′ : p ≤ lastPlace ls (x .running .function) = subst (λ y. p ≤ lastPlace ls (y .running .function)) si l in
           let w′ : guardBetween ls (x .running .at) (placeLine ls p x) ≡ true = subst (λ y. guardBetween ls (y .running .at) (placeLine ls p y) ≡ true) si w in
-          let q : k + suc (b - suc k) ≡ b = omega (arith, in-budget) in
-          ap (λ y. struckShown (runOf F ls y b vs)) (is-jump p) ∙ ap struckShown (from-there (Jump k p) nm) ∙ caught-from p k (b - suc k) x l′ (catches x ((there-by (Jump k p) nm) .holds) l′ w′)
+          let q : k + suc (b - suc k) ≡ b = omega (arith, in-budget vs b k e) in
+          ap (λ y. struckShown (runOf F ls y b vs)) (is-jump vs b k e p) ∙ ap struckShown (from-there (Jump k p) nm) ∙ caught-from p k (b - suc k) x l′ (catches x ((there-by (Jump k p) nm) .holds) l′ w′)
           ∙ ap (λ y. caughtFrom ls y k p x) q ∙ ap (caughtFrom ls b k p) (sym si)
 
     -- ---- demand 3 of runs with a strike, of every form
