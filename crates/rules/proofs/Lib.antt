@@ -50,5 +50,6 @@ pub mod Worked
 pub mod Refusals
 pub mod Arithmetic
 pub mod OverflowCases
+pub mod SlipCases
 pub mod Checks
 pub mod LineFigures

@@ -47,3 +47,4 @@ pub mod LineFigures
 pub mod FigureCases
 pub mod SweepCases
 pub mod OverflowCases
+pub mod SlipCases
