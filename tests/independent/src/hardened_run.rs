@@ -214,6 +214,11 @@ impl<'a> HardenedRun<'a> {
         }
     }
 
+    /// "Matching step: hardened steps less the ticks and backs done."
+    pub fn matching(&self) -> u16 {
+        self.steps - self.ticks_and_backs
+    }
+
     fn frame(&mut self) -> &mut Frame {
         self.frames.last_mut().expect("one function is open")
     }

@@ -1,7 +1,9 @@
-//! A run of a source table, over the tree (01, "Running"; 02, No. 5).
+//! A run of a source table, over the tree (01, "Running"; 02, No. 5), in which one do may
+//! slip (02, No. 6).
 
 use crate::machine::{do_it, holds, Outcome, Variables, MOST_OPEN_FUNCTIONS};
 use crate::row::Row;
+use crate::slip::{How, Slip};
 use crate::table::{Block, Else, Stmt, Table};
 
 /// A step of the run: the number of the running function, the row, and 01's word
@@ -25,8 +27,13 @@ pub struct SourceRun<'a> {
     pub calls: u16,
     /// "the numbers of those opened and not returned, oldest first"
     pub open: Vec<usize>,
+    /// the row that each of these goes on at: of the running one that of the last step, or
+    /// where the budget is spent that of the next; of the others the row after the call
+    pub at: Vec<usize>,
     /// the rows reached, one for each step
     pub reached: Vec<Reached>,
+    /// the one do that is still to slip; of a run as 01 has it, none
+    pub(crate) slip: Option<Slip>,
 }
 
 /// How a block was left.
@@ -48,7 +55,9 @@ impl<'a> SourceRun<'a> {
             trace: Vec::new(),
             calls: 0,
             open: vec![0],
+            at: vec![first_row(table, 0)],
             reached: Vec::new(),
+            slip: None,
         }
     }
 
@@ -63,6 +72,7 @@ impl<'a> SourceRun<'a> {
     /// "Each row reached is one step". A run whose budget is spent stops before
     /// the step.
     fn step(&mut self, row: usize, word: &'static str) -> Result<(), Outcome> {
+        self.stand(row);
         if self.steps == self.budget {
             return Err(Outcome::BudgetSpent);
         }
@@ -70,6 +80,11 @@ impl<'a> SourceRun<'a> {
         let function = *self.open.last().expect("one function is open");
         self.reached.push(Reached { function, row, word });
         Ok(())
+    }
+
+    /// The running function is at this row.
+    fn stand(&mut self, row: usize) {
+        *self.at.last_mut().expect("one function is open") = row;
     }
 
     /// A function that has been opened, "from the row after its function's 01"
@@ -83,6 +98,7 @@ impl<'a> SourceRun<'a> {
             return Err(Outcome::Finished);
         }
         self.open.pop();
+        self.at.pop();
         Ok(())
     }
 
@@ -96,13 +112,32 @@ impl<'a> SourceRun<'a> {
         Ok(Flow::On)
     }
 
+    /// A statement is done once, unless it is the do that slips.
     fn statement(&mut self, stmt: &Stmt) -> Result<Flow, Outcome> {
+        match self.slips_at(stmt) {
+            None => self.once(stmt),
+            Some(How::LeftOut) => Ok(Flow::On),
+            Some(How::Twice) => {
+                self.once(stmt)?;
+                self.once(stmt)
+            }
+        }
+    }
+
+    /// Takes the slip if this is its do and now its time. There is no second one: behind a
+    /// do left out, which takes no step, another may be reached at the same step.
+    fn slips_at(&mut self, stmt: &Stmt) -> Option<How> {
+        let (is_do, steps) = (matches!(stmt, Stmt::Do { .. }), self.steps);
+        self.slip.take_if(|slip| is_do && slip.step == steps).map(|slip| slip.how)
+    }
+
+    fn once(&mut self, stmt: &Stmt) -> Result<Flow, Outcome> {
         self.step(stmt.row(), word_of(stmt))?;
         match stmt {
             Stmt::Do { row, what } => self.perform(*row, *what)?,
             Stmt::Break { .. } => return Ok(Flow::Broken),
             Stmt::Continue { .. } => return Ok(Flow::Continued),
-            Stmt::Call { function, .. } => self.call(usize::from(*function))?,
+            Stmt::Call { row, function } => self.call(*row, usize::from(*function))?,
             Stmt::If { test, then, other, end, .. } => {
                 return self.conditional(*test, then, other.as_ref(), *end)
             }
@@ -123,11 +158,13 @@ impl<'a> SourceRun<'a> {
     }
 
     /// "The step that ends in 2 or 3 is counted and that call is not made."
-    fn call(&mut self, number: usize) -> Result<(), Outcome> {
+    fn call(&mut self, row: usize, number: usize) -> Result<(), Outcome> {
         if self.open.len() == MOST_OPEN_FUNCTIONS {
             return Err(Outcome::TooManyOpen);
         }
+        self.stand(row + 1); // where it goes on after the return
         self.open.push(number);
+        self.at.push(first_row(self.table, number));
         self.calls += 1;
         self.function(number)
     }
@@ -169,6 +206,11 @@ impl<'a> SourceRun<'a> {
         }
         Ok(())
     }
+}
+
+/// "the row after its function's 01"
+fn first_row(table: &Table, number: usize) -> usize {
+    table.functions[number].opens + 1
 }
 
 /// The table of row kinds: "if, loop (while)" and so on.
