@@ -2,8 +2,9 @@
 //! overflow, by sums and by differences, at the very edge, with several functions open,
 //! struck and not, in the last budgeted step too. And that the files and cases meet it.
 
-use std::collections::BTreeMap;
+mod counted;
 
+use counted::Counted;
 use independent::hardened_run::HardenedRun;
 use independent::line::{self, Line};
 use independent::machine::{Outcome, Variables};
@@ -20,24 +21,6 @@ fn programs(count: u64, largest: usize) -> Vec<Program> {
         program::program(&mut rng, size)
     };
     (0..count).map(one).collect()
-}
-
-/// How often each name comes.
-#[derive(Default)]
-struct Counted(BTreeMap<String, usize>);
-
-impl Counted {
-    fn add(&mut self, name: impl Into<String>) {
-        *self.0.entry(name.into()).or_insert(0) += 1;
-    }
-
-    /// Each of these came so often.
-    fn least(&self, names: &[(&str, usize)]) {
-        for (name, least) in names {
-            let count = self.0.get(*name).copied().unwrap_or(0);
-            assert!(count >= *least, "{name}: {count}, not {least}, of {:?}", self.0);
-        }
-    }
 }
 
 /// Of 6,000 programs of up to 60 rows: two thirds finish, one sixth overflows.

@@ -3,40 +3,23 @@
 //! alarm; a wide jump raises it when 01 says, or overflows when 02, No. 5, says.
 
 mod edge;
+mod pair;
+mod struck;
 
 use edge::overflows;
 use independent::hardened_run::{HardenedRun, Jump};
 use independent::line::Line;
-use independent::machine::{Outcome, Variables};
+use independent::machine::Outcome;
 use independent::program::{self, Program};
 use independent::random::Random;
 use independent::source_run::SourceRun;
-use independent::table::{self, Table};
-use independent::{check, harden, limits};
+use independent::{check, limits};
+use pair::Pair;
+use struck::{beyond, wide, wide_end};
 
-/// A program in both forms.
-struct Pair {
-    table: Table,
-    lines: Vec<Line>,
-    variables: Variables,
-}
-
-impl Pair {
-    fn new(rows: &[u8], variables: Variables) -> Pair {
-        let table = table::parse(rows).unwrap();
-        let lines = harden::lines(&table);
-        Pair { table, lines, variables }
-    }
-
-    fn struck(&self, budget: u16, jump: Option<Jump>) -> (Outcome, HardenedRun<'_>) {
-        let mut run = HardenedRun::new(&self.lines, self.variables);
-        (run.run(budget, jump), run)
-    }
-
-    fn source(&self, budget: u16) -> (Outcome, SourceRun<'_>) {
-        let mut run = SourceRun::new(&self.table, self.variables, budget);
-        (run.run(), run)
-    }
+fn source_run(pair: &Pair, budget: u16) -> (Outcome, SourceRun<'_>) {
+    let mut run = SourceRun::new(&pair.table, pair.variables, budget);
+    (run.run(), run)
 }
 
 /// "Matching step: hardened steps less the ticks and backs done."
@@ -44,9 +27,9 @@ fn unstruck_is_the_sources(pair: &Pair, budget: u16) -> Outcome {
     let (outcome, hardened) = pair.struck(budget, None);
     assert_ne!(outcome, Outcome::Alarm);
     assert_ne!(outcome, Outcome::PlaceBeyond);
-    let (matching, source) = pair.source(hardened.steps - hardened.ticks_and_backs);
+    let (matching, source) = source_run(pair, hardened.matching());
     assert_eq!(matching, outcome);
-    assert_eq!(source.steps, hardened.steps - hardened.ticks_and_backs);
+    assert_eq!(source.steps, hardened.matching());
     assert_eq!(source.trace, hardened.trace);
     assert_eq!(source.variables, hardened.variables);
     let open: Vec<usize> = hardened.frames.iter().map(|frame| frame.function).collect();
@@ -75,7 +58,7 @@ fn stops_before_it(pair: &Pair, run: &HardenedRun) {
 /// "A source run that finishes in n steps with t dos and c calls finishes
 /// hardened in n + t + c steps, if that is at most 65,535."
 fn finishing(pair: &Pair, budget: u16) -> bool {
-    let (outcome, source) = pair.source(budget);
+    let (outcome, source) = source_run(pair, budget);
     if outcome != Outcome::Finished {
         return false;
     }
@@ -87,12 +70,6 @@ fn finishing(pair: &Pair, budget: u16) -> bool {
     assert_eq!((outcome, hardened.steps), (Outcome::Finished, steps));
     assert_eq!(pair.struck(steps - 1, None).0, Outcome::BudgetSpent);
     true
-}
-
-/// "A guard is between two places if one of the lines from the lower place to
-/// just below the higher is a guard."
-fn wide(function: &[Line], one: usize, other: usize) -> bool {
-    function[one.min(other)..one.max(other)].iter().any(Line::is_guard)
 }
 
 /// How many jumps were wide, and how many of those landed before a do that overflows:
@@ -135,16 +112,11 @@ fn jumps_at(pair: &Pair, k: u16, budget: u16) -> Met {
             beyond(pair, &before, budget, jump);
         } else if wide(function, from, place) {
             met.wide += 1;
-            let overflow = function.get(place).filter(|line| overflows(line, &before.variables));
             for budget in [budget, k + 1, k + 2] {
-                match overflow {
-                    Some(_) => wide_overflow(pair, &before, budget, k, place),
-                    None => wide_jump(pair, &before, budget, k, place),
-                }
+                wide_end(pair, &before, budget, k, place);
             }
-            if let Some(line) = overflow {
-                met.overflow(*line, before.frames.len());
-            }
+            let line = function.get(place).filter(|line| overflows(line, &before.variables));
+            line.into_iter().for_each(|line| met.overflow(*line, before.frames.len()));
         } else if place == from {
             same(&pair.struck(budget, jump), &pair.struck(budget, None));
         }
@@ -158,66 +130,6 @@ fn same(one: &(Outcome, HardenedRun), other: &(Outcome, HardenedRun)) {
     assert_eq!(one.1.steps, other.1.steps);
     assert_eq!(one.1.trace, other.1.trace);
     assert_eq!(one.1.variables, other.1.variables);
-}
-
-/// "with 4 the step struck is not taken"
-fn beyond(pair: &Pair, before: &HardenedRun, budget: u16, jump: Option<Jump>) {
-    let (outcome, run) = pair.struck(budget, jump);
-    assert_eq!((outcome, run.steps), (Outcome::PlaceBeyond, before.steps));
-    assert_eq!(run.trace, before.trace);
-    assert_eq!(run.variables, before.variables);
-}
-
-/// "A run struck across a guard therefore ends with 5, in the step struck, exactly if it
-/// lands before such a do". Every budget here holds step k.
-fn wide_overflow(pair: &Pair, before: &HardenedRun, budget: u16, k: u16, place: usize) {
-    let (outcome, run) = pair.struck(budget, Some(Jump { k, place: place as u16 }));
-    assert_eq!((outcome, run.steps), (Outcome::Overflow, k + 1));
-    assert_eq!((&run.trace, run.variables), (&before.trace, before.variables));
-    let open = |run: &HardenedRun| run.frames.iter().map(|f| f.function).collect::<Vec<_>>();
-    assert_eq!(open(&run), open(before));
-}
-
-/// The variables behind a do that does not overflow.
-fn done(line: Line, v: &Variables) -> Variables {
-    let mut after = *v;
-    let [p, q] = [line.p, line.q].map(usize::from);
-    match line.op {
-        0 => after[p] = line.n,
-        1 => after[p] = v[q],
-        2 => after[p] += v[q],
-        _ => after[p] -= v[q],
-    }
-    after
-}
-
-/// "the alarm comes in step k if the place is before a guard, or is m with one
-/// function open; in step k + 1 if it is before a do ..., or is m with more
-/// open. ... Trace and variables are what the first k steps left, with the do at
-/// that place, if one stands there, done on them once."
-fn wide_jump(pair: &Pair, before: &HardenedRun, budget: u16, k: u16, place: usize) {
-    let span = before.span();
-    let line = (place < span.m).then(|| pair.lines[span.first + place]);
-    let alarm_step = match line {
-        Some(line) if line.is_guard() => k,
-        Some(_) => k + 1,
-        None if before.frames.len() == 1 => k,
-        None => k + 1,
-    };
-    let mut variables = before.variables;
-    let mut trace = before.trace.clone();
-    if let Some(line) = line.filter(|line| !line.is_guard()) {
-        variables = done(line, &variables);
-        trace.push(line.e);
-    }
-    let (outcome, run) = pair.struck(budget, Some(Jump { k, place: place as u16 }));
-    if alarm_step < budget {
-        assert_eq!((outcome, run.steps), (Outcome::Alarm, alarm_step + 1));
-    } else {
-        assert_eq!((outcome, run.steps), (Outcome::BudgetSpent, budget));
-    }
-    assert_eq!(run.variables, variables);
-    assert_eq!(run.trace, trace);
 }
 
 fn some_program(seed: u64, largest: usize) -> Program {

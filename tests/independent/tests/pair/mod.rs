@@ -1,0 +1,27 @@
+//! A program in both forms. Used by tests only.
+
+use independent::harden;
+use independent::hardened_run::{HardenedRun, Jump};
+use independent::line::Line;
+use independent::machine::{Outcome, Variables};
+use independent::table::{self, Table};
+
+pub struct Pair {
+    pub table: Table,
+    pub lines: Vec<Line>,
+    pub variables: Variables,
+}
+
+impl Pair {
+    pub fn new(rows: &[u8], variables: Variables) -> Pair {
+        let table = table::parse(rows).unwrap();
+        let lines = harden::lines(&table);
+        Pair { table, lines, variables }
+    }
+
+    /// A hardened run.
+    pub fn struck(&self, budget: u16, jump: Option<Jump>) -> (Outcome, HardenedRun<'_>) {
+        let mut run = HardenedRun::new(&self.lines, self.variables);
+        (run.run(budget, jump), run)
+    }
+}
