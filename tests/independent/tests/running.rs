@@ -2,10 +2,12 @@
 //! unstruck hardened run is the source's run at the matching step and raises no
 //! alarm; a wide jump raises it when 01 says, or overflows when 02, No. 5, says.
 
+mod between;
 mod edge;
 mod pair;
 mod struck;
 
+use between::wide;
 use edge::overflows;
 use independent::hardened_run::{HardenedRun, Jump};
 use independent::line::Line;
@@ -13,9 +15,9 @@ use independent::machine::Outcome;
 use independent::program::{self, Program};
 use independent::random::Random;
 use independent::source_run::SourceRun;
-use independent::{check, limits};
+use independent::{check, goes_on, limits};
 use pair::Pair;
-use struck::{beyond, wide, wide_end};
+use struck::{beyond, wide_end};
 
 fn source_run(pair: &Pair, budget: u16) -> (Outcome, SourceRun<'_>) {
     let mut run = SourceRun::new(&pair.table, pair.variables, budget);
@@ -34,6 +36,7 @@ fn unstruck_is_the_sources(pair: &Pair, budget: u16) -> Outcome {
     assert_eq!(source.variables, hardened.variables);
     let open: Vec<usize> = hardened.frames.iter().map(|frame| frame.function).collect();
     assert_eq!(source.open, open);
+    assert_eq!(source.at, goes_on::rows(&pair.rows_of_lines, &hardened));
     match outcome {
         Outcome::BudgetSpent => assert_eq!(hardened.steps, budget),
         Outcome::Overflow => stops_before_it(pair, &hardened),

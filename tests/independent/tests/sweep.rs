@@ -2,9 +2,11 @@
 //! the sum of the four, the second call, and another sweep, which strikes only where no
 //! guard is between; the buffers.
 
+mod between;
 mod edge;
 mod letters;
 
+use between::wide;
 use edge::overflows;
 use independent::by_name::{add, equal, functions, set, take, values, ELSE, END};
 use independent::hardened_run::{spans_of, HardenedRun};
@@ -186,12 +188,6 @@ fn a_part_that_is_not_taken() {
         assert_eq!(counts(&lines, &variables, budget), [77 - 22, 7, 3, 7 + 5]);
     }
     assert_eq!(counts(&lines, &variables, 7), [77 - 23, 7, 2, 7 + 5 + 2]);
-}
-
-/// "A guard is between two places if one of the lines from the lower place to just below
-/// the higher is a guard"
-fn wide(function: &[Line], one: usize, other: usize) -> bool {
-    function[one.min(other)..one.max(other)].iter().any(Line::is_guard)
 }
 
 /// Before a step of the unstruck run: function and place, how many are open, and the

@@ -8,12 +8,6 @@ use independent::machine::{Outcome, Variables};
 use crate::edge::overflows;
 use crate::pair::Pair;
 
-/// "A guard is between two places if one of the lines from the lower place to
-/// just below the higher is a guard."
-pub fn wide(function: &[Line], one: usize, other: usize) -> bool {
-    function[one.min(other)..one.max(other)].iter().any(Line::is_guard)
-}
-
 /// "with 4 the step struck is not taken"
 pub fn beyond(pair: &Pair, before: &HardenedRun, budget: u16, jump: Option<Jump>) {
     let (outcome, run) = pair.struck(budget, jump);
