@@ -6,18 +6,19 @@ mod between;
 mod counted;
 mod letters;
 mod pair;
+mod short;
 mod small;
 
 use between::wide;
 use counted::Counted;
-use independent::by_name::{self, values};
+use independent::by_name::values;
 use independent::hardened_run::{HardenedRun, Jump};
 use independent::machine::Outcome;
 use independent::program::{self, Program};
 use independent::random::Random;
 use independent::slip::{self, How, Slip};
 use independent::small_jump::{befores, Sort};
-use independent::{check, overflow_programs, sweep_programs};
+use independent::{overflow_programs, sweep_programs};
 use pair::Pair;
 use small::{agrees, Small};
 
@@ -153,27 +154,14 @@ fn random_programs() {
     met.least(&[("done twice, overflow in the step struck", 7000)]);
 }
 
-/// Every table of up to seven rows over thirteen sorts of them. With v15 = 1 a do counts v0
-/// up: an if and the case 1 are taken at 1, a loop ends at 3, and past 65,535 it overflows.
 #[test]
 fn every_short_table() {
-    let alphabet: Vec<char> = "fdielbcas12*.".chars().collect();
     let mut met = Counted::default();
-    for length in 0..=5_u32 {
-        for code in 0..13_usize.pow(length) {
-            let letter = |at| alphabet[code / 13_usize.pow(at) % 13];
-            let inner: String = (0..length).map(letter).collect();
-            let rows = letters::rows(&format!("f{inner}."));
-            if check(&rows) == 0 {
-                met.add("tables");
-                for v0 in [0, 1, 2, 65_534] {
-                    let program = by_name::of(rows.clone(), &[(0, v0), (15, 1)]);
-                    with_every_budget(&mut met, &program, 14, 24);
-                }
-            }
-        }
+    for program in short::programs() {
+        met.add("programs");
+        with_every_budget(&mut met, &program, 14, 24);
     }
-    met.least(&[("tables", 1000), ("equal", 35_000), ("left out", 3000), ("done twice", 2900)]);
+    met.least(&[("programs", 4000), ("equal", 35_000), ("left out", 3000), ("done twice", 2900)]);
     met.least(&[("left out, finished with another trace", 800)]);
     met.least(&[("left out, where the unstruck run overflows", 200)]);
     met.least(&[("done twice, finished with another trace", 700)]);
