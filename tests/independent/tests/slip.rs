@@ -11,14 +11,14 @@ mod small;
 
 use between::wide;
 use counted::Counted;
-use independent::by_name::values;
+use independent::by_name::{self, values};
 use independent::hardened_run::{HardenedRun, Jump};
 use independent::machine::Outcome;
 use independent::program::{self, Program};
 use independent::random::Random;
 use independent::slip::{self, How, Slip};
 use independent::small_jump::{befores, Sort};
-use independent::{overflow_programs, sweep_programs};
+use independent::{limits, overflow_programs, sweep_programs};
 use pair::Pair;
 use small::{agrees, Small};
 
@@ -26,7 +26,7 @@ use small::{agrees, Small};
 /// unstruck run, so many at most.
 fn small_jumps(pair: &Pair, most: u16) -> Vec<Small> {
     let mut jumps = Vec::new();
-    for (k, before) in (0..).zip(befores(&pair.lines, pair.variables, most)) {
+    for (before, k) in befores(&pair.lines, pair.variables, most).iter().zip(0..) {
         let span = before.span;
         let function = &pair.lines[span.first..span.first + span.m];
         for place in (0..=span.m).filter(|place| !wide(function, before.place, *place)) {
@@ -166,6 +166,25 @@ fn every_short_table() {
     met.least(&[("left out, where the unstruck run overflows", 200)]);
     met.least(&[("done twice, finished with another trace", 700)]);
     met.least(&[("done twice, overflow in the step struck", 300)]);
+}
+
+/// The last steps that a budget holds, of a loop that never ends and of a run that overflows
+/// in the very last: each round is test do tick leave, and there are five of them.
+#[test]
+fn the_last_steps_of_all() {
+    let mut met = Counted::default();
+    let endless = by_name::of(limits::endless(1), &[]);
+    for program in [endless, overflow_programs::in_the_last_step_of_all()] {
+        let pair = Pair::new(&program.rows, program.variables);
+        let unstruck = pair.struck(65_535, None);
+        for small in small_jumps(&pair, 65_535).iter().filter(|small| small.jump.k >= 65_515) {
+            let struck = agrees(&pair, small, small.jump.k..=65_535);
+            count(&mut met, small, &unstruck, &struck);
+        }
+    }
+    met.least(&[("equal", 40), ("left out", 10), ("done twice", 10)]);
+    met.least(&[("left out, where the unstruck run overflows", 1), ("left out, budget spent", 10)]);
+    met.least(&[("done twice, overflow in the step struck", 1), ("done twice, budget spent", 5)]);
 }
 
 /// A slip changes the one do that is reached at its step; where the run reaches another row
