@@ -1,6 +1,6 @@
-//! Document 01, with the switch, the figures, the sweep and the overflow of 02, a second
-//! time, written from the documents alone, to test another implementation against. See
-//! README.md.
+//! Document 01, with the switch, the figures, the sweep, the overflow and the small jump of
+//! 02, a second time, written from the documents alone, to test another implementation
+//! against. See README.md.
 
 pub mod around;
 pub mod by_name;
