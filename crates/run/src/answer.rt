@@ -1,10 +1,11 @@
-// What a run answers, as four lines, or five in a source run; a long trace takes more.
+// What a run answers, as four lines, or five in a source run or with a small jump; a long trace takes more.
 ghost use Rattle.io.specs.Counts.{Counts};
 use command::arguments::Asked;
 use console::output;
 use console::print;
 use rules::answer::Ran;
 use show::source_steps::Told;
+use slip::amount::Amount;
 
 // Numbers on a line.
 const MANY: usize = 20;
@@ -76,17 +77,41 @@ fn list_calls(hardened: bool, calls: u16, at: usize, text: &mut [u8; 65536]) -> 
     print::put(b'\n', named, text)
 }
 
+// What a small jump amounts to, in a line; of any other nothing is said.
+fn list_amount(amount: Amount, at: usize, text: &mut [u8; 65536]) -> usize {
+    match amount {
+        Amount::Other => at,
+        Amount::Nothing => print::word(b"jump changes nothing\n", at, text),
+        Amount::LeavesOut(row) => {
+            let named = print::named(b"jump leaves out row ", row, at, text);
+            print::put(b'\n', named, text)
+        }
+        Amount::Twice(row) => {
+            let named = print::named(b"jump does row ", row, at, text);
+            print::word(b" twice\n", named, text)
+        }
+    }
+}
+
 // The answer behind what the buffer holds already, or `refused N`. Behind steps there is never a refusal.
-pub fn tell(r: Ran, a: Asked, told: Told, trace: &[u16; 65535], text: &mut [u8; 65536]) {
+pub fn tell(
+    r: Ran,
+    a: Asked,
+    told: Told,
+    amount: Amount,
+    trace: &[u16; 65535],
+    text: &mut [u8; 65536],
+) {
     if r.number != 0 {
         output::refused(r.number, text);
         return;
     }
-    accepted(r, a, told, trace, text);
+    accepted(r, a, told, amount, trace, text);
 }
 
-fn accepted(r: Ran, a: Asked, told: Told, trace: &[u16], text: &mut [u8; 65536]) {
-    let outcome = print::named(b"outcome ", r.outcome as u16, told.at, text);
+fn accepted(r: Ran, a: Asked, told: Told, amount: Amount, trace: &[u16], text: &mut [u8; 65536]) {
+    let begun = list_amount(amount, told.at, text);
+    let outcome = print::named(b"outcome ", r.outcome as u16, begun, text);
     let steps = print::named(b"steps ", r.steps, named(r.outcome, outcome, text), text);
     let n = traced(r, trace);
     let listed = list_trace(&trace[..n], a.trace, steps, text);

@@ -4,7 +4,7 @@
 //     run hardened [budget=N] [v0=N .. v15=N] [jump=STEP:PLACE] [trace] [show] < lines
 //
 // It prints outcome, steps, trace, in a source run the calls, and variables, each on a line of its own, and with `show` each step before
-// them; or `refused N`, or `unreadable`, as the programs harden and readback do. A missing budget is 65,535, a missing variable 0. A wrong
+// them; a small jump is told in a line before the outcome; or `refused N`, or `unreadable`, as the programs harden and readback do. A missing budget is 65,535, a missing variable 0. A wrong
 // word is answered by a line on standard error, and nothing is run. The input is read to its end in constant memory before anything is
 // printed. docs/PROGRAMS.md has every word of it.
 ghost use mathlib.Core.Path.{_≡_};
@@ -28,6 +28,8 @@ use rules::strike::strike_by;
 use show::hardened_steps;
 use show::source_steps;
 use show::source_steps::Told;
+use slip::amount::Amount;
+use slip::find;
 
 // Slots for the longest trace.
 fn slots() -> [u16; 65535] {
@@ -98,8 +100,17 @@ fn run_table(a: Asked, table: &[u8], variables: [u16; VARIABLES]) {
     let mut text = io::large_buffer();
     let mut trace = slots();
     let told = list_steps(a, table, variables, &mut trace, &mut text);
+    let amount = amount(a, table, variables, &mut trace);
     let r = ran(a, table, variables, &mut trace);
-    answer::tell(r, a, told, &trace, &mut text);
+    answer::tell(r, a, told, amount, &trace, &mut text);
+}
+
+// What a jump amounts to, told before the run: it overwrites the slots.
+fn amount(a: Asked, table: &[u8], variables: [u16; VARIABLES], trace: &mut [u16; 65535]) -> Amount {
+    if a.struck {
+        return find::of_jump(table, variables, a.budget, a.step, a.place, trace);
+    }
+    Amount::Other
 }
 
 // A source run is always walked, since that counts its calls.

@@ -76,11 +76,11 @@ module _ (bs : List ℕ) (m : Map) (rd : Ready bs m) (held : List ℕ) (p : Part
   abbrev f : ℕ
   f = s .running .function
 
-  first-line : firstLine m (p .registers) ≡ startOf ls f
+  pub first-line : firstLine m (p .registers) ≡ startOf ls f
   first-line = ap (λ n. getD (m .starts) n 0) (st .function-is) ∙ rd .mapped .located .start-is f (omega (arith, st .inside .known))
 
-  resumes-are : placesIn m (p .registers) ≡ lastPlace ls f
-  resumes-are = ap (λ x. x - firstLine m (p .registers)) (last-line bs m rd held p s st) ∙ ap (λ x. finishOf ls f - x) first-line
+  pub places-are : placesIn m (p .registers) ≡ lastPlace ls f
+  places-are = ap (λ x. x - firstLine m (p .registers)) (last-line bs m rd held p s st) ∙ ap (λ x. finishOf ls f - x) first-line
 
   -- what the code needs to tell the place
   pub function-in : p .registers .function < 32
@@ -102,7 +102,7 @@ module _ (bs : List ℕ) (m : Map) (rd : Ready bs m) (held : List ℕ) (p : Part
             record {
               known = st .inside .known;
               not-before = omega arith;
-              not-after = omega (arith, resumes-are, rd .sound .ordered f (st .inside .known));
+              not-after = omega (arith, places-are, rd .sound .ordered f (st .inside .known));
             };
         own-is = st .own-is;
         waiting = st .waiting;
@@ -146,7 +146,7 @@ module _ (bs : List ℕ) (m : Map) (rd : Ready bs m) (held : List ℕ) (b k plac
   by-place true e = runs-on (leb-true place (placesIn m (p .registers)) e)
   by-place false e =
       record {
-        step-is = ap Beyond (resumes-are bs m rd held p s st);
+        step-is = ap Beyond (places-are bs m rd held p s st);
         steps-are = n;
         vars-are = st .vars-are;
         traces = st .traces;
@@ -161,7 +161,7 @@ module _ (bs : List ℕ) (m : Map) (rd : Ready bs m) (held : List ℕ) (b k plac
       (subst (λ x. Ended (linesIn bs) held (landOf bs m (suc b) place p)
       (after k (next (cond (leb place x) (on there) (untaken (Beyond (lastPlace (linesIn bs) (s .running .function))) s)) (hardenedStep (linesIn bs)))
       (λ s′. run (strikingStep (linesIn bs) (Jump k place)) b (suc k) s′)))
-      (resumes-are bs m rd held p s st) (by-place (leb place (placesIn m (p .registers))) refl))
+      (places-are bs m rd held p s st) (by-place (leb place (placesIn m (p .registers))) refl))
 
 -- ---- the steps before it
 pub lands-inside : (bs : List ℕ) (m : Map) (left place : ℕ) (o : Step) (f : ℕ → After) (z : After) → z .step ≡ o
