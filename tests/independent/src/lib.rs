@@ -49,6 +49,7 @@ pub mod replay_sweep;
 pub mod row;
 pub mod run_call_cases;
 pub mod run_cases;
+pub mod run_jump_text;
 pub mod run_overflow_cases;
 pub mod run_text;
 pub mod run_trace_cases;

@@ -12,6 +12,7 @@ use crate::readback;
 use crate::records;
 use crate::refusal::Refusal;
 use crate::row::ROW_BYTES;
+use crate::run_jump_text;
 use crate::run_words::{self, Asked};
 use crate::source_run::SourceRun;
 use crate::table;
@@ -90,6 +91,9 @@ fn hardened(asked: &Asked, bytes: &[u8]) -> Result<String, Refusal> {
     if asked.show {
         let row = run.line().map(|line| usize::from(line.e));
         text.push_str(&limit_met(outcome, row, Some(run.span().m)));
+    }
+    if let Some(jump) = jump {
+        text.push_str(&run_jump_text::told(&lines, asked.variables, asked.budget, jump));
     }
     text.push_str(&ended(asked, outcome, run.steps, &run.trace));
     line(&mut text, listed("variables", &run.variables));

@@ -56,6 +56,11 @@ impl Before {
             _ => Sort::Wide,
         }
     }
+
+    /// The row of the do that a slip is of: its line is at the lower of the two places.
+    pub fn row(&self, lines: &[Line], to: usize) -> u16 {
+        lines[self.span.first + self.place.min(to)].e
+    }
 }
 
 impl Sort {
@@ -79,4 +84,11 @@ pub fn befores(lines: &[Line], variables: Variables, most: u16) -> Vec<Before> {
         }
     }
     befores
+}
+
+/// The unstruck run before the step that a jump strikes; none where it strikes nothing: "a
+/// run that ends before k, or whose budget is k, is not struck".
+pub fn struck(lines: &[Line], variables: Variables, budget: u16, k: u16) -> Option<Before> {
+    let mut run = HardenedRun::new(lines, variables);
+    (k < budget && run.run(k, None) == Outcome::BudgetSpent).then(|| Before::of(&run))
 }

@@ -84,7 +84,7 @@ variables 0 1 0 0 0 0 0 0 0 0 0 0 0 0 0 0
     // across no guard: the second round's do done twice
     let twice = run("hardened show v1=1 jump=8:3", LINES);
     let last = "\njump to place 3\nstep 8 function 0 place 3 do\nrow 3 overflows\n\
-        outcome 5 overflow\nsteps 9\ntrace 1 3 3\nvariables 0 1 0 ";
+        jump does row 3 twice\noutcome 5 overflow\nsteps 9\ntrace 1 3 3\nvariables 0 1 0 ";
     assert!(twice.contains(last), "{twice}");
 }
 

@@ -84,6 +84,7 @@ jump to place 1
 step 0 function 0 place 1 tick counter 0 holds 1
 step 1 function 0 place 2 test counter 0 holds 2
 step 2 function 0 place 6 ret counter 0 holds 4
+jump leaves out row 1
 outcome 1 finished
 steps 3
 trace
