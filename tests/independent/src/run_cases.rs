@@ -8,6 +8,7 @@ use std::path::Path;
 use crate::damage;
 use crate::faults;
 use crate::faults_limits;
+use crate::hardened_run::Jump;
 use crate::limits;
 use crate::line::LINE_BYTES;
 use crate::machine::{Variables, NO_JUMP};
@@ -15,12 +16,15 @@ use crate::make::bytes_of;
 use crate::malformed_texts;
 use crate::program;
 use crate::programs::Program;
+use crate::protocol::Struck;
 use crate::random::Random;
 use crate::row::ROW_BYTES;
 use crate::run_call_cases;
+use crate::run_jump_cases;
 use crate::run_overflow_cases;
 use crate::run_trace_cases;
 use crate::run_word_cases;
+use crate::small_strikes::some_small_strike;
 use crate::strikes::{some_strike, source_budget};
 use crate::switch_limits;
 use crate::text;
@@ -59,6 +63,7 @@ pub fn cases(seed: u64, count: usize) -> Vec<Case> {
     cases.extend(run_trace_cases::all());
     cases.extend(run_call_cases::all());
     cases.extend(run_overflow_cases::all());
+    cases.extend(run_jump_cases::all());
     cases.extend((0..count).map(|_| random(&mut rng)));
     cases
 }
@@ -214,14 +219,22 @@ fn random(rng: &mut Random) -> Case {
         return source(&shuffled(rng, &format!("{words} budget={budget}")), &program.rows);
     }
     let lines = damage::hardened(&program.rows);
-    let how = some_strike(rng, &lines, &program.variables);
-    let jump = match how.k {
-        NO_JUMP => String::new(),
-        k => format!("jump={k}:{}", how.place),
-    };
-    let words = format!("{jump} {words} budget={}", how.budget);
+    let words = format!("{} {words}", jump_and_budget(rng, &lines, &program.variables));
     let lines = if rng.percent(5) { damage::any(rng, &lines) } else { lines };
     hardened(&shuffled(rng, &words), &lines)
+}
+
+/// A budget and any jump or none, or a small one.
+fn jump_and_budget(rng: &mut Random, lines: &[u8], variables: &Variables) -> String {
+    if rng.percent(40) {
+        let (Jump { k, place }, budget) = some_small_strike(rng, lines, variables);
+        return format!("jump={k}:{place} budget={budget}");
+    }
+    let Struck { budget, k, place, .. } = some_strike(rng, lines, variables);
+    match k {
+        NO_JUMP => format!("budget={budget}"),
+        _ => format!("jump={k}:{place} budget={budget}"),
+    }
 }
 
 /// "the others may stand in any order"

@@ -5,7 +5,7 @@ mod listing;
 use independent::by_name::{add, call, equal, functions, set, ELSE, END};
 use independent::printed::Printed;
 use independent::{limits, row, run_text, switch_limits, text};
-use listing::LINES;
+use listing::{LINES, ROWS};
 
 fn printed(given: &str, input: &str) -> Printed {
     let words: Vec<Vec<u8>> = given.split(' ').map(|word| word.as_bytes().to_vec()).collect();
@@ -200,6 +200,17 @@ fn the_last_step_of_all() {
         let text = run(&format!("budget=65533 jump={jump}"), &lines);
         assert!(text.starts_with("outcome 0 budget spent\nsteps 65533\n"));
     }
+}
+
+/// A source run has no jump, and a hardened one may have none.
+#[test]
+fn without_a_jump() {
+    let ended = format!("trace 1 3 3\nvariables 0 1 {REST}\n");
+    assert_eq!(run("v1=1", LINES), format!("outcome 1 finished\nsteps 12\n{ended}"));
+    let Printed { out, .. } = printed("source v1=1", ROWS);
+    assert!(out.starts_with("outcome 1 finished\nsteps 9\n"), "{out}");
+    let Printed { out, .. } = printed("source v1=1 jump=0:1", ROWS);
+    assert_eq!(out, "");
 }
 
 #[test]
