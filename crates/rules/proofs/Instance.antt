@@ -9,7 +9,7 @@ use Rattle.rules.specs.Line.{linesIn}
 use Rattle.rules.specs.Run.{tally}
 use Rattle.rules.specs.Hardened.{counterForm, strikeBy, hardenedRun}
 use Rattle.rules.specs.Demands.{struckShown, alarmStep, doneAt, overflowsAt, caughtFrom, slipOf, Slipped, Told, beyond-m, wide, small}
-use Rattle.rules.specs.Match.{shown, quietAt, matchingOf, guardFrom}
+use Rattle.rules.specs.Match.{shown, quietAt, quietDone, matchingOf, guardFrom}
 use Rattle.rules.specs.ReadBack.{sourceBytes, isHardened}
 use Rattle.rules.specs.Listing.{variables}
 use Rattle.rules.specs.Cases.{rows, lines, given}
@@ -35,5 +35,5 @@ small-D (wide l w q) = clash w refl
 small-D (small l w q) = q
 
 pub case-D : shown (hardenedRun (linesIn lines) (strikeBy 0 1) 20 given) ≡ record { outcome = 1; trace = []; variables = variables 0 1 0 0; functions = 0 ∷ [] }
-unfolding rows lines compute tally quietAt matchingOf slipOf
+unfolding rows lines compute tally quietAt quietDone matchingOf slipOf
 case-D = small-D ((demand-3 lines given 20 0 1 listing-hardened) .told refl) .as-slipped

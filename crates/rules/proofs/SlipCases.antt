@@ -1,14 +1,14 @@
 -- The worked small jumps hold of the definitions, by computation. Assumes nothing.
 use mathlib.Core.Path.{refl}
 use Rattle.rules.specs.Run.{tally}
-use Rattle.rules.specs.Match.{quietAt, matchingOf}
+use Rattle.rules.specs.Match.{quietAt, quietDone, matchingOf}
 use Rattle.rules.specs.Demands.{slipOf}
 use Rattle.rules.specs.Cases.{rows, lines}
 use Rattle.rules.specs.SlipCases.{SlipCases}
 use Rattle.rules.proofs.Compute.{compute}
 
 pub cases : SlipCases
-unfolding rows lines compute tally quietAt matchingOf slipOf
+unfolding rows lines compute tally quietAt quietDone matchingOf slipOf
 cases =
     record {
       D = record { slips = refl; struck = refl; matches = refl; source = refl };

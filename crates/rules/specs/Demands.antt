@@ -32,7 +32,7 @@
 -- Each part is said of any form of hardened lines; `Demand3` and `Theorem` are about the counter form, whose bytes are 01's. A form is given
 -- with the lines, before values, budget and jump: so one whose guards all pass does not meet `caught`, and one whose guards all refuse
 -- does not meet `no-alarm`.
-use Prim.Native.Nat.{ℕ, suc, _≤_, _<_}
+use Prim.Native.Nat.{ℕ, suc, _+_, _≤_, _<_}
 use mathlib.Core.Logic.{_≢_}
 use mathlib.Core.Path.{_≡_}
 use mathlib.Core.Bool.{Bool, true, false, cond, not, _&&_}
@@ -41,7 +41,8 @@ use lib.Dec.{eqb, ltb}
 use Rattle.rules.specs.declared.strike.Strike.the-variants.{None}
 use Rattle.rules.specs.declared.step.Step.the-variants.{Beyond}
 use Rattle.rules.specs.Limits.{noStep}
-use Rattle.rules.specs.Row.{Table, tableOf, operandsAt}
+use Rattle.rules.specs.declared.kind.Kind.the-variants.{Do}
+use Rattle.rules.specs.Row.{Table, tableOf, kindAt, operandsAt}
 use Rattle.rules.specs.Line.{Line, doLine, tickLine, testLine, leaveLine, outLine, callLine, backLine, retLine, lineAt, isGuard, linesIn}
 use Rattle.rules.specs.Function.{lastPlace}
 use Rattle.rules.specs.ReadBack.{sourceBytes, isHardened}
@@ -51,7 +52,7 @@ use Rattle.rules.specs.Run.{Answer, outcomeOf}
 use Rattle.rules.specs.Source.{sourceRun}
 use Rattle.rules.specs.Form.{Form, strikeBy, placeLine, runOf}
 use Rattle.rules.specs.Hardened.{counterForm}
-use Rattle.rules.specs.Match.{shown, matchingOf, matching, dosIn, callsIn, hardenedSteps, guardBetween}
+use Rattle.rules.specs.Match.{shown, quietDone, matchingOf, matching, dosIn, callsIn, hardenedSteps, guardBetween}
 use Rattle.rules.specs.Slip.{Slip, untouched, leftOut, doneTwice, slippedRun, slipBetween}
 
 -- ---- unstruck
@@ -164,13 +165,13 @@ slipOf F ls vs k p =
     let s = (before F ls vs k) .state in
     slipBetween (s .running .at) (placeLine ls p s) (matching F ls k vs)
 
--- line x is the do that the source's run does in its step j
+-- line x is the do that the source's run comes to in its step j
 pub record DoneIn (ls : List Line) (t : Table) (vs : List ℕ) (x j : ℕ) : Type 0 where
   pub goes-on : outcomeOf ((sourceRun t j vs) .step) ≡ 0
-  pub takes-j : (sourceRun t j vs) .steps ≡ j
   pub row : ℕ
   pub reached : (sourceRun t j vs) .state .running .at ≡ row
-  pub is-do : lineAt ls x ≡ doLine (operandsAt t row) row
+  pub is-do : kindAt t row ≡ Do
+  pub line-is : lineAt ls x ≡ doLine (operandsAt t row) row
 
 -- the do between lines x and y, where this slips
 abbrev pub ThatDo : List Line → Table → (vs : List ℕ) → (x y : ℕ) → Slip → Type 0
@@ -186,6 +187,7 @@ slippedAt F ls t vs b k p = slippedRun t (slipOf F ls vs k p) (matchingOf F ls (
 pub record Slipped {H : Type 0} (F : Form H) (ls : List Line) (t : Table) (vs : List ℕ) (b k p : ℕ) : Type 0 where
   pub as-slipped : shown (runOf F ls (strikeBy k p) b vs) ≡ shown (slippedAt F ls t vs b k p)
   pub at-matching : (slippedAt F ls t vs b k p) .steps ≡ matchingOf F ls (strikeBy k p) b vs
+  pub in-steps : (runOf F ls (strikeBy k p) b vs) .steps ≡ (slippedAt F ls t vs b k p) .steps + quietDone F ls (strikeBy k p) b vs
   pub no-alarm : outcomeOf ((runOf F ls (strikeBy k p) b vs) .step) ≢ 2
   pub that-do : ThatDo ls t vs ((before F ls vs k) .state .running .at) (placeLine ls p ((before F ls vs k) .state)) (slipOf F ls vs k p)
 

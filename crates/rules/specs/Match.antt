@@ -57,9 +57,13 @@ quietOn ls (untaken o s) = false
 abbrev pub quietStep : {H : Type 0} → List Line → Strike → (k : ℕ) → State H → Bool
 quietStep ls x k s = quietOn ls (struck ls x k s)
 
+-- the ticks and backs done
+unfoldable pub quietDone : {H : Type 0} → Form H → List Line → Strike → (budget : ℕ) → (vars : List ℕ) → ℕ
+quietDone F ls x b vs = tally (quietStep ls x) (strikingStepOf F ls x) b 0 (startBy F vs)
+
 -- "Matching step: hardened steps less the ticks and backs done."
 unfoldable pub matchingOf : {H : Type 0} → Form H → List Line → Strike → (budget : ℕ) → (vars : List ℕ) → ℕ
-matchingOf F ls x b vs = (runOf F ls x b vs) .steps - tally (quietStep ls x) (strikingStepOf F ls x) b 0 (startBy F vs)
+matchingOf F ls x b vs = (runOf F ls x b vs) .steps - quietDone F ls x b vs
 
 abbrev pub matching : {H : Type 0} → Form H → List Line → (budget : ℕ) → (vars : List ℕ) → ℕ
 matching F ls b vs = matchingOf F ls None b vs

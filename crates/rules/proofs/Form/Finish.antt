@@ -13,7 +13,7 @@ use Rattle.rules.specs.Check.{isCall}
 use Rattle.rules.specs.Harden.{harden}
 use Rattle.rules.specs.State.{State}
 use Rattle.rules.specs.Run.{run, tally, outcomeOf}
-use Rattle.rules.specs.Source.{Source, sourceStep, sourceStart, sourceRun}
+use Rattle.rules.specs.Source.{Source, sourceStart, sourceRun}
 use Rattle.rules.specs.Form.{Form, stepOf, startBy, runOf}
 use Rattle.rules.specs.Match.{isDo, dosIn, callsIn}
 use Rattle.rules.specs.Demands.{Finishing}

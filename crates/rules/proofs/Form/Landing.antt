@@ -5,7 +5,6 @@ use mathlib.Core.Path.{_≡_, refl, sym, ap, _∙_, subst}
 use mathlib.Core.Bool.{Bool, true, false}
 use mathlib.Core.List.{List, _∷_}
 use Prim.Native.Nat.{ℕ, suc, _+_, _-_, _<_}
-use native.Mathlib.Nat.{add-zero}
 use native.Mathlib.Omega.{arith}
 use lib.Dec.{eqb}
 use lib.ListN.{length}
@@ -15,7 +14,7 @@ use Rattle.rules.specs.declared.kind.Kind.the-variants.{Function, Do, If
 use Rattle.rules.specs.Row.{Table, kindAt, operandsAt}
 use Rattle.rules.specs.Scan.{Part, body, thenPart, elsePart, loopBody, Open, hasElse}
 use Rattle.rules.specs.Value.{value}
-use Rattle.rules.specs.Line.{Line, doLine, tickLine, lineAt}
+use Rattle.rules.specs.Line.{doLine, lineAt}
 use Rattle.rules.specs.Harden.{lineCount, lineOf, testOf, endLine, rowLines, harden}
 use Rattle.rules.specs.Function.{startOf}
 use Rattle.rules.specs.State.{State}
@@ -34,15 +33,15 @@ use Rattle.rules.proofs.Form.Where.{is-do}
 use Rattle.rules.proofs.Form.Struck.{landedAt}
 
 -- ---- what a small jump to place p does
-pub data Lands {H : Type 0} {t : Table} {F : Form H} (S : Settles t F) (p d : ℕ) (s : Source) (h : State H) (tick : Bool) (row : ℕ) : Type 0 where
+pub data Landed {H : Type 0} {t : Table} {F : Form H} (S : Settles t F) (p d : ℕ) (s : Source) (h : State H) (tick : Bool) (row : ℕ) : Type 0 where
   -- nothing
-  same-place : placeLine (harden t) p h ≡ h .running .at → Lands S p d s h tick row
+  same-place : placeLine (harden t) p h ≡ h .running .at → Landed S p d s h tick row
   -- it leaves out the do that the source is about to do
-  past-do : placeLine (harden t) p h ≡ suc (h .running .at) → lineAt (harden t) (h .running .at) ≡ doLine (operandsAt t (s .running .at)) (s .running .at)
-      → Related S (suc d) (toRow (suc (s .running .at)) s) (landedAt (harden t) p h) → Lands S p d s h tick row
+  past-do : placeLine (harden t) p h ≡ suc (h .running .at) → kindAt t (s .running .at) ≡ Do → lineAt (harden t) (h .running .at) ≡ doLine (operandsAt t (s .running .at)) (s .running .at)
+      → Related S (suc d) (toRow (suc (s .running .at)) s) (landedAt (harden t) p h) → Landed S p d s h tick row
   -- it goes back to the do of that row, whose tick is due
-  before-do : (d′ : ℕ) → tick ≡ true → h .running .at ≡ suc (placeLine (harden t) p h) → lineAt (harden t) (placeLine (harden t) p h) ≡ doLine (operandsAt t row) row
-      → Related S d′ (toRow row s) (landedAt (harden t) p h) → Lands S p d s h tick row
+  back-to-do : (d′ : ℕ) → tick ≡ true → kindAt t row ≡ Do → h .running .at ≡ suc (placeLine (harden t) p h) → lineAt (harden t) (placeLine (harden t) p h) ≡ doLine (operandsAt t row) row
+      → Related S d′ (toRow row s) (landedAt (harden t) p h) → Landed S p d s h tick row
 
 -- ---- from the first line of a row that is no do, no place lies across a do
 test-alone : (t : Table) (i : ℕ) (fs : List Open) (b : Bool) (x : ℕ) → acrossBy (testOf t i fs b) x ≡ x
@@ -77,7 +76,7 @@ module _ (t : Table) (ok : Proper t) {H : Type 0} {F : Form H} (S : Settles t F)
   kept = S .at k (f ∷ fs) w
 
   abbrev Goal : Mode S i j k w (S .seen l) (value t (f .region) i) → Type 0
-  Goal x = Lands S p (length rest + due x) (src n j rest vs tr) (hard n k kept (lineBacks S rest) l vs tr) (tickDue x) i
+  Goal x = Landed S p (length rest + due x) (src n j rest vs tr) (hard n k kept (lineBacks S rest) l vs tr) (tickDue x) i
 
   line-is : (x ph : ℕ) → x ≡ lineOf t i + ph → ph < lineCount (kindAt t i) → lineAt (harden t) x ≡ lineAt (rowLines t i (f ∷ fs) (kindAt t i)) ph
   line-is x ph e h = ap (lineAt (harden t)) e ∙ line-at t i ph (m .within) h ∙ ap (λ s. lineAt (rowLines t i s (kindAt t i)) ph) (m .open-is)
@@ -114,7 +113,7 @@ module _ (t : Table) (ok : Proper t) {H : Type 0} {F : Form H} (S : Settles t F)
       by true q =
           let d = is-do (kindAt t i) q in
           let y : there ≡ suc k = e ∙ past-line d k ea in
-          past-do y (ap (lineAt (harden t)) ea ∙ do-line d ∙ ap (λ z. doLine (operandsAt t z) z) (sym ej))
+          past-do y (ap (kindAt t) ej ∙ d) (ap (lineAt (harden t)) ea ∙ do-line d ∙ ap (λ z. doLine (operandsAt t z) z) (sym ej))
           (record {
             n = n;
             i = i;
@@ -136,7 +135,7 @@ module _ (t : Table) (ok : Proper t) {H : Type 0} {F : Form H} (S : Settles t F)
           })
   crosses ne e (ticking d ej ea ew) =
       let y : there ≡ lineOf t i = e ∙ from-tick d k ea in
-      before-do (length rest) refl (ea ∙ ap suc (sym y)) (ap (lineAt (harden t)) y ∙ do-line d)
+      back-to-do (length rest) refl d (ea ∙ ap suc (sym y)) (ap (lineAt (harden t)) y ∙ do-line d)
       (record {
         n = n;
         i = i;
@@ -168,7 +167,7 @@ module _ (t : Table) (ok : Proper t) {H : Type 0} {F : Form H} (S : Settles t F)
 
 -- ---- from related states
 pub lands : (t : Table) → Proper t → {H : Type 0} {F : Form H} (S : Settles t F) → (d : ℕ) (s : Source) (h : State H) (r : Related S d s h) → (p : ℕ)
-    → guardBetween (harden t) (h .running .at) (placeLine (harden t) p h) ≡ false → Lands S p d s h (tickDue (r .mode)) (r .i)
+    → guardBetween (harden t) (h .running .at) (placeLine (harden t) p h) ≡ false → Landed S p d s h (tickDue (r .mode)) (r .i)
 lands t ok S d s h r p g =
     rw (r .owes, r .s-is, r .h-is)
     (any-place t ok S (r .n) (r .i) (r .j) (r .k) (r .w) (r .l) (r .rest) (r .vs) (r .tr) (r .f) (r .fs) (r .in-function) (r .linked) p

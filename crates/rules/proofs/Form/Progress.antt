@@ -98,7 +98,7 @@ pub record JustDid (t : Table) (vs : List ℕ) (m row : ℕ) (s : Source) : Type
   pub row-is : row ≡ doing .running .at
 
 -- the run stands at h and its source at s, after m steps of the source and so many ticks and backs
-pub record Stand {H : Type 0} {t : Table} {F : Form H} (S : Settles t F) (vs : List ℕ) (k : ℕ) : Type 0 where
+pub record Reaches {H : Type 0} {t : Table} {F : Form H} (S : Settles t F) (vs : List ℕ) (k : ℕ) : Type 0 where
   pub s : Source
   pub h : State H
   pub owed : ℕ
@@ -106,7 +106,7 @@ pub record Stand {H : Type 0} {t : Table} {F : Form H} (S : Settles t F) (vs : L
   pub m : ℕ
   pub quiet : ℕ
   pub counted : k ≡ m + quiet
-  pub line-goes : (x : Strike) → NotBefore k x → Leads (strikingStepOf F (harden t) x) k (startBy F vs) h
+  pub line-goes : Leads (lineMachine S) k (startBy F vs) h
   pub quiets : (x : Strike) → NotBefore k x → (b : ℕ)
       → tally (quietStep (harden t) x) (strikingStepOf F (harden t) x) (k + b) 0 (startBy F vs) ≡ quiet + tally (quietStep (harden t) x) (strikingStepOf F (harden t) x) b k h
   pub source-goes : (x : Slip) → Unslipped m x → Leads (slippingStep t x) m (sourceStart vs) s
@@ -114,7 +114,7 @@ pub record Stand {H : Type 0} {t : Table} {F : Form H} (S : Settles t F) (vs : L
 
 module _ (t : Table) (ok : Proper t) {H : Type 0} {F : Form H} (S : Settles t F) (vs : List ℕ) where
   -- at the start nothing is done and no tick is due
-  at-start : Stand S vs 0
+  at-start : Reaches S vs 0
   at-start =
       record {
         s = sourceStart vs;
@@ -124,16 +124,16 @@ module _ (t : Table) (ok : Proper t) {H : Type 0} {F : Form H} (S : Settles t F)
         m = 0;
         quiet = 0;
         counted = omega arith;
-        line-goes = λ x l. leads-none (strikingStepOf F (harden t) x) (startBy F vs);
+        line-goes = leads-none (lineMachine S) (startBy F vs);
         quiets = λ x l b. rw (zero-add b, zero-add (tally (quietStep (harden t) x) (strikingStepOf F (harden t) x) b 0 (startBy F vs)));
         source-goes = λ x l. leads-none (slippingStep t x) (sourceStart vs);
         came = λ q. absurd (let y : ⊥ = omega (arith, owed-is S 0 (sourceStart vs) (startBy F vs) (start t ok S vs), tick-is-due S ((start t ok S vs) .mode) q) in y);
       }
 
   -- a step of the hardened run: so much for its own side
-  module _ (k : ℕ) (a : Stand S vs k) (h′ : State H) (eh : stepOf F (harden t) (a .h) ≡ on h′) where
-    line-on : (x : Strike) → NotBefore (suc k) x → Leads (strikingStepOf F (harden t) x) (suc k) (startBy F vs) h′
-    line-on x l = leads-on (strikingStepOf F (harden t) x) k (startBy F vs) (a .h) h′ (a .line-goes x (not-before k x l)) (rw (not-struck-yet S k x (a .h) l) eh)
+  module _ (k : ℕ) (a : Reaches S vs k) (h′ : State H) (eh : stepOf F (harden t) (a .h) ≡ on h′) where
+    line-on : Leads (lineMachine S) (suc k) (startBy F vs) h′
+    line-on = leads-on (lineMachine S) k (startBy F vs) (a .h) h′ (a .line-goes) eh
 
     quiets-on : (q : Bool) → quietAt (harden t) (a .h) ≡ q → (x : Strike) → NotBefore (suc k) x → (b : ℕ)
         → tally (quietStep (harden t) x) (strikingStepOf F (harden t) x) (suc k + b) 0 (startBy F vs)
@@ -144,8 +144,8 @@ module _ (t : Table) (ok : Proper t) {H : Type 0} {F : Form H} (S : Settles t F)
         ∙ rw (not-struck-yet S k x (a .h) l, eh, e) (omega arith)
 
   -- a step of both
-  both-move : (k : ℕ) (a : Stand S vs k) (s′ : Source) (h′ : State H) → quietAt (harden t) (a .h) ≡ false → sourceStep t (a .s) ≡ on s′ → stepOf F (harden t) (a .h) ≡ on h′
-      → Arrives S (a .owed + extraAt t (a .s)) (a .s .running .at) s′ h′ → Stand S vs (suc k)
+  both-move : (k : ℕ) (a : Reaches S vs k) (s′ : Source) (h′ : State H) → quietAt (harden t) (a .h) ≡ false → sourceStep t (a .s) ≡ on s′ → stepOf F (harden t) (a .h) ≡ on h′
+      → Arrives S (a .owed + extraAt t (a .s)) (a .s .running .at) s′ h′ → Reaches S vs (suc k)
   both-move k a s′ h′ q es eh r =
       record {
         s = s′;
@@ -162,7 +162,7 @@ module _ (t : Table) (ok : Proper t) {H : Type 0} {F : Form H} (S : Settles t F)
       }
 
   -- a tick or a back, after which none is due
-  line-moves : (k : ℕ) (a : Stand S vs k) (h′ : State H) (d′ : ℕ) → quietAt (harden t) (a .h) ≡ true → stepOf F (harden t) (a .h) ≡ on h′ → Related S d′ (a .s) h′ → a .owed ≡ suc d′ → Stand S vs (suc k)
+  line-moves : (k : ℕ) (a : Reaches S vs k) (h′ : State H) (d′ : ℕ) → quietAt (harden t) (a .h) ≡ true → stepOf F (harden t) (a .h) ≡ on h′ → Related S d′ (a .s) h′ → a .owed ≡ suc d′ → Reaches S vs (suc k)
   line-moves k a h′ d′ q eh r de =
       record {
         s = a .s;
@@ -179,7 +179,7 @@ module _ (t : Table) (ok : Proper t) {H : Type 0} {F : Form H} (S : Settles t F)
       }
 
   -- d steps more, if they do not end the run
-  further : (d k : ℕ) (a : Stand S vs k) → outcomeOf ((run (lineMachine S) d k (a .h)) .step) ≡ 0 → Stand S vs (k + d)
+  further : (d k : ℕ) (a : Reaches S vs k) → outcomeOf ((run (lineMachine S) d k (a .h)) .step) ≡ 0 → Reaches S vs (k + d)
   unfolding run outcomeOf both-move line-moves
   further zero k a o = rw (add-zero k) a
   further (suc d) k a o = by (Simulate.next t ok S (a .owed) (a .s) (a .h) (a .related)) (λ a′ o′. further d (suc k) a′ o′)
@@ -187,11 +187,11 @@ module _ (t : Table) (ok : Proper t) {H : Type 0} {F : Form H} (S : Settles t F)
       shift : suc k + d ≡ k + suc d
       shift = omega arith
 
-      by : Next S (a .owed) (a .s) (a .h) → ((a′ : Stand S vs (suc k)) → outcomeOf ((run (lineMachine S) d (suc k) (a′ .h)) .step) ≡ 0 → Stand S vs (suc k + d)) → Stand S vs (k + suc d)
-      by (moves q (both-on s′ h′ es eh r)) ih = subst (Stand S vs) shift (ih (both-move k a s′ h′ q es eh r) (rw eh at o))
+      by : Next S (a .owed) (a .s) (a .h) → ((a′ : Reaches S vs (suc k)) → outcomeOf ((run (lineMachine S) d (suc k) (a′ .h)) .step) ≡ 0 → Reaches S vs (suc k + d)) → Reaches S vs (k + suc d)
+      by (moves q (both-on s′ h′ es eh r)) ih = subst (Reaches S vs) shift (ih (both-move k a s′ h′ q es eh r) (rw eh at o))
       by (moves q (both-end x s′ h′ es eh sm which)) ih = absurd (end-not-zero _ x which (rw eh at o))
-      by (waits q h′ d′ eh r de) ih = subst (Stand S vs) shift (ih (line-moves k a h′ d′ q eh r de) (rw eh at o))
+      by (waits q h′ d′ eh r de) ih = subst (Reaches S vs) shift (ih (line-moves k a h′ d′ q eh r de) (rw eh at o))
 
-  pub stand : (k : ℕ) → outcomeOf ((run (lineMachine S) k 0 (startBy F vs)) .step) ≡ 0 → Stand S vs k
+  pub reaches : (k : ℕ) → outcomeOf ((run (lineMachine S) k 0 (startBy F vs)) .step) ≡ 0 → Reaches S vs k
   unfolding at-start
-  stand k o = subst (Stand S vs) (zero-add k) (further k 0 at-start o)
+  reaches k o = subst (Reaches S vs) (zero-add k) (further k 0 at-start o)

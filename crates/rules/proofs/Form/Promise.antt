@@ -65,7 +65,7 @@ module _ {H : Type 0} (F : Form H) (ls : List Line) (t : Table) (vars : List ℕ
       by : Told F ls t vars b k p → AsSlipped F ls t vars b k p got
       by (beyond-m l q) = absurd (let z : ⊥ = omega arith in z)
       by (wide l w q) = clash w g
-      by (small l w q) = record { as-run = as-run e (slippedAt F ls t vars b k p) (q .as-slipped) (q .no-alarm); in-steps = q .at-matching }
+      by (small l w q) = record { as-run = as-run e (slippedAt F ls t vars b k p) (q .as-slipped) (q .no-alarm); at-matching = q .at-matching; in-steps = ap (λ x. x .steps) (seen-is (accepted e)) ∙ q .in-steps; that-do = q .that-do }
 
   pub promised : RunPromise F ls t vars b k p got
   unfolding outcomeOf

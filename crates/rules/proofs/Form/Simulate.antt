@@ -19,7 +19,7 @@ use Rattle.rules.specs.Harden.{lineCount, lineOf, testOf, endLine, rowLi
 use Rattle.rules.specs.Function.{finishOf}
 use Rattle.rules.specs.State.{Frame, State}
 use Rattle.rules.specs.Run.{on}
-use Rattle.rules.specs.Source.{Source, sourceStep, sourceStart}
+use Rattle.rules.specs.Source.{Source, sourceStart}
 use Rattle.rules.specs.Form.{Form, stepOf, startBy}
 use Rattle.rules.specs.Match.{isQuiet, quietAt}
 use Rattle.rules.proofs.Logic.{clash}

@@ -14,7 +14,7 @@ use Rattle.rules.specs.Line.{Line, leaveLine, lineAt}
 use Rattle.rules.specs.Harden.{lineCount, lineOf, endLine, rowLines, harden}
 use Rattle.rules.specs.State.{Frame}
 use Rattle.rules.specs.Run.{on}
-use Rattle.rules.specs.Source.{endRow, rowStep, sourceStep}
+use Rattle.rules.specs.Source.{endRow, rowStep}
 use Rattle.rules.specs.Form.{Form, turnBy, lineStepOf, stepOf}
 use Rattle.rules.proofs.Logic.{clash}
 use Rattle.rules.proofs.Accepted.{Proper}

@@ -16,7 +16,7 @@ use Rattle.rules.specs.Line.{Line, outLine, lineAt}
 use Rattle.rules.specs.Harden.{lineCount, lineOf, ownRegion, openerValue, rowLines, harden}
 use Rattle.rules.specs.State.{Frame}
 use Rattle.rules.specs.Run.{on}
-use Rattle.rules.specs.Source.{toRow, rowStep, sourceStep}
+use Rattle.rules.specs.Source.{toRow, rowStep}
 use Rattle.rules.specs.Form.{Form, turnBy, lineStepOf, stepOf}
 use Rattle.rules.proofs.Logic.{clash}
 use Rattle.rules.proofs.Accepted.{Proper}

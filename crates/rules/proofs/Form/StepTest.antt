@@ -29,7 +29,7 @@ use Rattle.rules.proofs.Function.{InFunction, move-to}
 use Rattle.rules.proofs.Words.{word-base, word-at}
 use Rattle.rules.proofs.Parts.{body-below}
 use Rattle.rules.proofs.Form.Settles.{Settles}
-use Rattle.rules.proofs.Form.Relation.{Back, lineBacks, src, hard, here, Linked, ticking, Related, Arrives, SharedEnd, early, Both, both-on, both-end, source-step, line-step, ready-after}
+use Rattle.rules.proofs.Form.Relation.{Back, lineBacks, src, hard, here, Linked, ticking, Arrives, SharedEnd, early, Both, both-on, both-end, source-step, line-step, ready-after}
 
 test-line : {H : Type 0} (F : Form H) (ls : List Line) (n k : ℕ) (c : H) (rest : List (Frame H)) (l : H) (vs tr : List ℕ) (o : Operands) (r s t e a b d go : ℕ) → F .guard k (testLine o r s t e a b d go) .passes c l ≡ true
     → (y : Bool) → holdsOn o vs ≡ y → lineStepOf F ls k (testLine o r s t e a b d go) (hard n k c rest l vs tr)

@@ -6,7 +6,7 @@ use mathlib.Core.List.{List}
 use Prim.Native.Nat.{ℕ, zero, suc, _+_, _-_, _≤_, _<_}
 use native.Mathlib.Nat.{add-zero}
 use native.Mathlib.Omega.{arith}
-use borrow.Author.Tests.{eq-eqb, ne-eqb, le-leb}
+use borrow.Author.Tests.{ne-eqb}
 use Rattle.rules.specs.declared.strike.Strike.the-variants.{None, Jump}
 use Rattle.rules.specs.Row.{Table}
 use Rattle.rules.specs.Line.{Line}
@@ -14,13 +14,13 @@ use Rattle.rules.specs.Harden.{harden}
 use Rattle.rules.specs.Function.{lastPlace}
 use Rattle.rules.specs.State.{State}
 use Rattle.rules.specs.Run.{Turn, on, ends, untaken, run, ifDone, tally}
-use Rattle.rules.specs.Form.{Form, strikeBy, struck, stepOf, strikingStepOf, startBy, runOf}
-use Rattle.rules.specs.Match.{quietAt, quietStep, matchingOf, matching}
+use Rattle.rules.specs.Form.{Form, strikeBy, stepOf, strikingStepOf, startBy}
+use Rattle.rules.specs.Match.{quietAt, quietStep, quietDone, matchingOf, matching}
 use Rattle.rules.specs.Demands.{before, strikes}
 use Rattle.rules.proofs.Form.Settles.{Settles}
 use Rattle.rules.proofs.Form.Unstruck.{lineMachine}
 use Rattle.rules.proofs.Form.Struck.{landedAt, struck-on, in-budget, is-jump}
-use Rattle.rules.proofs.Form.Progress.{Stand}
+use Rattle.rules.proofs.Form.Progress.{Reaches}
 
 if-done-same : {C : Type 0} (r : Turn C) (f g : State C → ℕ) → ((h : State C) → f h ≡ g h) → ifDone r f ≡ ifDone r g
 if-done-same (on h) f g e = e h
@@ -45,9 +45,9 @@ module _ {H : Type 0} (F : Form H) (ls : List Line) where
       (if-done-same (stepOf F ls (landedAt ls p h)) _ _ (λ h′. ap (λ y. cond (quietAt ls (landedAt ls p h)) 1 0 + y) (past-quiet k p b (suc k) h′ (omega arith))))
 
 -- ---- where a jump before step k finds the run
-module _ {t : Table} {H : Type 0} {F : Form H} (S : Settles t F) (vs : List ℕ) (k : ℕ) (a : Stand S vs k) where
+module _ {t : Table} {H : Type 0} {F : Form H} (S : Settles t F) (vs : List ℕ) (k : ℕ) (a : Reaches S vs k) where
   took-k : run (lineMachine S) k 0 (startBy F vs) ≡ run (lineMachine S) 0 k (a .h)
-  took-k = ap (λ y. run (lineMachine S) y 0 (startBy F vs)) (sym (add-zero k)) ∙ a .line-goes None tt 0
+  took-k = ap (λ y. run (lineMachine S) y 0 (startBy F vs)) (sym (add-zero k)) ∙ a .line-goes 0
 
   pub state-is : (before F (harden t) vs k) .state ≡ a .h
   unfolding run
@@ -55,7 +55,7 @@ module _ {t : Table} {H : Type 0} {F : Form H} (S : Settles t F) (vs : List ℕ)
 
   -- the source has then taken as many steps as the matching step says
   pub matching-is : matching F (harden t) k vs ≡ a .m
-  unfolding run matchingOf tally
+  unfolding run matchingOf quietDone tally
   matching-is =
       let z : tally (quietStep (harden t) None) (lineMachine S) k 0 (startBy F vs) ≡ a .quiet + 0 =
       ap (λ y. tally (quietStep (harden t) None) (lineMachine S) y 0 (startBy F vs)) (sym (add-zero k)) ∙ a .quiets None tt 0 in

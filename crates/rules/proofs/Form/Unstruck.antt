@@ -13,7 +13,7 @@ use Rattle.rules.specs.State.{State, numbersOf, openFunctions}
 use Rattle.rules.specs.Run.{Turn, run, tally, outcomeOf}
 use Rattle.rules.specs.Source.{Source, sourceStep, sourceStart, sourceRun}
 use Rattle.rules.specs.Form.{Form, strikingStepOf, startBy}
-use Rattle.rules.specs.Match.{Shown, shown, quietAt, quietStep, matchingOf, matching}
+use Rattle.rules.specs.Match.{Shown, shown, quietStep, quietDone, matchingOf, matching}
 use Rattle.rules.specs.Demands.{Unstruck}
 use Rattle.rules.proofs.Accepted.{Proper}
 use Rattle.rules.proofs.Form.Settles.{Settles}
@@ -94,7 +94,7 @@ simulates t ok {H = H} S (suc b) k j d s h r =
 
 -- ---- from the start
 pub unstruck : (t : Table) → Proper t → {H : Type 0} {F : Form H} (S : Settles t F) → (vs : List ℕ) (b : ℕ) → Unstruck F (harden t) t vs b
-unfolding matchingOf
+unfolding matchingOf quietDone
 unstruck t ok {F = F} S vs b =
     let x = simulates t ok S b 0 0 0 (sourceStart vs) (startBy F vs) (start t ok S vs) in
     let m : matching F (harden t) b vs ≡ x .m = omega (arith, x .counted) in
