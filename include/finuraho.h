@@ -31,7 +31,7 @@ extern "C" {
 #endif
 
 /* The version of this header and of the library that it came with: 10,000 x major + 100 x minor + patch. */
-#define FINURAHO_VERSION 10400
+#define FINURAHO_VERSION 10500
 #define FINURAHO_VERSION_STRING "1.5.0"
 
 /* The number of a call: 0, or why it was turned away. After any number but 0 every lent buffer is as it was. */
@@ -233,8 +233,9 @@ finuraho_ran finuraho_run_source(const uint8_t *rows, size_t rows_len, const uin
  * step, place: before step `step`, from 0, the running function goes to its place `place`, counted from its first line.
  *     FINURAHO_NO_JUMP as the step is no jump. A run that ends before that step, or has it as its budget, is not struck.
  *     What a jump that strikes comes to, exactly: beyond the function's last place FINURAHO_BEYOND; across a guard (any line but a do) the
- *     alarm in that step or the next, or FINURAHO_OVERFLOW where it lands before a do that overflows; with no guard between, from before a
- *     do to before its tick, the source's run with that do left out this once, or back, the source's run with it done twice.
+ *     alarm in that step or the next, if the budget holds it, or FINURAHO_OVERFLOW where it lands before a do that overflows; with no
+ *     guard between, the source's run with one do left out this once (from before it to before its tick) or done twice (back), and to the
+ *     place where the run stands nothing.
  * counters, counters_len: at least 1,024 words for the run's counters; what they hold before does not matter. Accepted: the first
  *     1,024 are 0, those beyond are as they were. Turned away: all words are as they were.
  * Turned away with 10, or 9 where trace_len is less than the budget or counters_len less than 1,024. */

@@ -80,7 +80,7 @@ fn list_calls(hardened: bool, calls: u16, at: usize, text: &mut [u8; 65536]) -> 
 // What a small jump amounts to, in a line; of any other nothing is said.
 fn list_amount(amount: Amount, at: usize, text: &mut [u8; 65536]) -> usize {
     match amount {
-        Amount::Other => at,
+        Amount::NotSmall => at,
         Amount::Nothing => print::word(b"jump changes nothing\n", at, text),
         Amount::LeavesOut(row) => {
             let named = print::named(b"jump leaves out row ", row, at, text);

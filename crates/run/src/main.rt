@@ -4,9 +4,9 @@
 //     run hardened [budget=N] [v0=N .. v15=N] [jump=STEP:PLACE] [trace] [show] < lines
 //
 // It prints outcome, steps, trace, in a source run the calls, and variables, each on a line of its own, and with `show` each step before
-// them; a small jump is told in a line before the outcome; or `refused N`, or `unreadable`, as the programs harden and readback do. A missing budget is 65,535, a missing variable 0. A wrong
+// them; or `refused N`, or `unreadable`, as the programs harden and readback do. A missing budget is 65,535, a missing variable 0. A wrong
 // word is answered by a line on standard error, and nothing is run. The input is read to its end in constant memory before anything is
-// printed. docs/PROGRAMS.md has every word of it.
+// printed. What a small jump amounts to stands in a line before the outcome. docs/PROGRAMS.md has every word of it.
 ghost use mathlib.Core.Path.{_≡_};
 ghost use lib.ListN.{length};
 
@@ -110,7 +110,7 @@ fn amount(a: Asked, table: &[u8], variables: [u16; VARIABLES], trace: &mut [u16;
     if a.struck {
         return find::of_jump(table, variables, a.budget, a.step, a.place, trace);
     }
-    Amount::Other
+    Amount::NotSmall
 }
 
 // A source run is always walked, since that counts its calls.

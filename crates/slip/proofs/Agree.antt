@@ -2,20 +2,19 @@
 use mathlib.Core.Path.{_≡_, refl, sym, ap, _∙_}
 use mathlib.Core.Bool.{Bool, true, false, cond, not, _&&_}
 use mathlib.Core.List.{List}
-use Prim.Native.Nat.{ℕ, _+_, _≤_, _<_}
+use Prim.Native.Nat.{ℕ, _≤_, _<_}
 use native.Mathlib.Decide.{decLt}
 use native.Mathlib.Omega.{arith}
-use lib.Dec.{eqb, leb, ltb}
+use lib.Dec.{eqb, ltb}
 use lib.ListN.{length}
 use borrow.Author.Tests.{ne-eqb, le-leb, lt-leb, lt-ltb, le-ltb}
 use Rattle.rules.specs.declared.step.Step.{Step}
 use Rattle.rules.specs.declared.step.Step.the-variants.{Went, Finished, Alarm, TooManyOpen, Beyond, Overflow}
 use Rattle.rules.specs.Limits.{noStep}
 use Rattle.rules.specs.Line.{linesIn}
-use Rattle.rules.specs.Function.{lastPlace}
 use Rattle.rules.specs.Run.{Answer, outcomeOf}
-use Rattle.rules.specs.Hardened.{Counters, Hardened, counterForm, placeLine, hardenedStart}
-use Rattle.rules.specs.Demands.{before, strikes}
+use Rattle.rules.specs.Hardened.{Counters, Hardened, counterForm, hardenedStart}
+use Rattle.rules.specs.Demands.{before}
 use Rattle.state.specs.declared.machine.Machine.{Machine}
 use Rattle.state.specs.Machine.{begunAt, onward}
 use Rattle.state.proofs.Ends.{IsEnd, onward-end}
@@ -25,15 +24,14 @@ use Rattle.machine.specs.Run.{partsIn, runOf}
 use Rattle.machine.specs.Stands.{Ready, Stands}
 use Rattle.machine.proofs.Runs.{Ended, run-agrees}
 use Rattle.machine.proofs.Start.{stands-start}
-use Rattle.strike.specs.Struck.{firstLine, placesIn}
 use Rattle.strike.proofs.Jumps.{first-line, places-are}
 use Rattle.slip.specs.declared.amount.Amount.{Amount}
-use Rattle.slip.specs.declared.amount.Amount.the-variants.{Other}
-use Rattle.slip.specs.Amount.{amountBetween, amountFrom, amountOf, amountAt, amountAfter, amountRun}
+use Rattle.slip.specs.declared.amount.Amount.the-variants.{NotSmall}
+use Rattle.slip.specs.Amount.{amountFrom, amountOf, amountAt, amountAfter, amountRun}
 
 -- ---- the code's run, by what its first k steps come to
 module _ (bs : List ℕ) (m : Map) (b k place : ℕ) (p : Parts) where
-  pub run-late : b ≤ k → Other ≡ amountRun bs m b k place p
+  pub run-late : b ≤ k → NotSmall ≡ amountRun bs m b k place p
   unfolding amountRun
   run-late h = rw (le-leb b k h)
 
@@ -41,11 +39,11 @@ module _ (bs : List ℕ) (m : Map) (b k place : ℕ) (p : Parts) where
   unfolding amountRun
   run-after h a e = rw (lt-leb b k h) (ap (amountAfter bs m place) e)
 
-  pub run-ended : k < b → (a : After) → a ≡ runOf bs m k p → IsEnd (a .step) → Other ≡ amountRun bs m b k place p
-  run-ended h a e n = sym (onward-end (a .step) n (λ j. amountAt bs m (a .parts .registers) place) Other) ∙ run-after h a e
+  pub run-ended : k < b → (a : After) → a ≡ runOf bs m k p → IsEnd (a .step) → NotSmall ≡ amountRun bs m b k place p
+  run-ended h a e n = sym (onward-end (a .step) n (λ j. amountAt bs m (a .parts .registers) place) NotSmall) ∙ run-after h a e
 
   pub run-there : k < b → (a : After) → a ≡ runOf bs m k p → (j : ℕ) → a .step ≡ Went j → {r : Amount} → r ≡ amountAt bs m (a .parts .registers) place → r ≡ amountRun bs m b k place p
-  run-there h a e j w q = q ∙ ap (λ x. onward x (λ j. amountAt bs m (a .parts .registers) place) Other) (sym w) ∙ run-after h a e
+  run-there h a e j w q = q ∙ ap (λ x. onward x (λ j. amountAt bs m (a .parts .registers) place) NotSmall) (sym w) ∙ run-after h a e
 
 -- ---- where the machine stands for a state
 at-state : (bs : List ℕ) (m : Map) → Ready bs m → (held : List ℕ) (p : Parts) (s : Hardened) → Stands (linesIn bs) held p s → (place : ℕ) → amountAt bs m (p .registers) place ≡ amountFrom bs place s
@@ -62,11 +60,11 @@ module _ (bs : List ℕ) (m : Map) (rd : Ready bs m) (vs ws tr : List ℕ) (x : 
   first = before (counterForm (linesIn bs)) (linesIn bs) vs k
 
   -- not struck: the budget, or the run, ends before
-  late : b ≤ k → amountOf bs vs b k place ≡ Other
+  late : b ≤ k → amountOf bs vs b k place ≡ NotSmall
   unfolding amountOf
   late l = by (eqb k noStep)
     where
-      by : (y : Bool) → cond (not y && ltb k b && eqb (outcomeOf (first .step)) 0) (amountFrom bs place (first .state)) Other ≡ Other
+      by : (y : Bool) → cond (not y && ltb k b && eqb (outcomeOf (first .step)) 0) (amountFrom bs place (first .state)) NotSmall ≡ NotSmall
       by true = refl
       by false = rw (le-ltb k b l)
 
@@ -75,7 +73,7 @@ module _ (bs : List ℕ) (m : Map) (rd : Ready bs m) (vs ws tr : List ℕ) (x : 
   agree-by l e = rw (lt-leb b k l, ne-eqb k noStep (omega arith), lt-ltb k b l, e .step-is) (by (first .step) refl)
     where
       by : (o : Step) → first .step ≡ o
-          → onward o (λ j. amountAt bs m (runOf bs m k parts .parts .registers) place) Other ≡ cond (eqb (outcomeOf o) 0) (amountFrom bs place (first .state)) Other
+          → onward o (λ j. amountAt bs m (runOf bs m k parts .parts .registers) place) NotSmall ≡ cond (eqb (outcomeOf o) 0) (amountFrom bs place (first .state)) NotSmall
       by (Went j) q = at-state bs m rd tr (runOf bs m k parts .parts) (first .state) (e .still-stands j q) place
       by Finished q = refl
       by Alarm q = refl

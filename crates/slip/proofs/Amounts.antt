@@ -20,11 +20,11 @@ use Rattle.machine.specs.Step.{Map, Parts, lastLine}
 use Rattle.machine.specs.Stands.{Ready, Stands}
 use Rattle.machine.proofs.Steps.{last-line}
 use Rattle.slip.specs.declared.amount.Amount.{Amount}
-use Rattle.slip.specs.declared.amount.Amount.the-variants.{Other}
+use Rattle.slip.specs.declared.amount.Amount.the-variants.{NotSmall}
 use Rattle.slip.specs.Amount.{slipsBy, overLine, overDo}
 
 -- the arm of a `let .. else` that is not the first variant's
-no-do : (k : LineKind) → OneOf (1 ∷ 2 ∷ 3 ∷ 4 ∷ 5 ∷ 6 ∷ 7 ∷ []) (tagOf the-type k) → (l : Line) (back : Bool) → Other ≡ overLine (asLine k l) back
+no-do : (k : LineKind) → OneOf (1 ∷ 2 ∷ 3 ∷ 4 ∷ 5 ∷ 6 ∷ 7 ∷ []) (tagOf the-type k) → (l : Line) (back : Bool) → NotSmall ≡ overLine (asLine k l) back
 no-do Do o l back =
     absurd (⊎-elim (λ z. omega arith) (⊎-elim (λ z. omega arith) (⊎-elim (λ z. omega arith) (⊎-elim (λ z. omega arith) (⊎-elim (λ z. omega arith) (⊎-elim (λ z. omega arith) (λ z. omega arith)))))) o)
 no-do Tick o l back = refl
@@ -40,7 +40,7 @@ module _ (bs : List ℕ) (k : ℕ) (back : Bool) (h : lineWidth * k + lineWidth 
   unfolding overDo
   read-is = ap (λ y. overLine (asLine y (structAt bs k)) back) e ∙ ap (λ y. overLine y back) (sym (line-is bs k (omega (arith, length-lines bs))))
 
-  pub over-none : OneOf (1 ∷ 2 ∷ 3 ∷ 4 ∷ 5 ∷ 6 ∷ 7 ∷ []) (tagOf the-type kd) → Other ≡ overDo (linesIn bs) k back
+  pub over-none : OneOf (1 ∷ 2 ∷ 3 ∷ 4 ∷ 5 ∷ 6 ∷ 7 ∷ []) (tagOf the-type kd) → NotSmall ≡ overDo (linesIn bs) k back
   over-none o = no-do kd o (structAt bs k) back ∙ read-is
 
   pub over-do : {l : Line} {r : Amount} → kd ≡ Do → l ≡ structAt bs k → r ≡ slipsBy (l .e) back → r ≡ overDo (linesIn bs) k back

@@ -1,3 +1,3 @@
 pub mod Amounts
 pub mod Agree
-pub mod Told
+pub mod Says

@@ -9,7 +9,7 @@ use line::read;
 
 pub enum Amount {
     // It does not strike, a guard is between the lines, or the place is beyond the last.
-    Other,
+    NotSmall,
     // The lines are equal.
     Nothing,
     // The do of this row is left out.
@@ -33,7 +33,7 @@ fn over(lines: &[u8], k: u16, back: bool) -> Amount
     ensures { λ r. ⌜ r ≡ overDo (linesIn (now (lines .entry))) k back ⌝ }
 {
     let LineKind::Do = read::kind_at(lines, k) else {
-        return Amount::Other;
+        return Amount::NotSmall;
     };
     let l = read::line_at(lines, k);
     slips(l.e, back)
@@ -53,5 +53,5 @@ pub fn between(lines: &[u8], x: u16, y: u16) -> Amount
     if x == y + 1 {
         return over(lines, y, true);
     }
-    Amount::Other
+    Amount::NotSmall
 }

@@ -9,7 +9,7 @@ ghost use Rattle.rules.specs.ReadBack.{isHardened};
 ghost use Rattle.machine.specs.Step.{mapOf};
 ghost use Rattle.machine.specs.Run.{partsIn};
 ghost use Rattle.machine.specs.Stands.{Ready, Going};
-ghost use Rattle.slip.specs.Amount.{amountOf, amountGiven, amountAt, amountRun};
+ghost use Rattle.slip.specs.Amount.{amountOf, AmountPromise, amountAt, amountRun};
 use crate::amount;
 use crate::amount::Amount;
 use guard::counters;
@@ -24,7 +24,7 @@ use state::machine::Machine;
 use state::machine::begun;
 
 // Out of where the machine stands, to a place of the function that runs.
-fn stands(
+fn out_of(
     lines: &[u8],
     starts: &[u16; FUNCTIONS + 1],
     owners: &[u8; LINES + 1],
@@ -43,7 +43,7 @@ fn stands(
     let first = starts[f];
     let last = starts[f + 1] - first;
     if last < place {
-        return Amount::Other;
+        return Amount::NotSmall;
     }
     amount::between(lines, h.at, first + place)
 }
@@ -65,15 +65,15 @@ fn at_jump(
     ensures { λ r. ⌜ r ≡ amountRun (now (lines .entry)) (mapOf (now (starts .entry)) (now (owners .entry)) home) budget step place (partsIn start (now (words .entry)) (now (trace .entry))) ⌝ }
 {
     if budget <= step {
-        return Amount::Other;
+        return Amount::NotSmall;
     }
     let x = run_lines(lines, starts, owners, home, start, step, words, trace);
     let s = x.step;
     let Step::Went(_) = s else {
-        return Amount::Other;
+        return Amount::NotSmall;
     };
     let left = budget - step;
-    stands(
+    out_of(
         lines,
         starts,
         owners,
@@ -133,10 +133,10 @@ pub fn of_jump(
     trace: &mut [u16],
 ) -> Amount
     requires { ⌜ budget ≤ length (now trace) ⌝ }
-    ensures { λ r. ⌜ r ≡ amountGiven (isHardened (now (lines .entry))) (amountOf (now (lines .entry)) variables budget step place) ⌝ }
+    ensures { λ r. ⌜ AmountPromise (now (lines .entry)) variables budget step place r ⌝ }
 {
     if reader::is_hardened(lines) {
         return of_hardened(lines, variables, budget, step, place, trace);
     }
-    Amount::Other
+    Amount::NotSmall
 }

@@ -9,7 +9,7 @@ use Rattle.slip.proofs.find.at_jump.Tie as tie
 use Rattle.slip.proofs.find.at_jump.Reads as reads
 use Rattle.slip.proofs.find.at_jump.Lts as lts
 use Rattle.machine.proofs.run.run_lines.Reads as run-lines-reads
-use Rattle.slip.proofs.find.stands.Reads as stands-reads
+use Rattle.slip.proofs.find.out_of.Reads as out-of-reads
 
 -- src/find.rt:68:9
 returns : tie.Need-returns
@@ -39,8 +39,8 @@ sub-left : tie.Need-sub-left
 sub-left c = search needs
 
 -- src/find.rt:76:5
-stands-requires : tie.Need-stands-requires
-stands-requires c κs = (c .before .before .before .before .before .before .before .before .before .before .before .before .before .before .before .pre .0, going-left _ _ (c .before .before .before .before .before .before .before .before .before .before .before .before .before .before .before .pre .0) _ _ _ (c .before .before .before .before .before .before .before .before .before .before .before .before .before .before .before .pre .1) (c .before .before .before .before .before .before .before .before .before .before .before .if1 .left) _ (c .before .before .before .before .before .before .before .before .run-lines .ensures) _ (c .before .before .enum-told .given .1))
+out-of-requires : tie.Need-out-of-requires
+out-of-requires c κs = (c .before .before .before .before .before .before .before .before .before .before .before .before .before .before .before .pre .0, going-left _ _ (c .before .before .before .before .before .before .before .before .before .before .before .before .before .before .before .pre .0) _ _ _ (c .before .before .before .before .before .before .before .before .before .before .before .before .before .before .before .pre .1) (c .before .before .before .before .before .before .before .before .before .before .before .if1 .left) _ (c .before .before .before .before .before .before .before .before .run-lines .ensures) _ (c .before .before .enum-told .given .1))
 
 -- src/find.rt:52:1
 same-length-3 : tie.Need-same-length-3
@@ -52,7 +52,7 @@ same-length-4 c = search needs
 
 -- src/find.rt:52:1
 returns-3 : tie.Need-returns-3
-returns-3 c = run-there _ _ _ _ _ _ (c .before .before .before .before .before .before .before .before .before .before .before .before .if1 .left) _ (c .before .before .before .before .before .before .before .before .before .run-lines .ensures) _ (c .before .before .before .enum-told .given .1) (c .stands .ensures)
+returns-3 c = run-there _ _ _ _ _ _ (c .before .before .before .before .before .before .before .before .before .before .before .before .if1 .left) _ (c .before .before .before .before .before .before .before .before .before .run-lines .ensures) _ (c .before .before .before .enum-told .given .1) (c .out-of .ensures)
 
 pub at-jump-spec : {M : Type 1} → statement M
 at-jump-spec =
@@ -65,7 +65,7 @@ at-jump-spec =
     same-length-2
     returns-2
     sub-left
-    stands-requires
+    out-of-requires
     same-length-3
     same-length-4
     returns-3)

@@ -1,5 +1,6 @@
 -- `slip::find::of_jump` meets its contract. Assumes nothing.
 use mathlib.Core.Path.{sym, _∙_}
+use Rattle.slip.proofs.Says.{promised-of, promised-none}
 use borrow.Author.Needs.{needs}
 use Rattle.slip.proofs.find.of_jump.Statement.{statement}
 use Rattle.slip.proofs.find.of_jump.Tie as tie
@@ -22,11 +23,11 @@ same-length c = search needs
 
 -- src/find.rt:139:9
 returns : tie.Need-returns
-returns c = rw (sym (c .before .before .before .before .before .is-hardened .ensures) ∙ c .before .before .before .before .if1 .taken) (c .before .before .of-hardened .ensures)
+returns c = promised-of (sym (c .before .before .before .before .before .is-hardened .ensures) ∙ c .before .before .before .before .if1 .taken) (c .before .before .of-hardened .ensures)
 
 -- src/find.rt:127:1
 returns-2 : tie.Need-returns-2
-returns-2 c = rw (sym (c .before .is-hardened .ensures) ∙ c .if1 .left)
+returns-2 c = promised-none (sym (c .before .is-hardened .ensures) ∙ c .if1 .left)
 
 pub of-jump-spec : {M : Type 1} → statement M
 of-jump-spec =

@@ -1,14 +1,14 @@
--- `slip::find::stands` meets its contract. Assumes nothing.
+-- `slip::find::out_of` meets its contract. Assumes nothing.
 use native.Mathlib.Omega.{arith}
 use borrow.Author.Tests.{le-leb, lt-leb}
-use Rattle.strike.proofs.Jumps.{function-in, first-before-last, last-few}
+use Rattle.strike.proofs.Jumps.{first-before-last, last-few}
 use Rattle.slip.specs.Amount.{amountAt}
 use Rattle.slip.proofs.Amounts.{in-bytes, place-in, stands-in, last-in, few-lines}
 use borrow.Author.Needs.{needs}
-use Rattle.slip.proofs.find.stands.Statement.{statement}
-use Rattle.slip.proofs.find.stands.Tie as tie
-use Rattle.slip.proofs.find.stands.Reads as reads
-use Rattle.slip.proofs.find.stands.Lts as lts
+use Rattle.slip.proofs.find.out_of.Statement.{statement}
+use Rattle.slip.proofs.find.out_of.Tie as tie
+use Rattle.slip.proofs.find.out_of.Reads as reads
+use Rattle.slip.proofs.find.out_of.Lts as lts
 use Rattle.slip.proofs.amount.between.Reads as between-reads
 
 -- src/find.rt:42:13
@@ -64,8 +64,8 @@ returns-2 : tie.Need-returns-2
 unfolding amountAt
 returns-2 c = rw (c .between .ensures, le-leb _ _ (c .before .if1 .left))
 
-pub stands-spec : {M : Type 1} → statement M
-stands-spec =
+pub out-of-spec : {M : Type 1} → statement M
+out-of-spec =
     tie.close
     (tie.spec
     cast-f
