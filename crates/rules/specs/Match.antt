@@ -48,12 +48,13 @@ unfoldable pub quietAt : {H : Type 0} → List Line → State H → Bool
 quietAt ls s =
     not (eqb (s .running .at) (finishOf ls (s .running .function))) && isQuiet (lineAt ls (s .running .at))
 
--- step k is one, where this strikes the run: the step struck is that of the place which it lands at
+-- what a strike comes to is such a state
 abbrev pub quietOn : {H : Type 0} → List Line → Turn H → Bool
 quietOn ls (on s) = quietAt ls s
 quietOn ls (ends o s) = false
 quietOn ls (untaken o s) = false
 
+-- step k is a tick or a back, where this strikes the run: the step struck is that of the place which it lands at
 abbrev pub quietStep : {H : Type 0} → List Line → Strike → (k : ℕ) → State H → Bool
 quietStep ls x k s = quietOn ls (struck ls x k s)
 

@@ -26,6 +26,13 @@ const COUNTER_VARIABLES: u8 = 6;
 /// Ifs and loops open in a program; the tables of `make` go to the limit.
 const DEEPEST: u8 = 6;
 
+/// One of 4 to about so many rows, by its seed alone.
+pub fn by_seed(seed: u64, largest: usize) -> Program {
+    let mut rng = Random::new(seed);
+    let size = rng.between(4, largest);
+    program(&mut rng, size)
+}
+
 /// A random program with about so many rows (at least 4).
 pub fn program(rng: &mut Random, size: usize) -> Program {
     if rng.percent(15) {

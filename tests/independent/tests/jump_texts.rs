@@ -55,18 +55,6 @@ fn the_listing() {
 /// "behind all that is listed"
 #[test]
 fn the_listing_step_by_step() {
-    let left_out = "\
-jump to place 1
-step 0 function 0 place 1 tick counter 0 holds 1
-step 1 function 0 place 2 test counter 0 holds 2
-step 2 function 0 place 6 ret counter 0 holds 4
-jump leaves out row 1
-outcome 1 finished
-steps 3
-trace
-variables 0 1 0 0 0 0 0 0 0 0 0 0 0 0 0 0
-";
-    assert_eq!(run("budget=20 v1=1 jump=0:1 show", LINES), left_out);
     let twice = "\
 step 0 function 0 place 0 do
 step 1 function 0 place 1 tick counter 0 holds 1

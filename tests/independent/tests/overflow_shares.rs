@@ -15,12 +15,7 @@ use independent::strikes::unstruck;
 use independent::{damage, replay_run, replay_sweep, run_cases, run_text, sweep_programs};
 
 fn programs(count: u64, largest: usize) -> Vec<Program> {
-    let one = |seed| {
-        let mut rng = Random::new(seed);
-        let size = rng.between(4, largest);
-        program::program(&mut rng, size)
-    };
-    (0..count).map(one).collect()
+    (0..count).map(|seed| program::by_seed(seed, largest)).collect()
 }
 
 /// Of 6,000 programs of up to 60 rows: two thirds finish, one sixth overflows.

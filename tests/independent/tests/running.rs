@@ -12,7 +12,7 @@ use edge::overflows;
 use independent::hardened_run::{HardenedRun, Jump};
 use independent::line::Line;
 use independent::machine::Outcome;
-use independent::program::{self, Program};
+use independent::program;
 use independent::random::Random;
 use independent::source_run::SourceRun;
 use independent::{check, goes_on, limits};
@@ -135,18 +135,12 @@ fn same(one: &(Outcome, HardenedRun), other: &(Outcome, HardenedRun)) {
     assert_eq!(one.1.variables, other.1.variables);
 }
 
-fn some_program(seed: u64, largest: usize) -> Program {
-    let mut rng = Random::new(seed);
-    let size = rng.between(4, largest);
-    program::program(&mut rng, size)
-}
-
 #[test]
 fn unstruck_runs_of_random_programs() {
     let mut outcomes = [0; 6];
     let mut finished = 0;
     for seed in 0..6000 {
-        let program = some_program(seed, 60);
+        let program = program::by_seed(seed, 60);
         let pair = Pair::new(&program.rows, program.variables);
         let mut rng = Random::new(seed);
         for budget in [0, 1, rng.between(2, 40), rng.between(40, 400), 3000] {
@@ -162,7 +156,7 @@ fn unstruck_runs_of_random_programs() {
 #[test]
 fn unstruck_runs_at_every_budget() {
     for seed in 0..400 {
-        let program = some_program(seed, 30);
+        let program = program::by_seed(seed, 30);
         let pair = Pair::new(&program.rows, program.variables);
         for budget in 0..200 {
             if unstruck_is_the_sources(&pair, budget) != Outcome::BudgetSpent {
@@ -175,7 +169,7 @@ fn unstruck_runs_at_every_budget() {
 #[test]
 fn unstruck_runs_with_the_largest_budget() {
     for seed in 0..300 {
-        let program = some_program(seed, 60);
+        let program = program::by_seed(seed, 60);
         let pair = Pair::new(&program.rows, program.variables);
         unstruck_is_the_sources(&pair, 65_535);
         finishing(&pair, 65_535);
@@ -187,7 +181,7 @@ fn every_jump_of_random_programs() {
     let mut met = Met::default();
     let mut deep = 0;
     for seed in 0..1500 {
-        let program = some_program(seed, 24);
+        let program = program::by_seed(seed, 24);
         let pair = Pair::new(&program.rows, program.variables);
         let (_, whole) = pair.struck(80, None);
         for k in 0..whole.steps {

@@ -112,12 +112,6 @@ fn programs_by_hand() {
     met.least(&[("done twice, overflow in the step struck", 30)]);
 }
 
-fn some_program(seed: u64, largest: usize) -> Program {
-    let mut rng = Random::new(seed);
-    let size = rng.between(4, largest);
-    program::program(&mut rng, size)
-}
-
 /// The budgets around the step struck, one somewhere behind it, and the largest.
 fn some_budgets(rng: &mut Random, k: u16, most: u16) -> [u16; 7] {
     let somewhere = k + 4 + rng.word() % (most - k - 4);
@@ -129,7 +123,7 @@ fn some_budgets(rng: &mut Random, k: u16, most: u16) -> [u16; 7] {
 fn random_programs() {
     let mut met = Counted::default();
     for seed in 0..9000 {
-        let program = some_program(seed, 60);
+        let program = program::by_seed(seed, 60);
         let pair = Pair::new(&program.rows, program.variables);
         let unstruck = pair.struck(200, None);
         let mut rng = Random::new(seed);
@@ -139,7 +133,7 @@ fn random_programs() {
         }
     }
     for seed in 9000..10_000 {
-        with_every_budget(&mut met, &some_program(seed, 24), 60, 80);
+        with_every_budget(&mut met, &program::by_seed(seed, 24), 60, 80);
     }
     met.least(&[("equal", 250_000), ("left out", 75_000), ("done twice", 75_000)]);
     met.least(&[("left out, finished with another trace", 30_000)]);
@@ -192,7 +186,7 @@ fn the_last_steps_of_all() {
 #[test]
 fn slips_that_change_nothing() {
     for seed in 0..500 {
-        let program = some_program(seed, 40);
+        let program = program::by_seed(seed, 40);
         let Pair { table, variables, .. } = Pair::new(&program.rows, program.variables);
         let (outcome, plain) = slip::run(&table, variables, 100, None);
         for step in 0..plain.steps + 3 {

@@ -16,7 +16,6 @@ use independent::hardened_run::{HardenedRun, Jump};
 use independent::line::{self, Line};
 use independent::machine::Outcome;
 use independent::program::{self, Program};
-use independent::random::Random;
 use independent::small_jump::{Before, Sort};
 use independent::{overflow_programs, sweep_programs};
 use pair::Pair;
@@ -104,9 +103,7 @@ fn programs_by_hand() {
 fn random_programs() {
     let mut met = Counted::default();
     for seed in 0..1500 {
-        let mut rng = Random::new(seed);
-        let size = rng.between(4, 24);
-        all_jumps(&mut met, &program::program(&mut rng, size), 60, 90);
+        all_jumps(&mut met, &program::by_seed(seed, 24), 60, 90);
     }
     met.least(&[("beyond, the place is beyond m", 20_000), ("wide, overflow", 8000)]);
     met.least(&[("wide, alarm in step k + 0", 250_000), ("wide, alarm in step k + 1", 100_000)]);
