@@ -17,7 +17,7 @@ use Rattle.machine.specs.Stands.{Own, Waiting}
 use Rattle.guard.proofs.Zeroed.{length-zeros, length-zeroed}
 
 -- ---- words that were cleared
-zeros-at : (n i : ℕ) → i < n → getD (zeros n) i 0 ≡ 0
+pub zeros-at : (n i : ℕ) → i < n → getD (zeros n) i 0 ≡ 0
 unfolding zeros
 zeros-at n i h = getD-replicate n i 0 0 h
 

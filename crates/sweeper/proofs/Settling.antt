@@ -223,7 +223,7 @@ module _ (bs : List ℕ) (mp : Map) (rd : Ready bs mp) (vs : List ℕ) (b : ℕ)
   abbrev trace : List ℕ
   trace = (unstruckRun F (linesIn bs) vs b) .state .trace
 
-  place-is : (x : ℕ) → x ≡ across (linesIn bs) (m .registers .at) → (e : Ending) → e ≡ narrowEnding F (linesIn bs) trace b k here → (left : ℕ) → left ≡ b - k → (p : ℕ) → p < placesAt F (linesIn bs) vs k
+  pub place-is : (x : ℕ) → x ≡ across (linesIn bs) (m .registers .at) → (e : Ending) → e ≡ narrowEnding F (linesIn bs) trace b k here → (left : ℕ) → left ≡ b - k → (p : ℕ) → p < placesAt F (linesIn bs) vs k
       → endingAt bs (lastOf (mp .starts) (m .registers)) (m .registers .at) x (m .registers .depth) (m .variables) e left (firstOf (mp .starts) (m .registers) + p) ≡ struckEnding F (linesIn bs) vs b k p
   unfolding settledEnding
   place-is x xe e ee left le p pl =

@@ -83,7 +83,7 @@ module _ {bs : List ℕ} {mp : Map} {b : ℕ} {tr vs : List ℕ} {k left : ℕ} 
         walking = Walking.walk-on bs vs b k left m ws at (w .walking) mp (w .ready) rows long x ws′ rows′ e (w .finishes .finished) i z m′ q;
       }
 
-  walked-all : (rows : List ℕ) → length rows ≡ pieceSteps → (x : Stopped) (ws′ rows′ : List ℕ) → stoppedWith x ws′ rows′ ≡ runOf bs mp 1 (partsIn m ws rows) → IsEnd (x .step) → (unstruck bs vs b) .steps ≡ suc k
+  pub walked-all : (rows : List ℕ) → length rows ≡ pieceSteps → (x : Stopped) (ws′ rows′ : List ℕ) → stoppedWith x ws′ rows′ ≡ runOf bs mp 1 (partsIn m ws rows) → IsEnd (x .step) → (unstruck bs vs b) .steps ≡ suc k
   walked-all rows long x ws′ rows′ e h = Walking.walked-all bs vs b k left m ws at (w .walking) mp (w .ready) rows long x ws′ rows′ e h
 
   pub never-spent : {A : Type 0} → left ≤ 0 → A

@@ -90,17 +90,23 @@ module _ (bs vs : List ℕ) (b k left : ℕ) (m : Machine) (ws : List ℕ) (at :
   pub at-in : at ≤ length ((unstruck bs vs b) .state .trace)
   at-in = omega (arith, w .at-is, ap length (known-trace (form bs) (linesIn bs) vs b k (w .going)), length-append ((stateOf bs vs k) .trace) (drop (length ((stateOf bs vs k) .trace)) ((unstruck bs vs b) .state .trace)))
 
-  -- how the narrow jump ends
-  pub narrow-is : (tr : List ℕ) → tr ≡ (unstruck bs vs b) .state .trace → (known : List ℕ) → known ≡ drop at tr → (r : Narrow) → NarrowIs (linesIn bs) m ws known left r
-      → r .ending ≡ narrowEnding (form bs) (linesIn bs) ((unstruck bs vs b) .state .trace) b k (stateOf bs vs k)
+  -- how the run ends that goes on across the do next to it
+  pub ends-is : (tr : List ℕ) → tr ≡ (unstruck bs vs b) .state .trace → (known : List ℕ) → known ≡ drop at tr
+      → endsAt (linesIn bs) known left (across (linesIn bs) (m .registers .at)) (stateOf bs vs k) ≡ narrowEnding (form bs) (linesIn bs) ((unstruck bs vs b) .state .trace) b k (stateOf bs vs k)
   unfolding endsAt narrowEnding
-  narrow-is tr te known ke r n =
+  ends-is tr te known ke =
       let s = stateOf bs vs k in
       let y = across (linesIn bs) (s .running .at) in
-      n .ending-is s (w .stood) ∙ ap (λ x. endsAt (linesIn bs) known left x s) (n .line-is ∙ ap (across (linesIn bs)) (w .stood .stands [] .at-is))
+      ap (λ x. endsAt (linesIn bs) known left x s) (ap (across (linesIn bs)) (w .stood .stands [] .at-is))
       ∙ ap (λ x. endsAt (linesIn bs) x left y s) (ke ∙ ap (drop at) te ∙ ap (λ i. drop i ((unstruck bs vs b) .state .trace)) (w .at-is))
       ∙ ap (λ x. endsAt (linesIn bs) (drop (length (s .trace)) ((unstruck bs vs b) .state .trace)) x y s) (w .left-is)
       ∙ ap (cond (eqb y (s .running .at)) Same) (sym (narrow-rest (form bs) (linesIn bs) vs b k (w .going) y))
+
+  -- how the narrow jump ends
+  pub narrow-is : (tr : List ℕ) → tr ≡ (unstruck bs vs b) .state .trace → (known : List ℕ) → known ≡ drop at tr → (r : Narrow) → NarrowIs (linesIn bs) m ws known left r
+      → r .ending ≡ narrowEnding (form bs) (linesIn bs) ((unstruck bs vs b) .state .trace) b k (stateOf bs vs k)
+  narrow-is tr te known ke r n =
+      n .ending-is (stateOf bs vs k) (w .stood) ∙ ap (λ x. endsAt (linesIn bs) known left x (stateOf bs vs k)) (n .line-is) ∙ ends-is tr te known ke
 
   -- ---- one step
   pub going-one : (rows : List ℕ) → length rows ≡ pieceSteps → Going (linesIn bs) 1 (partsIn m ws rows)
