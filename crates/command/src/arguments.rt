@@ -9,18 +9,22 @@ use console::word::is;
 use rules::limits::NO_STEP;
 use rules::limits::VARIABLES;
 
-// A budget, a jump, `trace`, `show` and `list` are given once at most. A sweep has no jump, `trace` or `show`, a run no `list`.
+// A budget, a jump, a function, `trace`, `show`, `list` and `map` are given once at most. A sweep has no jump, `trace` or `show`, a run no
+// `list`, `map` or function.
 pub struct Asked {
     pub hardened: bool,
     pub sweep: bool,
     pub trace: bool,
     pub show: bool,
     pub list: bool,
+    pub map: bool,
+    pub named: bool,
     pub budgeted: bool,
     pub struck: bool,
     pub budget: u16,
     pub step: u16,
     pub place: u16,
+    pub function: u8,
 }
 
 // What was expected in a word's place, and how many of its bytes the buffer holds.
@@ -102,11 +106,14 @@ pub fn begun(hardened: bool) -> Asked {
         trace: false,
         show: false,
         list: false,
+        map: false,
+        named: false,
         budgeted: false,
         struck: false,
         budget: 65535,
         step: NO_STEP,
         place: 0,
+        function: 0,
     }
 }
 
@@ -118,6 +125,8 @@ fn take(w: Word, a: Asked, variables: &mut [u16; VARIABLES], seen: &mut [u8; VAR
         Word::Trace => take_trace(a),
         Word::Show => take_show(a),
         Word::List => take_list(a),
+        Word::Map => take_map(a),
+        Word::Function(f) => take_function(f, a),
         Word::Wrong(e) => Taken::Wrong(fitting(e, a)),
     }
 }
@@ -196,8 +205,33 @@ fn take_list(a: Asked) -> Taken {
     if a.list {
         return Taken::Wrong(Expected::OneList);
     }
+    if a.map {
+        return Taken::Wrong(Expected::ListOrMap);
+    }
     let mut b = a;
     b.list = true;
+    Taken::Right(b)
+}
+
+fn take_map(a: Asked) -> Taken {
+    if a.map {
+        return Taken::Wrong(Expected::OneMap);
+    }
+    if a.list {
+        return Taken::Wrong(Expected::ListOrMap);
+    }
+    let mut b = a;
+    b.map = true;
+    Taken::Right(b)
+}
+
+fn take_function(f: u8, a: Asked) -> Taken {
+    if a.named {
+        return Taken::Wrong(Expected::OneFunction);
+    }
+    let mut b = a;
+    b.named = true;
+    b.function = f;
     Taken::Right(b)
 }
 

@@ -9,11 +9,15 @@ use rules::limits::VARIABLES;
 
 pub struct SweepAsked {
     pub list: bool,
+    pub map: bool,
+    pub function: u8,
     pub budget: u16,
 }
 
+// `Mapless` is a function that is named with no map to draw.
 pub enum SweepGiven {
     Wrong(Fault),
+    Mapless,
     Right(SweepAsked),
 }
 
@@ -25,13 +29,20 @@ pub fn read(buffer: &mut [u8], variables: &mut [u16; VARIABLES]) -> SweepGiven
     start.sweep = true;
     match arguments::read_rest(1, start, buffer, variables) {
         Given::Wrong(f) => SweepGiven::Wrong(f),
-        Given::Right(a) => SweepGiven::Right(of_sweep(a)),
+        Given::Right(a) => given(a),
     }
 }
 
-fn of_sweep(a: Asked) -> SweepAsked {
-    SweepAsked {
-        list: a.list,
-        budget: a.budget,
+fn given(a: Asked) -> SweepGiven {
+    if a.named {
+        if !a.map {
+            return SweepGiven::Mapless;
+        }
     }
+    SweepGiven::Right(SweepAsked {
+        list: a.list,
+        map: a.map,
+        function: a.function,
+        budget: a.budget,
+    })
 }

@@ -14,6 +14,8 @@ pub enum Word {
     Trace,
     Show,
     List,
+    Map,
+    Function(u8),
     Wrong(Expected),
 }
 
@@ -27,6 +29,13 @@ pub fn read(word: &[u8], sweep: bool) -> Word {
 fn of_sweep(word: &[u8]) -> Word {
     if is(word, b"list") {
         return Word::List;
+    }
+    if is(word, b"map") {
+        return Word::Map;
+    }
+    let f = skip(word, b"function=");
+    if 0 < f {
+        return function(&word[f..]);
     }
     of_both(word)
 }
@@ -63,6 +72,17 @@ fn budget(text: &[u8]) -> Word {
         Number::Value(x) => Word::Budget(x),
         Number::Other => Word::Wrong(Expected::Budget),
     }
+}
+
+// `1`, at most 31
+fn function(text: &[u8]) -> Word {
+    let Number::Value(x) = decimal(text) else {
+        return Word::Wrong(Expected::Function);
+    };
+    if 31 < x {
+        return Word::Wrong(Expected::Function);
+    }
+    Word::Function(x as u8)
 }
 
 // `4:6`

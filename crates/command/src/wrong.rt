@@ -11,6 +11,7 @@ pub enum Expected {
     Budget,
     Variable(u16),
     Jump,
+    Function,
     // no jump in a source run
     NoJump,
     // no second one
@@ -20,6 +21,10 @@ pub enum Expected {
     OneTrace,
     OneShow,
     OneList,
+    OneMap,
+    OneFunction,
+    // one of the two
+    ListOrMap,
     // so many bytes at most
     Shorter,
 }
@@ -56,10 +61,13 @@ fn expect(expected: Expected) {
         Expected::AnyOrJump => {
             say_word(b"budget=0..65535, v0..v15=0..65535, jump=STEP:PLACE, trace or show")
         }
-        Expected::AnyOrList => say_word(b"budget=0..65535, v0..v15=0..65535 or list"),
+        Expected::AnyOrList => {
+            say_word(b"budget=0..65535, v0..v15=0..65535, list, map or function=0..31")
+        }
         Expected::Budget => say_word(b"budget=0..65535"),
         Expected::Variable(k) => variable(k, b"=0..65535"),
         Expected::Jump => say_word(b"jump=STEP:PLACE, each 0..65535"),
+        Expected::Function => say_word(b"function=0..31"),
         Expected::NoJump => say_word(b"jump in a hardened run only"),
         Expected::OneBudget => say_word(b"budget only once"),
         Expected::OneVariable(k) => variable(k, b" only once"),
@@ -67,6 +75,9 @@ fn expect(expected: Expected) {
         Expected::OneTrace => say_word(b"trace only once"),
         Expected::OneShow => say_word(b"show only once"),
         Expected::OneList => say_word(b"list only once"),
+        Expected::OneMap => say_word(b"map only once"),
+        Expected::OneFunction => say_word(b"function only once"),
+        Expected::ListOrMap => say_word(b"list or map, not both"),
         Expected::Shorter => say_word(b"at most 4096 bytes"),
     }
 }

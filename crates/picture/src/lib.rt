@@ -1,0 +1,5 @@
+// The map of a function as an SVG picture, element by element (docs/PROGRAMS.md, "The map").
+pub mod column;
+pub mod frame;
+mod label;
+mod runs;
