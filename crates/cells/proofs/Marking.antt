@@ -141,5 +141,6 @@ module _ {bs : List ℕ} {mp : Map} {b : ℕ} {tr vs : List ℕ} {f p left : ℕ
       pub marked-all : IsEnd (z .step) → ColumnIs (linesIn bs) vs b f p (set column (m .registers .at) x)
       marked-all h =
           record {
+            long = length-set column (m .registers .at) x ∙ w .long;
             each = λ y l. cells-on y l ∙ ap (λ n. worstTo n (strikeRank (form bs) (linesIn bs) vs b f y p)) (sym (walked-all (w .sweeping) rows long z ws′ rows′ e h));
           }

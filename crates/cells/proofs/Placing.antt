@@ -2,7 +2,7 @@
 use mathlib.Core.Path.{_≡_, refl, sym, ap, _∙_}
 use mathlib.Core.Bool.{Bool, true, false, cond}
 use mathlib.Core.List.{List}
-use Prim.Native.Nat.{ℕ, suc, _+_, _≤_, _<_}
+use Prim.Native.Nat.{ℕ, suc, _+_, _-_, _≤_, _<_}
 use native.Mathlib.Numerals.{add-one}
 use native.Mathlib.Omega.{arith}
 use lib.Dec.{eqb}
@@ -10,8 +10,9 @@ use lib.ListN.{length, getD}
 use borrow.Author.Tests.{eq-eqb, ne-eqb}
 use Rattle.rules.specs.declared.ending.Ending.{Ending}
 use Rattle.rules.specs.declared.ending.Ending.the-variants.{Same}
+use Rattle.rules.specs.Limits.{maxLines}
 use Rattle.rules.specs.Line.{linesIn}
-use Rattle.rules.specs.Function.{startOf, finishOf}
+use Rattle.rules.specs.Function.{functionAt, startOf, finishOf}
 use Rattle.rules.specs.Hardened.{Hardened}
 use Rattle.rules.specs.Settled.{across}
 use Rattle.line.proofs.Decode.{length-lines}
@@ -47,8 +48,17 @@ module _ (bs : List ℕ) (mp : Map) (rd : Ready bs mp) (f p : ℕ) (pl : PlaceOf
         dos-in = dos-in bs (so .within);
       }
 
+  pub last-few : getD (mp .starts) (f + 1) 0 ≤ maxLines
+  last-few = omega (arith, last-there, rd .sound .finish-in f (pl .known), rd .sound .within .few-lines)
+
   pub line-few : getD (mp .starts) f 0 + p ≤ 65535
   line-few = omega (arith, in-lines .line-in, in-lines .few)
+
+-- ---- the places of a function, in numbers of the code
+pub place-of : (bs : List ℕ) (mp : Map) → Ready bs mp → (f : ℕ) → f < functionAt (linesIn bs) (length (linesIn bs)) → (p : ℕ) → p ≤ getD (mp .starts) (f + 1) 0 - getD (mp .starts) f 0 → PlaceOf (linesIn bs) f p
+place-of bs mp rd f known p h =
+    let pl : PlaceOf (linesIn bs) f 0 = record { known = known; place-in = omega arith } in
+    record { known = known; place-in = omega (arith, first-there bs mp rd f 0 pl, last-there bs mp rd f 0 pl) }
 
 -- ---- a wide jump
 pub wide-last : (bs : List ℕ) (y last d : ℕ) (vs : List ℕ) (left : ℕ) (r : Ending) → y ≡ last → r ≡ wideLast d left → r ≡ wideOf bs y last d vs left

@@ -5,7 +5,7 @@ use mathlib.Core.Path.{_≡_}
 use mathlib.Core.Bool.{cond, _&&_}
 use mathlib.Core.List.{List}
 use lib.Dec.{eqb}
-use lib.ListN.{getD}
+use lib.ListN.{length, getD}
 use Rattle.rules.specs.declared.ending.Ending.{Ending}
 use Rattle.rules.specs.declared.ending.Ending.the-variants.{Alarmed, Same, Other, Unfinished}
 use Rattle.rules.specs.Limits.{maxLines}
@@ -39,4 +39,5 @@ worst F ls vs b f y p = worstTo ((unstruckRun F ls vs b) .steps) (strikeRank F l
 
 -- a cell for each line
 pub record ColumnIs (ls : List Line) (vars : List ℕ) (budget f p : ℕ) (column : List ℕ) : Type 0 where
+  pub long : length column ≡ maxLines
   pub each : (y : ℕ) → y < maxLines → getD column y 0 ≡ worst (counterForm ls) ls vars budget f y p

@@ -33,14 +33,7 @@ pub fn stood(cells: &[u8], width: u16, at: usize, text: &mut [u8; 65536]) -> usi
 }
 
 // The cells of one rank, where there are any.
-fn path(
-    class: u8,
-    r: u8,
-    cells: &[u8],
-    place: u16,
-    at: usize,
-    text: &mut [u8; 65536],
-) -> usize {
+fn path(class: u8, r: u8, cells: &[u8], place: u16, at: usize, text: &mut [u8; 65536]) -> usize {
     if runs::behind_last(r, cells) == 0 {
         return at;
     }
