@@ -102,10 +102,36 @@ fn turned_away_and_unreadable() {
 
 #[test]
 fn wrong_words() {
-    let any = "budget=0..65535, v0..v15=0..65535 or list";
+    let any = "budget=0..65535, v0..v15=0..65535, list, map or function=0..31";
     for word in [
-        "trace", "show", "jump=4:6", "jump=", "source", "hardened", "x", "", "lists", "list=1",
-        "v16=1", "v01=1", "V1=1", "budget", "v1", "=1", "-h", "help", "--Help", "--help=1",
+        "trace",
+        "show",
+        "jump=4:6",
+        "jump=",
+        "source",
+        "hardened",
+        "x",
+        "",
+        "lists",
+        "list=1",
+        "v16=1",
+        "v01=1",
+        "V1=1",
+        "budget",
+        "v1",
+        "=1",
+        "-h",
+        "help",
+        "--Help",
+        "--help=1",
+        "maps",
+        "map=1",
+        "Map",
+        "function",
+        "Function=1",
+        "functions=1",
+        "function1",
+        "function:1",
     ] {
         let line = format!("wrong word \"{word}\": expected {any}\n");
         assert_eq!(wrong(word), line);
@@ -120,6 +146,23 @@ fn wrong_words() {
         ("budget=1 budget=x", "budget=x", "budget=0..65535"),
         ("v3=1 list v3=1", "v3=1", "v3 only once"),
         ("list list", "list", "list only once"),
+        ("map map", "map", "map only once"),
+        ("map v1=1 map", "map", "map only once"),
+        ("list map", "map", "list or map, not both"),
+        ("map list", "list", "list or map, not both"),
+        ("list v1=1 map list", "map", "list or map, not both"),
+        ("list list map", "list", "list only once"),
+        ("map map list", "map", "map only once"),
+        ("function=32", "function=32", "function=0..31"),
+        ("map function=", "function=", "function=0..31"),
+        ("list function=65536", "function=65536", "function=0..31"),
+        ("function=-1 map", "function=-1", "function=0..31"),
+        ("function=1 function=1", "function=1", "function only once"),
+        ("map function=1 function=2", "function=2", "function only once"),
+        ("function=1 function=32", "function=32", "function=0..31"),
+        // a wrong word is told before a map that is missing
+        ("function=1 list map", "map", "list or map, not both"),
+        ("function=1 v16=1", "v16=1", any),
         ("list --help", "--help", any),
         ("a\nb\x7f\tc", "a?b??c", any),
     ] {
@@ -127,11 +170,21 @@ fn wrong_words() {
     }
 }
 
+/// "told on standard error once all words are taken, before the input is read"
+#[test]
+fn a_function_without_a_map() {
+    for words in ["function=0", "function=31", "list function=1", "function=003 v1=1 budget=20"] {
+        assert_eq!(wrong(words), "function= needs the word map\n");
+    }
+}
+
 #[test]
 fn a_long_word() {
     let long = "7".repeat(4096);
     let line = wrong(&long);
-    assert!(line.ends_with("777\": expected budget=0..65535, v0..v15=0..65535 or list\n"));
+    assert!(line.ends_with(
+        "777\": expected budget=0..65535, v0..v15=0..65535, list, map or function=0..31\n"
+    ));
     for words in [format!("{long}7"), format!("list v1={long}"), format!("{long}7 --help")] {
         let line = wrong(&words);
         assert!(line.starts_with("wrong word \""), "{line}");
@@ -193,7 +246,7 @@ fn the_cases_meet_everything() {
     assert!(all.iter().any(|printed| printed.out.len() > 65_536));
     for what in [
         "usage: sweep [budget=N]",
-        "expected budget=0..65535, v0..v15=0..65535 or list\n",
+        "expected budget=0..65535, v0..v15=0..65535, list, map or function=0..31\n",
         "expected budget=0..65535\n",
         "expected v15=0..65535\n",
         "expected budget only once\n",
