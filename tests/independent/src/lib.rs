@@ -68,6 +68,7 @@ pub mod source_run;
 pub mod strikes;
 pub mod sweep;
 pub mod sweep_cases;
+pub mod sweep_map_cases;
 pub mod sweep_programs;
 pub mod sweep_text;
 pub mod sweep_word_cases;
