@@ -41,7 +41,7 @@ impl<'a> Map<'a> {
         self.lines.len()
     }
 
-    /// 1 to 3
+    /// 1 to 3: the size, what the classes look like, the title
     fn head(&self) -> String {
         let (a, b) = (self.m() + 38, self.m() + 16);
         let (w, h) = (12 * a, 12 * b);
@@ -57,7 +57,7 @@ impl<'a> Map<'a> {
         svg + LOOKS + &title
     }
 
-    /// 4 to 6
+    /// 4 to 6: the grid, the alarms, the lines over them
     fn grid(&self) -> String {
         let (m, x) = (self.m(), self.m() + 1);
         let stood = pieces(m, |place| self.cells.stood(place));
@@ -123,7 +123,7 @@ impl<'a> Map<'a> {
         format!("<text class=\"{class}\" x=\"{x}.4\" y=\"{y}.8\">row {row} {what}</text>\n")
     }
 
-    /// 8 to 10
+    /// 8 to 10: the letter over the last column, the legend, the counts
     fn foot(&self) -> String {
         let m = self.m();
         let mut text = format!("<text class=\"t\" x=\"{m}.5\" y=\"-1.4\">m</text>\n");

@@ -100,40 +100,17 @@ fn turned_away_and_unreadable() {
     }
 }
 
+/// What is expected in place of a word that is none.
+const ANY: &str = "budget=0..65535, v0..v15=0..65535, list, map or function=0..31";
+
 #[test]
 fn wrong_words() {
-    let any = "budget=0..65535, v0..v15=0..65535, list, map or function=0..31";
     for word in [
-        "trace",
-        "show",
-        "jump=4:6",
-        "jump=",
-        "source",
-        "hardened",
-        "x",
-        "",
-        "lists",
-        "list=1",
-        "v16=1",
-        "v01=1",
-        "V1=1",
-        "budget",
-        "v1",
-        "=1",
-        "-h",
-        "help",
-        "--Help",
-        "--help=1",
-        "maps",
-        "map=1",
-        "Map",
-        "function",
-        "Function=1",
-        "functions=1",
-        "function1",
-        "function:1",
+        "trace", "show", "jump=4:6", "jump=", "source", "hardened", "x", "", "lists", "list=1",
+        "v16=1", "v01=1", "V1=1", "budget", "v1", "=1", "-h", "help", "--Help", "--help=1", "maps",
+        "Map", "map=1", "map=", "function",
     ] {
-        let line = format!("wrong word \"{word}\": expected {any}\n");
+        let line = format!("wrong word \"{word}\": expected {ANY}\n");
         assert_eq!(wrong(word), line);
         assert_eq!(wrong(&format!("v1=1 list {word} v99=1")), line);
     }
@@ -146,6 +123,16 @@ fn wrong_words() {
         ("budget=1 budget=x", "budget=x", "budget=0..65535"),
         ("v3=1 list v3=1", "v3=1", "v3 only once"),
         ("list list", "list", "list only once"),
+        ("list --help", "--help", ANY),
+        ("a\nb\x7f\tc", "a?b??c", ANY),
+    ] {
+        assert_eq!(wrong(words), format!("wrong word \"{word}\": expected {expected}\n"));
+    }
+}
+
+#[test]
+fn wrong_words_for_a_map() {
+    for (words, word, expected) in [
         ("map map", "map", "map only once"),
         ("map v1=1 map", "map", "map only once"),
         ("list map", "map", "list or map, not both"),
@@ -153,6 +140,9 @@ fn wrong_words() {
         ("list v1=1 map list", "map", "list or map, not both"),
         ("list list map", "list", "list only once"),
         ("map map list", "map", "map only once"),
+        ("map Function=1", "Function=1", ANY),
+        ("map functions=1", "functions=1", ANY),
+        ("map function:1", "function:1", ANY),
         ("function=32", "function=32", "function=0..31"),
         ("map function=", "function=", "function=0..31"),
         ("list function=65536", "function=65536", "function=0..31"),
@@ -162,9 +152,7 @@ fn wrong_words() {
         ("function=1 function=32", "function=32", "function=0..31"),
         // a wrong word is told before a map that is missing
         ("function=1 list map", "map", "list or map, not both"),
-        ("function=1 v16=1", "v16=1", any),
-        ("list --help", "--help", any),
-        ("a\nb\x7f\tc", "a?b??c", any),
+        ("function=1 v16=1", "v16=1", ANY),
     ] {
         assert_eq!(wrong(words), format!("wrong word \"{word}\": expected {expected}\n"));
     }
@@ -236,13 +224,25 @@ fn one_do(line: &str) -> [usize; 5] {
     numbers
 }
 
+/// What is printed for the fixed cases.
+fn answers() -> Vec<Printed> {
+    let cases = sweep_cases::cases(1, 0);
+    cases.iter().map(|case| sweep_text::sweep(&case.words, &case.input[..]).unwrap()).collect()
+}
+
+/// Some answer has these words, on standard output or on standard error.
+fn meets(answers: &[Printed], what: &str) {
+    let with = |printed: &Printed| {
+        printed.out.contains(what) || String::from_utf8_lossy(&printed.err).contains(what)
+    };
+    assert!(answers.iter().any(with), "{what}");
+}
+
 /// The command lines that the script puts to the program have a right and a wrong one for
 /// each thing that a word can be, and every kind of answer.
 #[test]
 fn the_cases_meet_everything() {
-    let cases = sweep_cases::cases(1, 0);
-    let all: Vec<Printed> =
-        cases.iter().map(|case| sweep_text::sweep(&case.words, &case.input[..]).unwrap()).collect();
+    let all = answers();
     assert!(all.iter().any(|printed| printed.out.len() > 65_536));
     for what in [
         "usage: sweep [budget=N]",
@@ -252,6 +252,27 @@ fn the_cases_meet_everything() {
         "expected budget only once\n",
         "expected v15 only once\n",
         "expected list only once\n",
+        "expected at most 4096 bytes\n",
+        "step 0 function 0 from place 0 to place 1 row 1 left out\nstep 1 ",
+        " row 1 done twice\nalarm 74\nsame 15\nother 2\nunfinished 5\n",
+        " row 1 left out\nalarm 73\nsame 13\nother 1\nunfinished 9\n",
+        " function 1 from place 0 to place 1 row ",
+        " function 2 from place ",
+        "other 0\nunfinished 0\n",
+        "other 0\nunfinished 64\n",
+        "refused 10\n",
+        "refused 13\n",
+        "unreadable\n",
+        "line 8: ",
+    ] {
+        meets(&all, what);
+    }
+}
+
+#[test]
+fn the_cases_meet_every_map() {
+    let all = answers();
+    for what in [
         "expected map only once\n",
         "expected function only once\n",
         "expected function=0..31\n",
@@ -270,22 +291,7 @@ fn the_cases_meet_everything() {
         "<path class=\"a\" d=\"\"/>",
         ">whole sweep: alarm 74, same 15, other 2, unfinished 5<",
         ">whole sweep: alarm 73, same 13, other 1, unfinished 9<",
-        "expected at most 4096 bytes\n",
-        "step 0 function 0 from place 0 to place 1 row 1 left out\nstep 1 ",
-        " row 1 done twice\nalarm 74\nsame 15\nother 2\nunfinished 5\n",
-        " row 1 left out\nalarm 73\nsame 13\nother 1\nunfinished 9\n",
-        " function 1 from place 0 to place 1 row ",
-        " function 2 from place ",
-        "other 0\nunfinished 0\n",
-        "other 0\nunfinished 64\n",
-        "refused 10\n",
-        "refused 13\n",
-        "unreadable\n",
-        "line 8: ",
     ] {
-        let with = |printed: &&Printed| {
-            printed.out.contains(what) || String::from_utf8_lossy(&printed.err).contains(what)
-        };
-        assert!(all.iter().any(|printed| with(&printed)), "{what}");
+        meets(&all, what);
     }
 }
