@@ -166,19 +166,13 @@ impl<'a> HardenedRun<'a> {
 
     /// The checks of a line, by the table of 01.
     fn line_seen(&self, line: Line) -> What {
-        let (word, regions) = match line.kind {
-            line::DO => ("do", vec![]),
-            line::TICK => ("tick", vec![line.r]),
-            line::TEST => ("test", vec![line.r]),
-            line::LEAVE => ("leave", vec![line.r, line.s]),
-            line::OUT => ("out", vec![line.r]),
-            line::CALL => ("call", vec![line.r]),
-            line::BACK => ("back", vec![line.r]),
-            line::RET => ("ret", vec![line.r]),
-            kind => unreachable!("an accepted table has no line kind {kind}"),
+        let regions = match line.kind {
+            line::DO => vec![],
+            line::LEAVE => vec![line.r, line.s],
+            _ => vec![line.r],
         };
         let ended = (line.kind == line::BACK).then_some(self.returned);
-        What { word, counters: self.held(&regions), ended }
+        What { word: line.word(), counters: self.held(&regions), ended }
     }
 
     /// "before step k (from 0) the running function goes to that place";

@@ -69,6 +69,21 @@ impl Line {
     pub fn is_guard(&self) -> bool {
         self.kind != DO
     }
+
+    /// 01's word for the kind of an accepted table's line.
+    pub fn word(&self) -> &'static str {
+        match self.kind {
+            DO => "do",
+            TICK => "tick",
+            TEST => "test",
+            LEAVE => "leave",
+            OUT => "out",
+            CALL => "call",
+            BACK => "back",
+            RET => "ret",
+            kind => unreachable!("an accepted table has no line kind {kind}"),
+        }
+    }
 }
 
 /// The bytes of several lines.

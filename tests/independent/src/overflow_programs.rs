@@ -62,6 +62,13 @@ fn returning() -> Program {
     of(functions(&[&rows]), &[(0, 3), (1, 1), (2, 65_531)])
 }
 
+/// The run finishes. v1 is 65,535 and v0 is added to it where it is 0; so many times before
+/// that, and so many behind it, v0 is 1. A jump to that do overflows from there alone.
+pub fn by_turns(before: usize, behind: usize) -> Vec<Row> {
+    let turn = [set(0, 0), set(0, 1)];
+    [&turn.repeat(before)[..], &[set(0, 0), add(1, 0)], &turn.repeat(behind)].concat()
+}
+
 /// The runs end with 5: in the first step, in a later one, in a part, in a called
 /// function, with many open.
 pub fn overflowing() -> Vec<Program> {

@@ -9,6 +9,7 @@ use crate::random::Random;
 use crate::replay_sweep::some_budget;
 use crate::row::ROW_BYTES;
 use crate::run_cases::{self, Case};
+use crate::sweep_map_cases;
 use crate::sweep_programs;
 use crate::sweep_word_cases;
 use crate::text;
@@ -22,6 +23,7 @@ pub fn cases(seed: u64, count: usize) -> Vec<Case> {
     cases.extend(turned_away());
     cases.extend(unreadable());
     cases.extend(sweep_word_cases::all());
+    cases.extend(sweep_map_cases::all());
     cases.extend((0..count).map(|_| random(&mut rng)));
     cases
 }
@@ -85,7 +87,7 @@ fn overflows() -> Vec<Case> {
 }
 
 /// A program with its first values.
-fn of(program: &Program, words: &str) -> Case {
+pub fn of(program: &Program, words: &str) -> Case {
     let values = run_cases::given(&program.variables);
     sweep(&format!("{values} {words}"), &damage::hardened(&program.rows))
 }
@@ -126,16 +128,21 @@ fn unreadable() -> Vec<Case> {
     cases
 }
 
-/// A random program with its values and some budget; now and then a damaged table.
+/// A random program with its values and some budget, listed or drawn or neither; now and
+/// then a damaged table.
 fn random(rng: &mut Random) -> Case {
     let (program, steps) = sweep_programs::random(rng);
     let budget = match rng.percent(15) {
         true => String::new(),
         false => format!("budget={}", some_budget(rng, steps)),
     };
-    let list = if rng.percent(70) { "list" } else { "" };
-    let words = format!("{} {budget} {list}", run_cases::given(&program.variables));
     let lines = damage::hardened(&program.rows);
+    let what = match rng.below(10) {
+        0..=5 => "list".to_string(),
+        6..=8 => sweep_map_cases::random(rng, &lines),
+        _ => String::new(),
+    };
+    let words = format!("{} {budget} {what}", run_cases::given(&program.variables));
     let lines = if rng.percent(5) { damage::any(rng, &lines) } else { lines };
     sweep(&run_cases::shuffled(rng, &words), &lines)
 }

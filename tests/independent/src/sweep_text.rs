@@ -2,7 +2,9 @@
 
 use std::io::{self, Read};
 
-use crate::line::{self, LINE_BYTES};
+use crate::hardened_run::{spans_of, Span};
+use crate::line::{self, Line, LINE_BYTES};
+use crate::map_picture::Map;
 use crate::printed::Printed;
 use crate::readback;
 use crate::records;
@@ -21,27 +23,46 @@ pub fn sweep(words: &[Vec<u8>], input: impl Read) -> io::Result<Printed> {
 fn of_input(asked: &Asked, input: impl Read) -> io::Result<Printed> {
     Ok(match records::read(input, LINE_BYTES)? {
         Err(malformed) => Printed::unreadable(&malformed),
-        Ok(bytes) => match answer(asked, &bytes) {
-            Ok(text) => Printed::out(text),
-            Err(refusal) => Printed::refused(refusal.number()),
-        },
+        Ok(bytes) => {
+            answer(asked, &bytes).unwrap_or_else(|refusal| Printed::refused(refusal.number()))
+        }
     })
 }
 
 /// The program lends enough: of the refusals 10 and 13 are left.
-fn answer(asked: &Asked, bytes: &[u8]) -> Result<String, Refusal> {
+fn answer(asked: &Asked, bytes: &[u8]) -> Result<Printed, Refusal> {
     readback::source_of(bytes)?;
     let lines = line::from_bytes(bytes);
     let sweep = Sweep::new(&lines, asked.variables, asked.budget).ok_or(Refusal::Unfinished)?;
+    Ok(match asked.map {
+        Some(function) => mapped(function, &lines, &sweep),
+        None => Printed::out(four_lines(asked.list, &sweep)),
+    })
+}
+
+/// The picture of a function, if it is there.
+fn mapped(function: usize, lines: &[Line], sweep: &Sweep) -> Printed {
+    let spans = spans_of(lines);
+    let last = spans.len() - 1;
+    match spans.get(function) {
+        Some(Span { first, m }) => {
+            Printed::out(Map::new(function, &lines[*first..first + m], sweep).picture())
+        }
+        None => Printed::err(format!("function {function} is not there: the last one is {last}\n")),
+    }
+}
+
+/// The counts, with the jumps before them that are to be listed.
+fn four_lines(list: bool, sweep: &Sweep) -> String {
     let mut counts = Counts::default();
     let mut text = String::new();
     for strike in sweep.strikes() {
         counts.add(strike.end);
-        if asked.list {
-            text.push_str(&listed(&sweep, &strike));
+        if list {
+            text.push_str(&listed(sweep, &strike));
         }
     }
-    Ok(text + &counted(counts))
+    text + &counted(counts)
 }
 
 /// The line of a narrow jump that finished with another trace; nothing for any other.

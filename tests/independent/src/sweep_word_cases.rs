@@ -10,6 +10,7 @@ use crate::sweep_cases;
 pub fn all() -> Vec<Case> {
     let mut cases = wrong_words();
     cases.extend(right_words());
+    cases.extend(without_a_map());
     cases.extend(help());
     cases
 }
@@ -25,6 +26,9 @@ fn help() -> Vec<Case> {
         "--help nonsense v16=1",
         "list --help",
         "v1=1 --help list",
+        "--help map function=32",
+        "map --help",
+        "function=1 --help",
         "-h",
         "-help",
         "help",
@@ -77,6 +81,31 @@ const WRONG: &[&[u8]] = &[
     b"list=1",
     b"list=",
     b"-list",
+    b"maps",
+    b"Map",
+    b"ma",
+    b"map ",
+    b"map=1",
+    b"map=",
+    b"-map",
+    b"function",
+    b"function=",
+    b"function=32",
+    b"function=65535",
+    b"function=65536",
+    b"function=99999999999999999999999999",
+    b"function=-1",
+    b"function=+1",
+    b"function=x",
+    b"function=1 ",
+    b"function= 1",
+    b"function=0x1",
+    b"function==1",
+    b"function=1\n",
+    b"Function=1",
+    b"functions=1",
+    b"function 1",
+    b"f=1",
     b"trace",
     b"show",
     b"source",
@@ -134,7 +163,35 @@ const TWICE: &[(&[u8], &[u8])] = &[
     (b"v0=0", b"v0=7"),
     (b"v3=1", b"v3=65536"),
     (b"list", b"list"),
+    (b"map", b"map"),
+    (b"list", b"map"),
+    (b"map", b"list"),
+    (b"function=1", b"function=1"),
+    (b"function=0", b"function=31"),
+    (b"function=1", b"function=x"),
+    (b"function=1", b"function=32"),
 ];
+
+/// `function=` with no map: no input is read for it. A wrong word is told before it.
+fn without_a_map() -> Vec<Case> {
+    let lines = damage::hardened(&limits::worked_listing());
+    let mut cases = Vec::new();
+    for words in [
+        "function=0",
+        "function=31",
+        "v1=1 budget=20 function=00",
+        "list function=1 v1=1",
+        "function=1 list",
+        "function=1 v16=1",
+        "function=1 list map",
+        "function=1 list list",
+        "function=1 maps",
+    ] {
+        cases.push(sweep_cases::sweep(words, &lines));
+        cases.push(run_cases::case(words, b"not read"));
+    }
+    cases
+}
 
 /// Words that look odd and are right, and the others in any order.
 fn right_words() -> Vec<Case> {

@@ -32,8 +32,10 @@ trace lists a trace of more than 20 rows, show lists each step.
 
 pub const SWEEP: &str = "\
 usage: sweep [budget=N] [v0=N .. v15=N] [list] < lines
-N is 0 to 65535. Without budget= it is 65535, without v0= to v15= they are 0.
+       sweep [budget=N] [v0=N .. v15=N] map [function=F] < lines
+N is 0 to 65535, F 0 to 31. Without budget= it is 65535, without v0= to v15= and function= they are 0.
 list lists each jump across one do that finished with another trace.
+map draws how every jump inside function F ends, as an SVG picture.
 ";
 
 /// "the first word is `--help`"

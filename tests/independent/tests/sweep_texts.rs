@@ -100,14 +100,17 @@ fn turned_away_and_unreadable() {
     }
 }
 
+/// What is expected in place of a word that is none.
+const ANY: &str = "budget=0..65535, v0..v15=0..65535, list, map or function=0..31";
+
 #[test]
 fn wrong_words() {
-    let any = "budget=0..65535, v0..v15=0..65535 or list";
     for word in [
         "trace", "show", "jump=4:6", "jump=", "source", "hardened", "x", "", "lists", "list=1",
-        "v16=1", "v01=1", "V1=1", "budget", "v1", "=1", "-h", "help", "--Help", "--help=1",
+        "v16=1", "v01=1", "V1=1", "budget", "v1", "=1", "-h", "help", "--Help", "--help=1", "maps",
+        "Map", "map=1", "map=", "function",
     ] {
-        let line = format!("wrong word \"{word}\": expected {any}\n");
+        let line = format!("wrong word \"{word}\": expected {ANY}\n");
         assert_eq!(wrong(word), line);
         assert_eq!(wrong(&format!("v1=1 list {word} v99=1")), line);
     }
@@ -120,10 +123,46 @@ fn wrong_words() {
         ("budget=1 budget=x", "budget=x", "budget=0..65535"),
         ("v3=1 list v3=1", "v3=1", "v3 only once"),
         ("list list", "list", "list only once"),
-        ("list --help", "--help", any),
-        ("a\nb\x7f\tc", "a?b??c", any),
+        ("list --help", "--help", ANY),
+        ("a\nb\x7f\tc", "a?b??c", ANY),
     ] {
         assert_eq!(wrong(words), format!("wrong word \"{word}\": expected {expected}\n"));
+    }
+}
+
+#[test]
+fn wrong_words_for_a_map() {
+    for (words, word, expected) in [
+        ("map map", "map", "map only once"),
+        ("map v1=1 map", "map", "map only once"),
+        ("list map", "map", "list or map, not both"),
+        ("map list", "list", "list or map, not both"),
+        ("list v1=1 map list", "map", "list or map, not both"),
+        ("list list map", "list", "list only once"),
+        ("map map list", "map", "map only once"),
+        ("map Function=1", "Function=1", ANY),
+        ("map functions=1", "functions=1", ANY),
+        ("map function:1", "function:1", ANY),
+        ("function=32", "function=32", "function=0..31"),
+        ("map function=", "function=", "function=0..31"),
+        ("list function=65536", "function=65536", "function=0..31"),
+        ("function=-1 map", "function=-1", "function=0..31"),
+        ("function=1 function=1", "function=1", "function only once"),
+        ("map function=1 function=2", "function=2", "function only once"),
+        ("function=1 function=32", "function=32", "function=0..31"),
+        // a wrong word is told before a map that is missing
+        ("function=1 list map", "map", "list or map, not both"),
+        ("function=1 v16=1", "v16=1", ANY),
+    ] {
+        assert_eq!(wrong(words), format!("wrong word \"{word}\": expected {expected}\n"));
+    }
+}
+
+/// "told on standard error once all words are taken, before the input is read"
+#[test]
+fn a_function_without_a_map() {
+    for words in ["function=0", "function=31", "list function=1", "function=003 v1=1 budget=20"] {
+        assert_eq!(wrong(words), "function= needs the word map\n");
     }
 }
 
@@ -131,7 +170,9 @@ fn wrong_words() {
 fn a_long_word() {
     let long = "7".repeat(4096);
     let line = wrong(&long);
-    assert!(line.ends_with("777\": expected budget=0..65535, v0..v15=0..65535 or list\n"));
+    assert!(line.ends_with(
+        "777\": expected budget=0..65535, v0..v15=0..65535, list, map or function=0..31\n"
+    ));
     for words in [format!("{long}7"), format!("list v1={long}"), format!("{long}7 --help")] {
         let line = wrong(&words);
         assert!(line.starts_with("wrong word \""), "{line}");
@@ -183,17 +224,29 @@ fn one_do(line: &str) -> [usize; 5] {
     numbers
 }
 
+/// What is printed for the fixed cases.
+fn answers() -> Vec<Printed> {
+    let cases = sweep_cases::cases(1, 0);
+    cases.iter().map(|case| sweep_text::sweep(&case.words, &case.input[..]).unwrap()).collect()
+}
+
+/// Some answer has these words, on standard output or on standard error.
+fn meets(answers: &[Printed], what: &str) {
+    let with = |printed: &Printed| {
+        printed.out.contains(what) || String::from_utf8_lossy(&printed.err).contains(what)
+    };
+    assert!(answers.iter().any(with), "{what}");
+}
+
 /// The command lines that the script puts to the program have a right and a wrong one for
 /// each thing that a word can be, and every kind of answer.
 #[test]
 fn the_cases_meet_everything() {
-    let cases = sweep_cases::cases(1, 0);
-    let all: Vec<Printed> =
-        cases.iter().map(|case| sweep_text::sweep(&case.words, &case.input[..]).unwrap()).collect();
+    let all = answers();
     assert!(all.iter().any(|printed| printed.out.len() > 65_536));
     for what in [
         "usage: sweep [budget=N]",
-        "expected budget=0..65535, v0..v15=0..65535 or list\n",
+        "expected budget=0..65535, v0..v15=0..65535, list, map or function=0..31\n",
         "expected budget=0..65535\n",
         "expected v15=0..65535\n",
         "expected budget only once\n",
@@ -212,9 +265,33 @@ fn the_cases_meet_everything() {
         "unreadable\n",
         "line 8: ",
     ] {
-        let with = |printed: &&Printed| {
-            printed.out.contains(what) || String::from_utf8_lossy(&printed.err).contains(what)
-        };
-        assert!(all.iter().any(|printed| with(&printed)), "{what}");
+        meets(&all, what);
+    }
+}
+
+#[test]
+fn the_cases_meet_every_map() {
+    let all = answers();
+    for what in [
+        "expected map only once\n",
+        "expected function only once\n",
+        "expected function=0..31\n",
+        "wrong word \"list\": expected list or map, not both\n",
+        "wrong word \"map\": expected list or map, not both\n",
+        "function= needs the word map\n",
+        "function 1 is not there: the last one is 0\n",
+        "function 31 is not there: the last one is 0\n",
+        "function 16 is not there: the last one is 15\n",
+        ">function 31: struck at the place on the left, to the place above<",
+        "<path class=\"u\"",
+        "<path class=\"x\"",
+        "<text class=\"mo\"",
+        "<text class=\"ms\"",
+        "<text class=\"mu\"",
+        "<path class=\"a\" d=\"\"/>",
+        ">whole sweep: alarm 74, same 15, other 2, unfinished 5<",
+        ">whole sweep: alarm 73, same 13, other 1, unfinished 9<",
+    ] {
+        meets(&all, what);
     }
 }

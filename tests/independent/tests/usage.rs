@@ -41,9 +41,12 @@ const USAGES: [(Program, &str); 6] = [
     ),
     (
         Program::Sweep,
-        "usage: sweep [budget=N] [v0=N .. v15=N] [list] < lines\n\
-         N is 0 to 65535. Without budget= it is 65535, without v0= to v15= they are 0.\n\
-         list lists each jump across one do that finished with another trace.\n",
+        "usage: sweep [budget=N] [v0=N .. v15=N] [list] < lines\n       \
+         sweep [budget=N] [v0=N .. v15=N] map [function=F] < lines\n\
+         N is 0 to 65535, F 0 to 31. Without budget= it is 65535, without v0= to v15= and \
+         function= they are 0.\n\
+         list lists each jump across one do that finished with another trace.\n\
+         map draws how every jump inside function F ends, as an SVG picture.\n",
     ),
 ];
 
@@ -87,8 +90,17 @@ fn met() {
 fn wrong_word() {
     let line = "wrong word \"--help\": expected budget=0..65535, v0..v15=0..65535, trace or show\n";
     assert_eq!(unread(Program::Run, &["source", "--help"]), Printed::err(line));
-    let line = "wrong word \"--help\": expected budget=0..65535, v0..v15=0..65535 or list\n";
+    let line = "wrong word \"--help\": expected budget=0..65535, v0..v15=0..65535, list, map or \
+        function=0..31\n";
     assert_eq!(unread(Program::Sweep, &["list", "--help"]), Printed::err(line));
+    assert_eq!(unread(Program::Sweep, &["map", "--help"]), Printed::err(line));
+}
+
+/// `function=` without `map` is told with no input read.
+#[test]
+fn a_word_missing() {
+    let line = "function= needs the word map\n";
+    assert_eq!(unread(Program::Sweep, &["v1=1", "function=0"]), Printed::err(line));
 }
 
 #[test]
@@ -102,6 +114,7 @@ fn failures() {
         (Program::Run, vec![b"hardened".to_vec()]),
         (Program::Sweep, vec![]),
         (Program::Sweep, vec![b"list".to_vec()]),
+        (Program::Sweep, vec![b"map".to_vec(), b"function=31".to_vec()]),
     ] {
         let error = program.printed(&words, Unread).unwrap_err();
         let line = "cannot read standard input: Is a directory";
