@@ -2,11 +2,14 @@
 //! 02, a second time, written from the documents alone, to test another implementation
 //! against. See README.md.
 
+pub mod acts;
 pub mod around;
 pub mod by_name;
 pub mod calls;
 pub mod chain;
+pub mod copied_sweep;
 pub mod damage;
+pub mod evaluate;
 pub mod explain;
 pub mod fault;
 pub mod faults;
@@ -16,6 +19,7 @@ pub mod faults_places;
 pub mod faults_rows;
 pub mod faults_switch;
 pub mod field;
+pub mod figures;
 pub mod goes_on;
 pub mod harden;
 pub mod hardened_run;
@@ -47,6 +51,7 @@ pub mod replay_read;
 pub mod replay_run;
 pub mod replay_sweep;
 pub mod row;
+pub mod row_run;
 pub mod run_call_cases;
 pub mod run_cases;
 pub mod run_jump_cases;
@@ -62,6 +67,7 @@ pub mod slip;
 pub mod small_jump;
 pub mod small_strikes;
 pub mod source_run;
+pub mod source_sweep;
 pub mod strikes;
 pub mod sweep;
 pub mod sweep_cases;
