@@ -5,7 +5,7 @@
 use std::ops::RangeInclusive;
 
 use crate::row::Row;
-use crate::table::{Block, Else, Stmt, Table};
+use crate::table::{Block, Else, Function, Stmt, Table};
 
 /// What a row does. Rows are by their number in the whole table.
 #[derive(Clone, Copy, Debug, PartialEq, Eq)]
@@ -40,7 +40,7 @@ struct Loop {
 
 impl Acts {
     pub fn of(table: &Table) -> Acts {
-        let rows = |function: &crate::table::Function| function.opens + 1..=function.end;
+        let rows = |function: &Function| function.opens + 1..=function.end;
         let functions = table.functions.iter().map(rows).collect();
         let mut acts = Acts { acts: vec![Act::Opens; table.rows], functions };
         for function in &table.functions {
@@ -54,7 +54,7 @@ impl Acts {
         self.acts[row]
     }
 
-    /// The rows of a function, "its end included".
+    /// The rows that a run can stand at in a function, its end the last of them.
     pub fn function(&self, number: usize) -> RangeInclusive<usize> {
         self.functions[number].clone()
     }
