@@ -1,4 +1,4 @@
-//! What `independent evaluate` prints: the figures of a card, before hardening and behind it
+//! What `independent evaluate` prints: the figures of a card, before hardening and after it
 //! (docs/EVALUATION.md).
 
 use std::io::{self, Read};

@@ -25,7 +25,7 @@ const USAGE: &str = "usage:
   independent sweep WORDS                       a sweep of the hardened table on stdin
   independent sweep-cases SEED COUNT DIR        command lines and inputs for it, and its answers
   independent evaluate [budget=N] [v0=N .. v15=N]
-                                                sweeps of the rows on stdin, before hardening and behind it
+                                                sweeps of the rows on stdin, before hardening and after it
   independent replay SEED COUNT DIR             tests of check and harden
   independent replay-fault SEED COUNT DIR       tests of fault
   independent replay-measure SEED COUNT DIR     tests of measure and hardened_steps
