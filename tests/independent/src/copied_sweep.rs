@@ -1,28 +1,28 @@
 //! The sweep of a hardened table with its wide and its narrow strikes apart. Each struck run
-//! goes on from a copy of the unstruck one, where `sweep` begins each at line 0: for long
-//! runs that takes half the time, and for short ones it is held against `sweep`.
+//! goes on from a copy of the unstruck one, where `sweep` begins each at line 0: most strikes
+//! alarm at once, so that nearly all steps are those before them.
 
-use crate::figures::{Ended, Figures};
 use crate::hardened_run::{HardenedRun, Jump};
 use crate::line::Line;
 use crate::machine::Variables;
 use crate::small_jump::{Before, Sort};
+use crate::tallies::{Ended, Tallies};
 
 /// None where the unstruck run does not finish in the budget. The lines must be those of an
 /// accepted table.
-pub fn sweep(lines: &[Line], variables: Variables, budget: u16) -> Option<Figures> {
-    let mut figures = Figures::of(ended(HardenedRun::new(lines, variables), budget, None))?;
+pub fn sweep(lines: &[Line], variables: Variables, budget: u16) -> Option<Tallies> {
+    let mut tallies = Tallies::of(ended(HardenedRun::new(lines, variables), budget, None))?;
     let mut run = HardenedRun::new(lines, variables);
-    for k in 0..figures.unstruck.steps {
+    for k in 0..tallies.unstruck.steps {
         let before = Before::of(&run);
         for to in 0..=before.span.m {
             let place = u16::try_from(to).expect("a table has at most 2,048 lines");
             let struck = ended(run.clone(), budget, Some(Jump { k, place }));
-            figures.add(before.sort(lines, to) != Sort::Wide, &struck);
+            tallies.add(before.sort(lines, to) != Sort::Wide, &struck);
         }
         run.run(k + 1, None);
     }
-    Some(figures)
+    Some(tallies)
 }
 
 fn ended(mut run: HardenedRun, budget: u16, jump: Option<Jump>) -> Ended {

@@ -1,10 +1,9 @@
-//! What `independent evaluate` prints: the figures of a card, before hardening and after it
-//! (docs/EVALUATION.md).
+//! What `independent evaluate` prints: how the strikes of a card end, before hardening and
+//! after it (docs/EVALUATION.md).
 
 use std::io::{self, Read};
 
 use crate::copied_sweep;
-use crate::figures::{Figures, Tally};
 use crate::harden;
 use crate::machine::Variables;
 use crate::printed::Printed;
@@ -15,6 +14,7 @@ use crate::run_words::{number, once};
 use crate::source_sweep;
 use crate::sweep::Counts;
 use crate::table;
+use crate::tallies::{Tallies, Tally};
 
 /// The first values and the budget of all runs.
 #[derive(Clone, Copy, Debug, PartialEq, Eq)]
@@ -66,8 +66,8 @@ fn answer(asked: Asked, rows: &[u8]) -> Result<String, Refusal> {
     Ok(size + &told("unhardened", &before) + &told("hardened", &after))
 }
 
-fn told(name: &str, figures: &Figures) -> String {
-    let Figures { unstruck, wide, narrow } = figures;
+fn told(name: &str, tallies: &Tallies) -> String {
+    let Tallies { unstruck, wide, narrow } = tallies;
     format!(
         "{name} steps {}\n{name} fee {}\n{name} wide {}\n{name} narrow {}\n",
         unstruck.steps,

@@ -75,7 +75,7 @@ fn write_files(given: &[OsString]) -> io::Result<()> {
         given.iter().map(|word| word.to_string_lossy().into_owned()).collect();
     let words: Vec<&str> = arguments.iter().map(String::as_str).collect();
     match words[..] {
-        ["evaluate", ref words @ ..] => evaluated(words),
+        ["evaluate", ref rest @ ..] => evaluated(rest),
         ["texts", seed, count, to] => {
             let (seed, count) = numbers(seed, count)?;
             texts::write(&texts::all(seed, count), Path::new(to))

@@ -7,7 +7,6 @@ use between::wide;
 use independent::copied_sweep;
 use independent::damage;
 use independent::evaluate::{evaluate, Asked};
-use independent::figures::{Figures, Tally};
 use independent::hardened_run::{spans_of, HardenedRun, Jump};
 use independent::line::{self, Line};
 use independent::machine::{Outcome, Variables};
@@ -15,6 +14,7 @@ use independent::printed::Printed;
 use independent::program::Program;
 use independent::random::Random;
 use independent::sweep::{End, Strike, Sweep};
+use independent::tallies::{Tallies, Tally};
 use independent::{limits, sweep_programs, text};
 
 /// The fee of a struck run that finishes.
@@ -52,8 +52,8 @@ fn copied_as_from_line_0() {
     for program in sweep_programs::by_hand().into_iter().chain(random) {
         let lines = line::from_bytes(&damage::hardened(&program.rows));
         for budget in [40, 400] {
-            let figures = copied_sweep::sweep(&lines, program.variables, budget);
-            let copied = figures.map(|Figures { wide, narrow, .. }| [wide, narrow]);
+            let tallies = copied_sweep::sweep(&lines, program.variables, budget);
+            let copied = tallies.map(|Tallies { wide, narrow, .. }| [wide, narrow]);
             assert_eq!(copied, slowly(&lines, &program, budget), "{program:?}");
             lower += copied.map_or(0, |[_, narrow]| narrow.lower);
         }

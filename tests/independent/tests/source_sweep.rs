@@ -3,7 +3,6 @@
 
 use independent::acts::{Act, Acts};
 use independent::by_name::{add, call, functions, of, set};
-use independent::figures::{Figures, Tally};
 use independent::machine::Outcome;
 use independent::program::Program;
 use independent::random::Random;
@@ -13,6 +12,7 @@ use independent::source_sweep::sweep;
 use independent::sweep::Counts;
 use independent::sweep_programs;
 use independent::table;
+use independent::tallies::{Tallies, Tally};
 
 /// Same, other, unfinished and lower; there is never an alarm.
 fn told(tally: Tally) -> [u32; 4] {
@@ -22,14 +22,14 @@ fn told(tally: Tally) -> [u32; 4] {
     [same, other, unfinished, tally.lower]
 }
 
-fn swept(program: &Program, budget: u16) -> Option<Figures> {
+fn swept(program: &Program, budget: u16) -> Option<Tallies> {
     sweep(&table::parse(&program.rows).unwrap(), program.variables, budget)
 }
 
 /// The wide strikes, then the narrow ones.
 fn both_sorts(program: &Program, budget: u16) -> [[u32; 4]; 2] {
-    let figures = swept(program, budget).expect("a run that finishes");
-    [told(figures.wide), told(figures.narrow)]
+    let tallies = swept(program, budget).expect("a run that finishes");
+    [told(tallies.wide), told(tallies.narrow)]
 }
 
 /// 01's listing with v1 = 1 stands at rows 1, 2, 3, 4, 2, 3, 4, 2, 5; before these 9 steps
@@ -51,9 +51,9 @@ fn both_sorts(program: &Program, budget: u16) -> [[u32; 4]; 2] {
 fn the_listing() {
     let listing = sweep_programs::listing();
     assert_eq!(both_sorts(&listing, 20), [[13, 12, 3, 0], [12, 4, 1, 0]]);
-    let figures = swept(&listing, 20).unwrap();
-    assert_eq!((figures.unstruck.steps, figures.unstruck.fee()), (9, 0));
-    assert_eq!(figures.wide.strikes() + figures.narrow.strikes(), 45);
+    let tallies = swept(&listing, 20).unwrap();
+    assert_eq!((tallies.unstruck.steps, tallies.unstruck.fee()), (9, 0));
+    assert_eq!(tallies.wide.strikes() + tallies.narrow.strikes(), 45);
 }
 
 /// The longest struck runs of the listing are those to row 1, with 9 steps behind step k.
@@ -129,8 +129,8 @@ fn as_from_the_first_row() {
     let random = (0..1000).map(|_| sweep_programs::random(&mut rng).0);
     let mut totals = [[0; 4]; 2];
     for program in sweep_programs::by_hand().into_iter().chain(random) {
-        let Some(figures) = swept(&program, 400) else { continue };
-        let found = [told(figures.wide), told(figures.narrow)];
+        let Some(tallies) = swept(&program, 400) else { continue };
+        let found = [told(tallies.wide), told(tallies.narrow)];
         assert_eq!(found, from_the_first_row(&program, 400), "{program:?}");
         for (total, count) in totals.iter_mut().flatten().zip(found.into_iter().flatten()) {
             *total += count;

@@ -1,5 +1,5 @@
-//! The figures of an evaluation: how the strikes of one table end, wide and narrow apart, and
-//! how many of them quote too little.
+//! How the strikes of one table end, wide and narrow apart, and how many of them quote too
+//! little (docs/EVALUATION.md).
 
 use crate::machine::{Outcome, Variables};
 use crate::sweep::{Counts, End};
@@ -13,7 +13,7 @@ pub struct Ended {
 }
 
 impl Ended {
-    /// "the fee is always v0 at the end"
+    /// A card quotes what v0 holds at the end.
     pub fn fee(&self) -> u16 {
         self.variables[0]
     }
@@ -36,16 +36,16 @@ impl Tally {
 }
 
 /// All strikes of the run of one table.
-pub struct Figures {
+pub struct Tallies {
     pub unstruck: Ended,
     pub wide: Tally,
     pub narrow: Tally,
 }
 
-impl Figures {
+impl Tallies {
     /// None where the unstruck run does not finish.
-    pub fn of(unstruck: Ended) -> Option<Figures> {
-        (unstruck.outcome == Outcome::Finished).then(|| Figures {
+    pub fn of(unstruck: Ended) -> Option<Tallies> {
+        (unstruck.outcome == Outcome::Finished).then(|| Tallies {
             unstruck,
             wide: Tally::default(),
             narrow: Tally::default(),
