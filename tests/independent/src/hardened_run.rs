@@ -51,6 +51,7 @@ pub struct What {
 }
 
 /// A hardened run and what it has done so far.
+#[derive(Clone)]
 pub struct HardenedRun<'a> {
     lines: &'a [Line],
     pub spans: Vec<Span>,

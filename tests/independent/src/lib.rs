@@ -2,11 +2,14 @@
 //! 02, a second time, written from the documents alone, to test another implementation
 //! against. See README.md.
 
+pub mod acts;
 pub mod around;
 pub mod by_name;
 pub mod calls;
 pub mod chain;
+pub mod copied_sweep;
 pub mod damage;
+pub mod evaluate;
 pub mod explain;
 pub mod fault;
 pub mod faults;
@@ -50,6 +53,7 @@ pub mod replay_read;
 pub mod replay_run;
 pub mod replay_sweep;
 pub mod row;
+pub mod row_run;
 pub mod run_call_cases;
 pub mod run_cases;
 pub mod run_jump_cases;
@@ -65,6 +69,7 @@ pub mod slip;
 pub mod small_jump;
 pub mod small_strikes;
 pub mod source_run;
+pub mod source_sweep;
 pub mod strikes;
 pub mod sweep;
 pub mod sweep_cases;
@@ -76,6 +81,7 @@ pub mod sweep_words;
 pub mod switch_limits;
 pub mod switch_places;
 pub mod table;
+pub mod tallies;
 pub mod text;
 pub mod texts;
 pub mod usage;

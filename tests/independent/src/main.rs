@@ -7,6 +7,7 @@ use std::os::unix::ffi::OsStrExt;
 use std::path::Path;
 use std::process::ExitCode;
 
+use independent::evaluate::{self, Asked};
 use independent::printed::{self, Printed};
 use independent::programs::Program;
 use independent::protocol::Test;
@@ -23,6 +24,8 @@ const USAGE: &str = "usage:
   independent run-cases SEED COUNT DIR          command lines and inputs for it, and its answers
   independent sweep WORDS                       a sweep of the hardened table on stdin
   independent sweep-cases SEED COUNT DIR        command lines and inputs for it, and its answers
+  independent evaluate [budget=N] [v0=N .. v15=N]
+                                                sweeps of the rows on stdin, before hardening and after it
   independent replay SEED COUNT DIR             tests of check and harden
   independent replay-fault SEED COUNT DIR       tests of fault
   independent replay-measure SEED COUNT DIR     tests of measure and hardened_steps
@@ -66,12 +69,13 @@ fn print(printed: &Printed) -> io::Result<()> {
     out.flush()
 }
 
-/// The commands that write files for the scripts.
+/// The commands that the scripts use, most of which write files.
 fn write_files(given: &[OsString]) -> io::Result<()> {
     let arguments: Vec<String> =
         given.iter().map(|word| word.to_string_lossy().into_owned()).collect();
     let words: Vec<&str> = arguments.iter().map(String::as_str).collect();
     match words[..] {
+        ["evaluate", ref rest @ ..] => evaluated(rest),
         ["texts", seed, count, to] => {
             let (seed, count) = numbers(seed, count)?;
             texts::write(&texts::all(seed, count), Path::new(to))
@@ -105,6 +109,11 @@ fn write_files(given: &[OsString]) -> io::Result<()> {
         }
         _ => Err(wrong_usage()),
     }
+}
+
+fn evaluated(words: &[&str]) -> io::Result<()> {
+    let asked = Asked::read(words).ok_or_else(wrong_usage)?;
+    print(&evaluate::evaluate(asked, io::stdin().lock())?)
 }
 
 fn wrong_usage() -> io::Error {
