@@ -6,10 +6,10 @@ use native.Mathlib.Omega.{arith}
 use lib.ListN.{length, getD, take, drop, length-drop}
 use lib.Seq.{length-take-le}
 use Rattle.rules.specs.Limits.{maxFunctions, maxLines}
-use Rattle.rules.specs.Line.{lineWidth, linesIn}
+use Rattle.rules.specs.Line.{Line, lineWidth, linesIn}
 use Rattle.rules.specs.Function.{functionAt}
 use Rattle.machine.specs.Step.{Map}
-use Rattle.machine.specs.Stands.{Ready}
+use Rattle.machine.specs.Stands.{Ready, Sound}
 use Rattle.cells.specs.Struck.{PlaceOf}
 use Rattle.cells.proofs.Placing.{in-lines, last-few}
 
@@ -46,3 +46,7 @@ module _ (bs ss : List ℕ) (f : ℕ) (h : Lies bs ss f) (xs : List ℕ) (long :
 
   pub own-in : lineWidth * (getD ss f 0 + length own) ≤ length bs
   own-in = omega (arith, own-long, h .ordered, h .in-bytes)
+
+-- a function is there whose number is not above that of the last line
+pub is-there : (ls : List Line) → Sound ls → (last f : ℕ) → last ≡ functionAt ls (length ls - 1) → f ≤ last → f < functionAt ls (length ls)
+is-there ls so last f e h = omega (arith, so .known (length ls - 1) (omega (arith, so .within .some-line)))

@@ -1,15 +1,18 @@
 // Sweeps a hardened table at the bench (02, No. 4):
 //
 //     sweep [budget=N] [v0=N .. v15=N] [list] < lines
+//     sweep [budget=N] [v0=N .. v15=N] map [function=F] < lines
 //
 // It prints how many of the struck runs ended with an alarm, finished with the trace of the unstruck run, finished with another, and did not
-// finish, each on a line of its own, and with `list` each jump across one do that finished with another trace before them; or `refused N`,
-// or `unreadable`, as the other programs do. docs/PROGRAMS.md has every word of it.
+// finish, each on a line of its own, and with `list` each jump across one do that finished with another trace before them; with `map` in their
+// place a picture of how every jump inside one function ends; or `refused N`, or `unreadable`, as the other programs do. docs/PROGRAMS.md has
+// every word of it.
 ghost use mathlib.Core.Path.{_≡_};
 ghost use lib.ListN.{length};
 
 mod jump;
 mod list;
+mod map;
 
 use command::sweep_words;
 use command::sweep_words::SweepAsked;
@@ -33,8 +36,10 @@ fn main() {
     if start::asks_help() {
         start::tell(
             b"usage: sweep [budget=N] [v0=N .. v15=N] [list] < lines
-N is 0 to 65535. Without budget= it is 65535, without v0= to v15= they are 0.
+       sweep [budget=N] [v0=N .. v15=N] map [function=F] < lines
+N is 0 to 65535, F 0 to 31. Without budget= it is 65535, without v0= to v15= and function= they are 0.
 list lists each jump across one do that finished with another trace.
+map draws how every jump inside function F ends, as an SVG picture.
 ",
         );
         return;
@@ -50,6 +55,9 @@ fn take_words() {
             let expected = f.expected;
             let n = output::within(f.length, &buffer);
             wrong::say(&mut buffer[..n], expected);
+        }
+        SweepGiven::Mapless => {
+            io::write_all(2, b"function= needs the word map\n");
         }
         SweepGiven::Right(a) => {
             let mut bytes = io::large_buffer();
@@ -79,8 +87,33 @@ fn sweep(a: SweepAsked, lines: &[u8], variables: [u16; VARIABLES]) {
         output::refused(r.number, &mut text);
         return;
     }
-    let at = listed(a, lines, variables, &mut trace, &mut counters, &mut text);
-    tell(r, at, &mut text);
+    answer(a, r, lines, variables, &mut trace, &mut counters, &mut text);
+}
+
+fn answer(
+    a: SweepAsked,
+    r: Swept,
+    lines: &[u8],
+    variables: [u16; VARIABLES],
+    trace: &mut [u16; 65535],
+    counters: &mut [u16; COUNTERS],
+    text: &mut [u8; 65536],
+) {
+    if a.map {
+        map::print_map(
+            lines,
+            variables,
+            a.budget,
+            a.function,
+            r,
+            trace,
+            counters,
+            text,
+        );
+        return;
+    }
+    let at = listed(a, lines, variables, trace, counters, text);
+    tell(r, at, text);
 }
 
 // With the word `list`: how many bytes the buffer then holds.
