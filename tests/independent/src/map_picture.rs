@@ -43,7 +43,7 @@ impl<'a> Map<'a> {
 
     /// 1 to 3: the size, what the classes look like, the title
     fn head(&self) -> String {
-        let (a, b) = (self.m() + 38, self.m() + 16);
+        let (a, b) = (self.m() + 38, self.m() + 18);
         let (w, h) = (12 * a, 12 * b);
         let function = self.function;
         let svg = format!(
