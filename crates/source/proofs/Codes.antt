@@ -1,10 +1,10 @@
 -- What a row does, as a number, and where it goes: both are small, and the number tells the row's kind and op. Assumes that the table is
 -- accepted.
 use mathlib.Core.Logic.{_⊎_, inl, inr}
-use mathlib.Core.Path.{_≡_, refl, sym, ap, _∙_, subst}
+use mathlib.Core.Path.{_≡_, refl, sym, ap, _∙_}
 use mathlib.Core.Bool.{Bool, true, false, cond, _&&_}
 use mathlib.Core.List.{List, [], _∷_}
-use Prim.Native.Nat.{ℕ, suc, _+_, _/_, _<_}
+use Prim.Native.Nat.{ℕ, _+_, _/_, _<_}
 use native.Mathlib.Omega.{arith}
 use lib.ListN.{length}
 use lib.Dec.{eqb, ltb}
@@ -14,7 +14,7 @@ use Rattle.rules.specs.declared.kind.Kind.{Kind}
 use Rattle.rules.specs.declared.kind.Kind.the-variants.{Function, Do, If, Else, Loop, End, Break, Continue, Call, Unknown}
 use Rattle.rules.specs.declared.refusal.Verdict.the-variants.{Accepted}
 use Rattle.rules.specs.Row.{Table, tableOf, kindAt, operandsAt, usesNumber, usesVariable, doUses, testUses, fieldsFit}
-use Rattle.rules.specs.Scan.{Open, Part, body, thenPart, elsePart, loopBody, openAt, partOf, openerOf, fromLoop}
+use Rattle.rules.specs.Scan.{Open, Part, body, thenPart, elsePart, loopBody, openAt, partOf, fromLoop}
 use Rattle.rules.specs.Check.{isOutside, verdictOf}
 use Rattle.rules.specs.Links.{isOpening}
 use Rattle.rules.proofs.Logic.{clash, and-left}

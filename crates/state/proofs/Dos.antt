@@ -4,15 +4,14 @@ use mathlib.Core.List.{List}
 use mathlib.Core.Bool.{Bool, true, false, cond}
 use Prim.Native.Nat.{ℕ, _+_, _-_}
 use lib.Dec.{eqb, leb}
-use lib.ListN.{set}
 use Rattle.rules.specs.declared.computed.Computed.{Computed}
 use Rattle.rules.specs.declared.computed.Computed.the-variants.{Fits, Overflows}
 use Rattle.rules.specs.declared.operands.Operands.{Operands}
-use Rattle.rules.specs.declared.step.Step.the-variants.{Went, Overflow}
+use Rattle.rules.specs.declared.step.Step.the-variants.{Overflow}
 use Rattle.rules.specs.Variables.{variable, computed}
 use Rattle.state.specs.declared.machine.Registers.{Registers}
 use Rattle.state.specs.declared.machine.Moved.{Moved}
-use Rattle.state.specs.Machine.{tracedOf, moved, Done, done, putOf, didBy, didOf}
+use Rattle.state.specs.Machine.{moved, Done, done, putOf, didBy, didOf}
 
 -- a number that fits goes to the do's own variable
 abbrev target : (p : ℕ) → Computed → ℕ
