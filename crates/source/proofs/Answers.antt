@@ -1,8 +1,9 @@
 -- What the code of each kind of row may do and answers, from what it reads of the row. Assumes nothing.
+use mathlib.Core.Logic.{_⊎_, inl, inr}
 use mathlib.Core.Path.{_≡_, sym, ap, _∙_, subst}
 use mathlib.Core.Bool.{Bool, true, false, cond}
 use mathlib.Core.List.{List}
-use Prim.Native.Nat.{ℕ, suc, _+_, _≤_, _<_}
+use Prim.Native.Nat.{ℕ, suc, _+_, _*_, _/_, _%_, _≤_, _<_}
 use native.Mathlib.Numerals.{add-one}
 use native.Mathlib.Omega.{arith}
 use lib.ListN.{length, getD}
@@ -25,7 +26,8 @@ use Rattle.state.specs.declared.machine.Registers.{Registers}
 use Rattle.state.specs.declared.machine.Moved.{Moved}
 use Rattle.state.specs.Machine.{moved, didOf, Done}
 use Rattle.state.specs.Open.{opened, openedOf, closedOf}
-use Rattle.source.specs.Goes.{goOf, Known}
+use Rattle.source.specs.Goes.{goOf, codeOf, Known}
+use Rattle.source.proofs.Codes.{is-do, do-op-is, is-test, is-test-op, is-call}
 use Rattle.source.specs.Step.{Standing, goesTo, afterTest, afterJump, afterReturn, afterEnd, afterCall, afterDo}
 
 -- ---- the row that the run stands at
@@ -39,38 +41,63 @@ module _ {bs : List ℕ} {h : Registers} (s : Standing bs h) where
   in-table : h .at < length (tableOf bs)
   in-table = omega (arith, s .here .row, table-length bs)
 
-  -- where it goes
-  pub goes-to : {goes : List ℕ} {i r : ℕ} → Known bs goes → i ≡ h .at → r ≡ getD goes i 0 → r ≡ goOf (tableOf bs) (h .at)
-  goes-to {goes} k e q = q ∙ ap (λ j. getD goes j 0) e ∙ k .each (h .at) in-table
+  -- where it goes, and what it does
+  module _ {goes : List ℕ} {i : ℕ} (k : Known bs goes) (e : i ≡ h .at) where
+    word-is : getD goes i 0 ≡ 4096 * codeOf (tableOf bs) (h .at) + goOf (tableOf bs) (h .at)
+    word-is = ap (λ j. getD goes j 0) e ∙ k .each (h .at) in-table
+
+    pub goes-to : getD goes i 0 % 4096 ≡ goOf (tableOf bs) (h .at)
+    goes-to = omega (arith, word-is, k .low (h .at) in-table)
+
+    pub does : getD goes i 0 / 4096 ≡ codeOf (tableOf bs) (h .at)
+    does = omega (arith, word-is, k .low (h .at) in-table)
+
+  -- what its number tells
+  pub do-kind : {op : ℕ} → codeOf (tableOf bs) (h .at) ≡ op + 1 → op < 4 → kindAt (tableOf bs) (h .at) ≡ Do
+  do-kind c z = is-do bs (s .accepted) in-table c z
+
+  pub do-op : {op : ℕ} → codeOf (tableOf bs) (h .at) ≡ op + 1 → op < 4 → operandsAt (tableOf bs) (h .at) .op ≡ op
+  do-op c z = do-op-is bs (s .accepted) in-table c z
+
+  pub test-op : {op : ℕ} → codeOf (tableOf bs) (h .at) ≡ op + 5 → op < 3 → operandsAt (tableOf bs) (h .at) .op ≡ op
+  test-op c z = is-test-op bs (s .accepted) in-table c z
+
+  pub call-kind : codeOf (tableOf bs) (h .at) ≡ 10 → kindAt (tableOf bs) (h .at) ≡ Call
+  call-kind c = is-call bs (s .accepted) in-table c
 
   -- its variables are there, by its kind
   fits : {k : Kind} → kindAt (tableOf bs) (h .at) ≡ k → fieldsFit k (operandsAt (tableOf bs) (h .at)) ≡ true
   fits e = sym (ap (λ k. fieldsFit k (operandsAt (tableOf bs) (h .at))) e) ∙ proper bs (s .accepted) .rows (h .at) in-table .fits
 
-  pub operands-in : {o : Operands} {i : ℕ} → VariablesIn (operandsAt (tableOf bs) (h .at)) → i ≡ h .at → o ≡ operandsAt (tableOf bs) i → VariablesIn o
-  operands-in v e q = subst VariablesIn (sym (q ∙ ap (operandsAt (tableOf bs)) e)) v
+  pub operands-in : {o : Operands} → VariablesIn (operandsAt (tableOf bs) (h .at)) → o ≡ operandsAt (tableOf bs) (h .at) → VariablesIn o
+  operands-in v q = subst VariablesIn (sym q) v
 
   pub do-variables : AreBytes bs → kindAt (tableOf bs) (h .at) ≡ Do → VariablesIn (operandsAt (tableOf bs) (h .at))
   unfolding fieldsFit
   do-variables b k = do-fields _ (fits k) (word-bound bs b (h .at) in-table)
 
-  pub if-variables : AreBytes bs → kindAt (tableOf bs) (h .at) ≡ If → VariablesIn (operandsAt (tableOf bs) (h .at))
+  pub test-variables : AreBytes bs → {op : ℕ} → codeOf (tableOf bs) (h .at) ≡ op + 5 → op < 3 → VariablesIn (operandsAt (tableOf bs) (h .at))
   unfolding fieldsFit
-  if-variables b k = test-fields _ (fits k) (word-bound bs b (h .at) in-table)
-
-  pub loop-variables : AreBytes bs → kindAt (tableOf bs) (h .at) ≡ Loop → VariablesIn (operandsAt (tableOf bs) (h .at))
-  unfolding fieldsFit
-  loop-variables b k = test-fields _ (fits k) (word-bound bs b (h .at) in-table)
+  test-variables b c z = by (is-test bs (s .accepted) in-table c z)
+    where
+      by : (kindAt (tableOf bs) (h .at) ≡ If) ⊎ (kindAt (tableOf bs) (h .at) ≡ Loop) → VariablesIn (operandsAt (tableOf bs) (h .at))
+      by (inl k) = test-fields _ (fits k) (word-bound bs b (h .at) in-table)
+      by (inr k) = test-fields _ (fits k) (word-bound bs b (h .at) in-table)
 
 -- ---- a do
-pub do-is : (bs vs tr : List ℕ) (h : Registers) {o : Operands} {i : ℕ} {x : Done} → i ≡ h .at → o ≡ operandsAt (tableOf bs) i → x ≡ didOf o (h .at) h vs tr → x ≡ afterDo (tableOf bs) h vs tr
+-- its fields, with the op that is known
+pub fields-are : (bs : List ℕ) (j : ℕ) {o : Operands} {i op : ℕ} → i ≡ j → o ≡ operandsAt (tableOf bs) i → operandsAt (tableOf bs) j .op ≡ op
+    → _≡_ {A = Operands} (record { op = op; p = o .p; q = o .q; n = o .n }) (operandsAt (tableOf bs) j)
+fields-are bs j {o} e q c = ap (λ y. record { op = y; p = o .p; q = o .q; n = o .n }) (sym (ap (λ y. y .op) (q ∙ ap (operandsAt (tableOf bs)) e) ∙ c)) ∙ q ∙ ap (operandsAt (tableOf bs)) e
+
+pub do-is : (bs vs tr : List ℕ) (h : Registers) {o : Operands} {x : Done} → o ≡ operandsAt (tableOf bs) (h .at) → x ≡ didOf o (h .at) h vs tr → x ≡ afterDo (tableOf bs) h vs tr
 unfolding afterDo
-do-is bs vs tr h e q d = d ∙ ap (λ y. didOf y (h .at) h vs tr) (q ∙ ap (operandsAt (tableOf bs)) e)
+do-is bs vs tr h q d = d ∙ ap (λ y. didOf y (h .at) h vs tr) q
 
 -- ---- a test
-module _ (bs vs : List ℕ) (h : Registers) {o : Operands} {i : ℕ} {b : Bool} (e : i ≡ h .at) (q : o ≡ operandsAt (tableOf bs) i) (w : b ≡ holdsOn o vs) where
+module _ (bs vs : List ℕ) (h : Registers) {o : Operands} {b : Bool} (q : o ≡ operandsAt (tableOf bs) (h .at)) (w : b ≡ holdsOn o vs) where
   tested : holdsOn (operandsAt (tableOf bs) (h .at)) vs ≡ b
-  tested = ap (λ y. holdsOn y vs) (sym (q ∙ ap (operandsAt (tableOf bs)) e)) ∙ sym w
+  tested = ap (λ y. holdsOn y vs) (sym q) ∙ sym w
 
   pub test-true : {r : Moved} → b ≡ true → r ≡ goesTo h (suc (h .at)) → r ≡ afterTest (tableOf bs) h vs
   unfolding afterTest

@@ -1,6 +1,7 @@
+pub mod Rows
+pub mod Codes
 pub mod Targets
 pub mod Answers
 pub mod Arms
-pub mod Rows
 pub mod Steps
 pub mod Runs

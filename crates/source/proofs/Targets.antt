@@ -3,7 +3,7 @@ use mathlib.Core.Logic.{_⊎_, inl, inr}
 use mathlib.Core.Path.{_≡_, refl, sym, ap, _∙_, subst}
 use mathlib.Core.Bool.{Bool, true, false, cond}
 use mathlib.Core.List.{List}
-use Prim.Native.Nat.{ℕ, suc, _+_, _/_, _≤_, _<_}
+use Prim.Native.Nat.{ℕ, suc, _+_, _*_, _/_, _≤_, _<_}
 use native.Mathlib.Numerals.{add-one}
 use native.Mathlib.Nat.{eq-or-lt-of-le}
 use native.Mathlib.Omega.{arith}
@@ -11,6 +11,7 @@ use lib.ListN.{length, getD, set, length-set}
 use lib.Seq.{getD-set-same, getD-set-other}
 use borrow.Author.Tests.{ltb-true}
 use Rattle.rules.specs.declared.kind.Kind.{Kind}
+use Rattle.rules.specs.declared.operands.Operands.{Operands}
 use Rattle.rules.specs.declared.kind.Kind.the-variants.{Function, Do, If, Else, Loop, End, Break, Continue, Call, Unknown}
 use Rattle.rules.specs.declared.refusal.Verdict.the-variants.{Accepted}
 use Rattle.rules.specs.Row.{Table, tableOf, kindAt, operandsAt}
@@ -28,7 +29,8 @@ use Rattle.layout.specs.Spot.{Inside, Opens, inBody, isLoop, OpenerIs, LoopIs, 
 use Rattle.layout.proofs.Scopes.{few-rows}
 use Rattle.rules.proofs.Scan.{opening-pushes}
 use Rattle.layout.proofs.Parts.{no-else, an-else, body-part, not-body, part-not-body, part-loop}
-use Rattle.source.specs.Goes.{endGoes, goesBy, goOf, Known}
+use Rattle.source.specs.Goes.{endGoes, goesBy, goOf, codeBy, codeOf, Known}
+use Rattle.source.proofs.Codes.{code-low, go-low}
 
 -- ---- past the end of what row o opens
 module _ {bs ends : List ℕ} {o : ℕ} (a : verdictOf bs ≡ Accepted) (e : Ends bs ends) (p : Opens bs o) where
@@ -145,24 +147,50 @@ module _ (bs : List ℕ) (i : ℕ) {k : Kind} (q : k ≡ kindAt (tableOf bs) i) 
   pub call-goes : {o : ℕ} → k ≡ Call → CalleeIs bs (operandsAt (tableOf bs) i .n) o → o + 1 ≡ goOf (tableOf bs) i
   call-goes {o} c p = add-one o ∙ ap suc (p .is) ∙ by-kind Call c
 
+-- ---- what a row does, by its kind
+module _ (bs : List ℕ) (i : ℕ) {k : Kind} {o : Operands} {op : ℕ} (w : o ≡ operandsAt (tableOf bs) i) (v : op ≡ o .op) (q : k ≡ kindAt (tableOf bs) i) where
+  pub codes : (K : Kind) → k ≡ K → codeBy K op ≡ codeOf (tableOf bs) i
+  unfolding codeOf
+  codes K c = ap (codeBy K) (v ∙ ap (λ y. y .op) w) ∙ ap (λ y. codeBy y (operandsAt (tableOf bs) i .op)) (sym c ∙ q)
+
 -- ---- all rows
 -- the words of the first i rows are filled
 pub record Filling (bs goes : List ℕ) (i : ℕ) : Type 0 where
   pub le : i ≤ length bs / 6
   pub long : length goes ≡ 1024
-  pub below : (j : ℕ) → j < i → getD goes j 0 ≡ goOf (tableOf bs) j
+  pub below : (j : ℕ) → j < i → getD goes j 0 ≡ 4096 * codeOf (tableOf bs) j + goOf (tableOf bs) j
 
 pub fill-starts : {bs goes : List ℕ} → length goes ≡ 1024 → Filling bs goes 0
 fill-starts h = record { le = omega arith; long = h; below = λ j h. absurd (let z : ⊥ = omega arith in z) }
 
-pub fill-on : {bs goes : List ℕ} {i r : ℕ} → verdictOf bs ≡ Accepted → Filling bs goes i → i < length bs / 6 → r ≡ goOf (tableOf bs) i → Filling bs (set goes i r) (i + 1)
-fill-on {bs} {goes} {i} {r} a f l q = record { le = omega arith; long = length-set goes i r ∙ f .long; below = λ j b. by j (eq-or-lt-of-le (subst (λ x. j < x) (add-one i) b)) }
+-- a row's two numbers are small
+module _ {bs map goes : List ℕ} {i : ℕ} (s : Surveyed bs map) (f : Filling bs goes i) (l : i < length bs / 6) where
+  pub small-code : {k : ℕ} → k ≡ codeOf (tableOf bs) i → k < 16
+  small-code q = omega (arith, q, code-low bs i (s .accepted) l)
+
+  pub small-go : {g : ℕ} → g ≡ goOf (tableOf bs) i → g < 4096
+  small-go q = omega (arith, q, go-low s l)
+
+pub fill-on : {bs goes : List ℕ} {i r k g : ℕ} → verdictOf bs ≡ Accepted → Filling bs goes i → i < length bs / 6
+    → k ≡ codeOf (tableOf bs) i → g ≡ goOf (tableOf bs) i → r ≡ 4096 * k + g → Filling bs (set goes i r) (i + 1)
+fill-on {bs} {goes} {i} {r} {k} {g} a f l x y q = record { le = omega arith; long = length-set goes i r ∙ f .long; below = λ j b. by j (eq-or-lt-of-le (subst (λ x. j < x) (add-one i) b)) }
   where
-    by : (j : ℕ) → (suc j ≡ suc i) ⊎ (suc j < suc i) → getD (set goes i r) j 0 ≡ goOf (tableOf bs) j
+    word : ℕ → ℕ
+    word j = 4096 * codeOf (tableOf bs) j + goOf (tableOf bs) j
+
+    is : r ≡ word i
+    is = q ∙ ap (λ z. 4096 * z + g) x ∙ ap (λ z. 4096 * codeOf (tableOf bs) i + z) y
+
+    by : (j : ℕ) → (suc j ≡ suc i) ⊎ (suc j < suc i) → getD (set goes i r) j 0 ≡ word j
     by j (inl x) =
         let e : j ≡ i = omega arith in
-        ap (λ y. getD (set goes i r) y 0) e ∙ getD-set-same goes i r 0 (omega (arith, f .long, few-rows bs a)) ∙ q ∙ ap (goOf (tableOf bs)) (sym e)
+        ap (λ y. getD (set goes i r) y 0) e ∙ getD-set-same goes i r 0 (omega (arith, f .long, few-rows bs a)) ∙ is ∙ ap word (sym e)
     by j (inr x) = getD-set-other goes i j r 0 (λ y. omega arith) ∙ f .below j (omega arith)
 
-pub filled : {bs goes : List ℕ} {i : ℕ} → verdictOf bs ≡ Accepted → Filling bs goes i → length bs / 6 ≤ i → Known bs goes
-filled {bs} a f h = record { accepted = a; each = λ j l. f .below j (omega (arith, table-length bs)) }
+pub filled : {bs map goes : List ℕ} {i : ℕ} → Surveyed bs map → Filling bs goes i → length bs / 6 ≤ i → Known bs goes
+filled {bs} s f h =
+    record {
+      accepted = s .accepted;
+      each = λ j l. f .below j (omega (arith, table-length bs));
+      low = λ j l. go-low s (omega (arith, table-length bs));
+    }

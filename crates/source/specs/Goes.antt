@@ -1,5 +1,5 @@
--- Where a row goes that does not go on at the next row.
-use Prim.Native.Nat.{ℕ, suc, _<_}
+-- Where a row goes that does not go on at the next row, and what it does, as a number.
+use Prim.Native.Nat.{ℕ, suc, _+_, _*_, _<_}
 use mathlib.Core.Path.{_≡_}
 use mathlib.Core.List.{List}
 use lib.ListN.{length, getD}
@@ -34,7 +34,24 @@ goesBy t i Unknown = 0
 unfoldable pub goOf : Table → (i : ℕ) → ℕ
 goOf t i = goesBy t i (kindAt t i)
 
--- the table is accepted, and word i of `goes` says where its row i goes
+-- 0 goes on at the next row, 1 to 4 are a do by its op, 5 to 7 a test by its op, 8 goes elsewhere, 9 ends something, 10 calls
+abbrev pub codeBy : Kind → (op : ℕ) → ℕ
+codeBy Function op = 0
+codeBy Do op = op + 1
+codeBy If op = op + 5
+codeBy Else op = 8
+codeBy Loop op = op + 5
+codeBy End op = 9
+codeBy Break op = 8
+codeBy Continue op = 8
+codeBy Call op = 10
+codeBy Unknown op = 0
+
+unfoldable pub codeOf : Table → (i : ℕ) → ℕ
+codeOf t i = codeBy (kindAt t i) (operandsAt t i .op)
+
+-- the table is accepted, and word i of `goes` says in its four high bits what row i does, in the others where it goes
 pub record Known (bs goes : List ℕ) : Type 0 where
   pub accepted : verdictOf bs ≡ Accepted
-  pub each : (i : ℕ) → i < length (tableOf bs) → getD goes i 0 ≡ goOf (tableOf bs) i
+  pub each : (i : ℕ) → i < length (tableOf bs) → getD goes i 0 ≡ 4096 * codeOf (tableOf bs) i + goOf (tableOf bs) i
+  pub low : (i : ℕ) → i < length (tableOf bs) → goOf (tableOf bs) i < 4096

@@ -1,6 +1,7 @@
-// Where each row goes that does not go on at the next row. It is looked up once, before a run, so that a step of it takes one load.
+// What each row does, and where it goes where that is not the next row. Both are looked up once, before a run, and kept in one word, so
+// that a step of it takes one load and one jump.
 ghost use mathlib.Core.Path.{_≡_};
-ghost use Prim.Native.Nat.{suc, _/_, _<_};
+ghost use Prim.Native.Nat.{suc, _+_, _*_, _/_, _<_};
 ghost use lib.ListN.{length};
 ghost use Rattle.rules.specs.declared.kind.Kind.{Kind};
 ghost use Rattle.rules.specs.declared.refusal.Verdict.the-variants.{Accepted};
@@ -12,7 +13,7 @@ ghost use Rattle.rules.specs.Links.{Links};
 ghost use Rattle.rules.specs.Source.{falseRow};
 ghost use Rattle.layout.specs.Scope.{Surveyed};
 ghost use Rattle.layout.specs.Spot.{Inside, Opens, Ends, Elses, Heads};
-ghost use Rattle.source.specs.Goes.{endGoes, goOf, Known};
+ghost use Rattle.source.specs.Goes.{endGoes, goOf, codeOf, Known};
 use layout::row;
 use layout::scope;
 use layout::scope::MAP;
@@ -77,7 +78,36 @@ fn row_go(rows: &[u8], map: &[u16], ends: &[u16], elses: &[u16], heads: &[u16], 
     }
 }
 
-// Where every row goes, from the scopes of the rows and the links.
+// What row i does.
+fn row_code(rows: &[u8], i: usize) -> u16
+    requires { ⌜ (verdictOf (now rows) ≡ Accepted) × (i < length (now rows) / 6) ⌝ }
+    ensures { λ r. ⌜ r ≡ codeOf (tableOf (now (rows .entry))) i ⌝ }
+{
+    let o = row::operands_of(rows, i);
+    let op = o.op as u16;
+    match row::kind(rows, i) {
+        Kind::Function => 0,
+        Kind::Do => op + 1,
+        Kind::If => op + 5,
+        Kind::Else => 8,
+        Kind::Loop => op + 5,
+        Kind::End => 9,
+        Kind::Break => 8,
+        Kind::Continue => 8,
+        Kind::Call => 10,
+        Kind::Unknown => 0,
+    }
+}
+
+// Both in one word.
+fn in_one(code: u16, go: u16) -> u16
+    requires { ⌜ (code < 16) × (go < 4096) ⌝ }
+    ensures { λ r. ⌜ r ≡ 4096 * code + go ⌝ }
+{
+    4096 * code + go
+}
+
+// What every row does and where it goes, from the scopes of the rows and the links.
 fn fill(
     rows: &[u8],
     map: &[u16],
@@ -93,12 +123,14 @@ fn fill(
     let n = rows.len() / row::WIDTH;
     let mut i = 0;
     while i < n {
-        goes[i] = row_go(rows, map, ends, elses, heads, i);
+        let code = row_code(rows, i);
+        let go = row_go(rows, map, ends, elses, heads, i);
+        goes[i] = in_one(code, go);
         i += 1;
     }
 }
 
-// Where every row of an accepted table goes.
+// The words of an accepted table.
 pub fn find(
     rows: &[u8],
     ends: &[u16; ROWS],

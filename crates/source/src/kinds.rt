@@ -1,19 +1,18 @@
 // What a row of each kind does.
 ghost use mathlib.Core.Path.{_≡_};
-ghost use Prim.Native.Nat.{suc, _/_, _<_};
+ghost use Prim.Native.Nat.{suc, _+_, _/_, _<_};
 ghost use Rattle.rules.specs.Limits.{maxRows, maxOpen};
-ghost use Rattle.rules.specs.declared.kind.Kind.{Kind};
-ghost use Rattle.rules.specs.Row.{tableOf, kindAt, operandsAt};
-ghost use Rattle.rules.specs.Bounds.{VariablesIn};
+ghost use Rattle.rules.specs.Row.{tableOf, operandsAt};
 ghost use Rattle.state.specs.Machine.{HasSlot, done};
 ghost use Rattle.state.specs.Open.{opened};
-ghost use Rattle.source.specs.Goes.{goOf, Known};
+ghost use Rattle.source.specs.Goes.{goOf, codeOf, Known};
 ghost use Rattle.source.specs.Step.{goesTo, Standing, afterDo, afterTest, afterJump, afterReturn, afterEnd, afterCall};
 use layout::row;
 use rules::limits::DEEPEST;
 use rules::limits::OPEN;
 use rules::limits::ROWS;
 use rules::limits::VARIABLES;
+use rules::operands::Operands;
 use rules::step::Step;
 use state::machine::Moved;
 use state::machine::Registers;
@@ -44,34 +43,57 @@ fn go_of(rows: &[u8], goes: &[u16; ROWS], h: Registers) -> u16
     requires { ⌜ (Standing (now rows) h) × (Known (now rows) (now goes)) ⌝ }
     ensures { λ r. ⌜ r ≡ goOf (tableOf (now (rows .entry))) (h .at) ⌝ }
 {
-    goes[row::index(h.at)]
+    goes[row::index(h.at)] % 4096
+}
+
+// What it does.
+pub fn code_of(rows: &[u8], goes: &[u16; ROWS], h: Registers) -> u16
+    requires { ⌜ (Standing (now rows) h) × (Known (now rows) (now goes)) ⌝ }
+    ensures { λ r. ⌜ r ≡ codeOf (tableOf (now (rows .entry))) (h .at) ⌝ }
+{
+    goes[row::index(h.at)] / 4096
+}
+
+// Its fields. The caller knows its op and hands it on as a number that the compiler sees, so that nothing is left of the tests of it.
+fn fields(rows: &[u8], h: Registers, op: u8) -> Operands
+    requires { ⌜ (Standing (now rows) h) × (operandsAt (tableOf (now rows)) (h .at) .op ≡ op) ⌝ }
+    ensures { λ r. ⌜ r ≡ operandsAt (tableOf (now (rows .entry))) (h .at) ⌝ }
+{
+    let o = row::operands_of(rows, row::index(h.at));
+    Operands {
+        op,
+        p: o.p,
+        q: o.q,
+        n: o.n,
+    }
 }
 
 // The row is done, and goes into the trace; one that overflows ends the run.
 pub fn do_row(
+    op: u8,
     rows: &[u8],
     h: Registers,
     variables: &mut [u16; VARIABLES],
     trace: &mut [u16],
 ) -> Moved
-    requires { ⌜ (Standing (now rows) h) × (kindAt (tableOf (now rows)) (h .at) ≡ Kind.Do) × (HasSlot h (now trace)) ⌝ }
+    requires { ⌜ (Standing (now rows) h) × (codeOf (tableOf (now rows)) (h .at) ≡ op + 1) × (op < 4) × (HasSlot h (now trace)) ⌝ }
     ensures { λ r. ⌜ done r (now (variables .exit)) (now (trace .exit)) ≡ afterDo (tableOf (now (rows .entry))) h (now (variables .entry)) (now (trace .entry)) ⌝ }
 {
-    let o = row::operands_of(rows, row::index(h.at));
-    trace::act(o, h.at, h, variables, trace)
+    trace::act(fields(rows, h, op), h.at, h, variables, trace)
 }
 
 // An if or a loop: into its part where the test holds.
 pub fn test_row(
+    op: u8,
     rows: &[u8],
     goes: &[u16; ROWS],
     h: Registers,
     variables: &[u16; VARIABLES],
 ) -> Moved
-    requires { ⌜ (Standing (now rows) h) × (Known (now rows) (now goes)) × (VariablesIn (operandsAt (tableOf (now rows)) (h .at))) ⌝ }
+    requires { ⌜ (Standing (now rows) h) × (Known (now rows) (now goes)) × (codeOf (tableOf (now rows)) (h .at) ≡ op + 5) × (op < 3) ⌝ }
     ensures { λ r. ⌜ r ≡ afterTest (tableOf (now (rows .entry))) h (now (variables .entry)) ⌝ }
 {
-    if variables::holds(row::operands_of(rows, row::index(h.at)), variables) {
+    if variables::holds(fields(rows, h, op), variables) {
         return next_row(h);
     }
     to_row(go_of(rows, goes, h), h)
@@ -123,7 +145,7 @@ pub fn call_row(
     functions: &mut [u8; OPEN],
 ) -> Moved
     requires { ⌜ (Standing (now rows) h) × (Known (now rows) (now goes)) ⌝ }
-    requires { ⌜ (kindAt (tableOf (now rows)) (h .at) ≡ Kind.Call) × (h .depth < maxOpen) ⌝ }
+    requires { ⌜ (codeOf (tableOf (now rows)) (h .at) ≡ 10) × (h .depth < maxOpen) ⌝ }
     ensures { λ r. ⌜ opened r (now (resumes .exit)) (now (functions .exit)) ≡ afterCall (tableOf (now (rows .entry))) h (now (resumes .entry)) (now (functions .entry)) ⌝ }
 {
     if DEEPEST <= h.depth + 1 {

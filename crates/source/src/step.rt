@@ -4,14 +4,13 @@ ghost use Rattle.rules.specs.Row.{tableOf};
 ghost use Rattle.source.specs.Goes.{Known};
 ghost use Rattle.source.specs.Step.{CanStep, partsOf, after, stepOf};
 use crate::kinds;
-use rules::kind::Kind;
 use rules::limits::OPEN;
 use rules::limits::ROWS;
 use rules::limits::VARIABLES;
 use state::machine::Moved;
 use state::machine::Registers;
 
-// `goes` says where each row goes. The loop is the one caller, so that this is compiled into it.
+// `goes` says what each row does and where it goes. The loop is the one caller, so that this is compiled into it.
 pub fn row(
     rows: &[u8],
     goes: &[u16; ROWS],
@@ -24,16 +23,18 @@ pub fn row(
     requires { ⌜ (Known (now rows) (now goes)) × (CanStep (now rows) h (now trace)) ⌝ }
     ensures { λ r. ⌜ after r (now (resumes .exit)) (now (functions .exit)) (now (variables .exit)) (now (trace .exit)) ≡ stepOf (tableOf (now (rows .entry))) (partsOf h (now (resumes .entry)) (now (functions .entry)) (now (variables .entry)) (now (trace .entry))) ⌝ }
 {
-    match layout::row::kind(rows, layout::row::index(h.at)) {
-        Kind::Function => kinds::next_row(h),
-        Kind::Do => kinds::do_row(rows, h, variables, trace),
-        Kind::If => kinds::test_row(rows, goes, h, variables),
-        Kind::Else => kinds::jump_row(rows, goes, h),
-        Kind::Loop => kinds::test_row(rows, goes, h, variables),
-        Kind::End => kinds::end_row(rows, goes, h, resumes, functions),
-        Kind::Break => kinds::jump_row(rows, goes, h),
-        Kind::Continue => kinds::jump_row(rows, goes, h),
-        Kind::Call => kinds::call_row(rows, goes, h, resumes, functions),
-        Kind::Unknown => kinds::next_row(h),
+    match kinds::code_of(rows, goes, h) {
+        0 => kinds::next_row(h),
+        1 => kinds::do_row(0, rows, h, variables, trace),
+        2 => kinds::do_row(1, rows, h, variables, trace),
+        3 => kinds::do_row(2, rows, h, variables, trace),
+        4 => kinds::do_row(3, rows, h, variables, trace),
+        5 => kinds::test_row(0, rows, goes, h, variables),
+        6 => kinds::test_row(1, rows, goes, h, variables),
+        7 => kinds::test_row(2, rows, goes, h, variables),
+        8 => kinds::jump_row(rows, goes, h),
+        9 => kinds::end_row(rows, goes, h, resumes, functions),
+        10 => kinds::call_row(rows, goes, h, resumes, functions),
+        _ => kinds::next_row(h),
     }
 }

@@ -55,9 +55,13 @@ pub record Done : Type 0 where
 abbrev pub done : Moved → (vars slots : List ℕ) → Done
 done x vs tr = record { to = x; vars = vs; slots = tr }
 
--- variable p changes, and the row goes into the first slot past the trace; or nothing changes
+-- a variable gets x, and the row goes into the first slot past the trace
+abbrev pub putOf : (to x row : ℕ) → Registers → (vars slots : List ℕ) → Done
+putOf to x row h vs tr = done (moved (Went (h .at + 1)) (tracedOf h)) (set vs to x) (set tr (h .traced) row)
+
+-- variable p changes, or nothing does
 abbrev pub didBy : Computed → (p row : ℕ) → Registers → (vars slots : List ℕ) → Done
-didBy (Fits to x) p row h vs tr = done (moved (Went (h .at + 1)) (tracedOf h)) (set vs to x) (set tr (h .traced) row)
+didBy (Fits to x) p row h vs tr = putOf to x row h vs tr
 didBy Overflows p row h vs tr = done (moved (Overflow row (variable vs p)) h) vs tr
 
 unfoldable pub didOf : Operands → (row : ℕ) → Registers → (vars slots : List ℕ) → Done

@@ -2,7 +2,7 @@
 use mathlib.Core.Path.{ap, _∙_}
 use native.Mathlib.Omega.{arith}
 use Rattle.state.specs.Machine.{moved}
-use Rattle.source.proofs.Answers.{low, callee-low, call-deep, call-opens}
+use Rattle.source.proofs.Answers.{low, call-kind, callee-low, call-deep, call-opens}
 use borrow.Author.Needs.{needs}
 use Rattle.source.proofs.kinds.call_row.Statement.{statement}
 use Rattle.source.proofs.kinds.call_row.Tie as tie
@@ -41,7 +41,7 @@ operands-of-requires c κs = search needs
 
 -- src/kinds.rt:136:16
 cast-opening : tie.Need-cast-opening
-cast-opening c = omega (arith, callee-low _ _ (c .before .before .index .ensures) (c .before .operands-of .ensures) (c .before .before .before .before .before .before .pre .0 .0) (c .before .before .before .before .before .before .pre .1 .0))
+cast-opening c = omega (arith, callee-low _ _ (c .before .before .index .ensures) (c .before .operands-of .ensures) (c .before .before .before .before .before .before .pre .0 .0) (call-kind (c .before .before .before .before .before .before .pre .0 .0) (c .before .before .before .before .before .before .pre .1 .0)))
 
 -- src/kinds.rt:136:27
 go-of-requires : tie.Need-go-of-requires

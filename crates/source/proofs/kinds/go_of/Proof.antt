@@ -1,5 +1,5 @@
+-- `source::kinds::go_of` meets its contract. Assumes nothing.
 use native.Mathlib.Omega.{arith}
-use mathlib.Core.Path.{refl}
 use Rattle.source.proofs.Answers.{low, goes-to}
 use borrow.Author.Needs.{needs}
 use Rattle.source.proofs.kinds.go_of.Statement.{statement}
@@ -18,7 +18,7 @@ element-copy-out-result : tie.Need-element-copy-out-result
 element-copy-out-result c = omega (arith, low (c .before .before .pre .0), c .index .ensures)
 
 returns : tie.Need-returns
-returns c = goes-to (c .before .before .before .pre .0) (c .before .before .before .pre .1) (c .before .index .ensures) refl
+returns c = goes-to (c .before .before .before .pre .0) (c .before .before .before .pre .1) (c .before .index .ensures)
 
 pub go-of-spec : {M : Type 1} → statement M
 go-of-spec = tie.close (tie.spec index-requires mul-result element-copy-out-result returns)
