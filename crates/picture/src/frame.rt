@@ -25,7 +25,7 @@ fn open(m: u16, at: usize, text: &mut [u8; 65536]) -> usize
 // Each class differs in shape as well as in colour.
 fn looks(at: usize, text: &mut [u8; 65536]) -> usize {
     let styled = print::word(
-        b"<style>text{font:.9px sans-serif;fill:#222}.l{text-anchor:end}.t{text-anchor:middle}.h{font-size:1.1px}.n{fill:url(#n)}.a{fill:#bfe3c6}.g{fill:url(#g)}.s{fill:url(#s)}.o{fill:url(#o)}.u{fill:url(#u)}.x{fill:url(#x)}.mo{font-weight:bold;fill:#a00}.ms{fill:#777}.mu{fill:#853}</style>
+        b"<style>svg{background:#fff}text{font:.9px sans-serif;fill:#222}.l{text-anchor:end}.t{text-anchor:middle}.h{font-size:1.1px}.n{fill:url(#n)}.a{fill:#bfe3c6}.g{fill:url(#g)}.s{fill:url(#s)}.o{fill:url(#o)}.u{fill:url(#u)}.x{fill:url(#x)}.mo{font-weight:bold;fill:#a00}.ms{fill:#777}.mu{fill:#853}</style>
 ",
         at,
         text,
