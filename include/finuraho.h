@@ -31,8 +31,8 @@ extern "C" {
 #endif
 
 /* The version of this header and of the library that it came with: 10,000 x major + 100 x minor + patch. */
-#define FINURAHO_VERSION 10500
-#define FINURAHO_VERSION_STRING "1.5.0"
+#define FINURAHO_VERSION 10600
+#define FINURAHO_VERSION_STRING "1.6.0"
 
 /* The number of a call: 0, or why it was turned away. After any number but 0 every lent buffer is as it was. */
 #define FINURAHO_ACCEPTED 0
