@@ -11,7 +11,6 @@ use lib.ListN.{length, getD, set, length-set}
 use lib.Seq.{getD-set-same, getD-set-other}
 use borrow.Author.Tests.{ltb-true}
 use Rattle.rules.specs.declared.kind.Kind.{Kind}
-use Rattle.rules.specs.declared.operands.Operands.{Operands}
 use Rattle.rules.specs.declared.kind.Kind.the-variants.{Function, Do, If, Else, Loop, End, Break, Continue, Call, Unknown}
 use Rattle.rules.specs.declared.refusal.Verdict.the-variants.{Accepted}
 use Rattle.rules.specs.Row.{Table, tableOf, kindAt, operandsAt}
@@ -147,11 +146,23 @@ module _ (bs : List ℕ) (i : ℕ) {k : Kind} (q : k ≡ kindAt (tableOf bs) i) 
   pub call-goes : {o : ℕ} → k ≡ Call → CalleeIs bs (operandsAt (tableOf bs) i .n) o → o + 1 ≡ goOf (tableOf bs) i
   call-goes {o} c p = add-one o ∙ ap suc (p .is) ∙ by-kind Call c
 
--- ---- what a row does, by its kind
-module _ (bs : List ℕ) (i : ℕ) {k : Kind} {o : Operands} {op : ℕ} (w : o ≡ operandsAt (tableOf bs) i) (v : op ≡ o .op) (q : k ≡ kindAt (tableOf bs) i) where
-  pub codes : (K : Kind) → k ≡ K → codeBy K op ≡ codeOf (tableOf bs) i
+-- ---- what a row does, by its kind, with where it goes in one word
+module _ (bs : List ℕ) (i : ℕ) {k : Kind} (q : k ≡ kindAt (tableOf bs) i) where
+  codes : (K : Kind) → k ≡ K → {op : ℕ} → op ≡ operandsAt (tableOf bs) i .op → codeBy K op ≡ codeOf (tableOf bs) i
   unfolding codeOf
-  codes K c = ap (codeBy K) (v ∙ ap (λ y. y .op) w) ∙ ap (λ y. codeBy y (operandsAt (tableOf bs) i .op)) (sym c ∙ q)
+  codes K c v = ap (codeBy K) v ∙ ap (λ y. codeBy y (operandsAt (tableOf bs) i .op)) (sym c ∙ q)
+
+  pub word-is : (K : Kind) → k ≡ K → {op g r : ℕ} → op ≡ operandsAt (tableOf bs) i .op → g ≡ goOf (tableOf bs) i → r ≡ 4096 * codeBy K op + g
+      → r ≡ 4096 * codeOf (tableOf bs) i + goOf (tableOf bs) i
+  word-is K c {op} {g} v y e = e ∙ ap (λ z. 4096 * z + g) (codes K c v) ∙ ap (λ z. 4096 * codeOf (tableOf bs) i + z) y
+
+-- both are small
+module _ {bs map : List ℕ} {i : ℕ} (s : Surveyed bs map) (l : i < length bs / 6) where
+  pub small-code : {k : Kind} {op : ℕ} → k ≡ kindAt (tableOf bs) i → op ≡ operandsAt (tableOf bs) i .op → (K : Kind) → k ≡ K → codeBy K op < 16
+  small-code q v K c = subst (λ z. z < 16) (sym (codes bs i q K c v)) (code-low bs i (s .accepted) l)
+
+  pub small-go : {g : ℕ} → g ≡ goOf (tableOf bs) i → g < 4096
+  small-go q = omega (arith, q, go-low s l)
 
 -- ---- all rows
 -- the words of the first i rows are filled
@@ -163,23 +174,12 @@ pub record Filling (bs goes : List ℕ) (i : ℕ) : Type 0 where
 pub fill-starts : {bs goes : List ℕ} → length goes ≡ 1024 → Filling bs goes 0
 fill-starts h = record { le = omega arith; long = h; below = λ j h. absurd (let z : ⊥ = omega arith in z) }
 
--- a row's two numbers are small
-module _ {bs map goes : List ℕ} {i : ℕ} (s : Surveyed bs map) (f : Filling bs goes i) (l : i < length bs / 6) where
-  pub small-code : {k : ℕ} → k ≡ codeOf (tableOf bs) i → k < 16
-  small-code q = omega (arith, q, code-low bs i (s .accepted) l)
-
-  pub small-go : {g : ℕ} → g ≡ goOf (tableOf bs) i → g < 4096
-  small-go q = omega (arith, q, go-low s l)
-
-pub fill-on : {bs goes : List ℕ} {i r k g : ℕ} → verdictOf bs ≡ Accepted → Filling bs goes i → i < length bs / 6
-    → k ≡ codeOf (tableOf bs) i → g ≡ goOf (tableOf bs) i → r ≡ 4096 * k + g → Filling bs (set goes i r) (i + 1)
-fill-on {bs} {goes} {i} {r} {k} {g} a f l x y q = record { le = omega arith; long = length-set goes i r ∙ f .long; below = λ j b. by j (eq-or-lt-of-le (subst (λ x. j < x) (add-one i) b)) }
+pub fill-on : {bs goes : List ℕ} {i r : ℕ} → verdictOf bs ≡ Accepted → Filling bs goes i → i < length bs / 6
+    → r ≡ 4096 * codeOf (tableOf bs) i + goOf (tableOf bs) i → Filling bs (set goes i r) (i + 1)
+fill-on {bs} {goes} {i} {r} a f l is = record { le = omega arith; long = length-set goes i r ∙ f .long; below = λ j b. by j (eq-or-lt-of-le (subst (λ x. j < x) (add-one i) b)) }
   where
     word : ℕ → ℕ
     word j = 4096 * codeOf (tableOf bs) j + goOf (tableOf bs) j
-
-    is : r ≡ word i
-    is = q ∙ ap (λ z. 4096 * z + g) x ∙ ap (λ z. 4096 * codeOf (tableOf bs) i + z) y
 
     by : (j : ℕ) → (suc j ≡ suc i) ⊎ (suc j < suc i) → getD (set goes i r) j 0 ≡ word j
     by j (inl x) =

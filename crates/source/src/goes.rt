@@ -6,7 +6,7 @@ ghost use lib.ListN.{length};
 ghost use Rattle.rules.specs.declared.kind.Kind.{Kind};
 ghost use Rattle.rules.specs.declared.refusal.Verdict.the-variants.{Accepted};
 ghost use Rattle.rules.specs.Limits.{maxRows};
-ghost use Rattle.rules.specs.Row.{tableOf, kindAt};
+ghost use Rattle.rules.specs.Row.{tableOf, kindAt, operandsAt};
 ghost use Rattle.rules.specs.Scan.{openAt, partOf, endOf};
 ghost use Rattle.rules.specs.Check.{verdictOf};
 ghost use Rattle.rules.specs.Links.{Links};
@@ -21,6 +21,32 @@ use layout::spot;
 use rules::kind::Kind;
 use rules::limits::FUNCTIONS;
 use rules::limits::ROWS;
+
+// What a row does: it goes on at the next row.
+pub const NEXT: u16 = 0;
+
+// A do, by its op.
+pub const SET: u16 = 1;
+
+pub const COPY: u16 = 2;
+
+pub const ADD: u16 = 3;
+
+pub const SUBTRACT: u16 = 4;
+
+// The test of an if or a loop, by its op.
+pub const EQUAL: u16 = 5;
+
+pub const DIFFERS: u16 = 6;
+
+pub const LESS: u16 = 7;
+
+// An else, a break or a continue.
+pub const GO: u16 = 8;
+
+pub const END: u16 = 9;
+
+pub const CALL: u16 = 10;
 
 // Past the end of what row o opens.
 fn past(rows: &[u8], ends: &[u16], o: usize) -> u16
@@ -58,53 +84,41 @@ fn end_go(rows: &[u8], map: &[u16], i: usize) -> u16
     (i + 1) as u16
 }
 
-// Where row i goes.
-fn row_go(rows: &[u8], map: &[u16], ends: &[u16], elses: &[u16], heads: &[u16], i: usize) -> u16
-    requires { ⌜ (Surveyed (now rows) (now map)) × (i < length (now rows) / 6) ⌝ }
-    requires { ⌜ (Ends (now rows) (now ends)) × (Elses (now rows) (now elses)) × (Heads (now rows) (now heads)) ⌝ }
-    ensures { λ r. ⌜ r ≡ goOf (tableOf (now (rows .entry))) i ⌝ }
-{
-    match row::kind(rows, i) {
-        Kind::Function => 0,
-        Kind::Do => 0,
-        Kind::If => if_go(rows, ends, elses, i),
-        Kind::Else => past(rows, ends, spot::opener_of(rows, map, i)),
-        Kind::Loop => past(rows, ends, i),
-        Kind::End => end_go(rows, map, i),
-        Kind::Break => past(rows, ends, spot::loop_of(rows, map, i)),
-        Kind::Continue => spot::loop_of(rows, map, i) as u16,
-        Kind::Call => (spot::callee_of(rows, map, heads, i) + 1) as u16,
-        Kind::Unknown => 0,
-    }
-}
-
-// What row i does.
-fn row_code(rows: &[u8], i: usize) -> u16
-    requires { ⌜ (verdictOf (now rows) ≡ Accepted) × (i < length (now rows) / 6) ⌝ }
-    ensures { λ r. ⌜ r ≡ codeOf (tableOf (now (rows .entry))) i ⌝ }
+// The op of row i.
+fn op_of(rows: &[u8], i: usize) -> u16
+    requires { ⌜ i < length (now rows) / 6 ⌝ }
+    ensures { λ r. ⌜ r ≡ operandsAt (tableOf (now (rows .entry))) i .op ⌝ }
 {
     let o = row::operands_of(rows, i);
-    let op = o.op as u16;
-    match row::kind(rows, i) {
-        Kind::Function => 0,
-        Kind::Do => op + 1,
-        Kind::If => op + 5,
-        Kind::Else => 8,
-        Kind::Loop => op + 5,
-        Kind::End => 9,
-        Kind::Break => 8,
-        Kind::Continue => 8,
-        Kind::Call => 10,
-        Kind::Unknown => 0,
-    }
+    o.op as u16
 }
 
-// Both in one word.
+// What a row does and where it goes, in one word.
 fn in_one(code: u16, go: u16) -> u16
     requires { ⌜ (code < 16) × (go < 4096) ⌝ }
     ensures { λ r. ⌜ r ≡ 4096 * code + go ⌝ }
 {
     4096 * code + go
+}
+
+// The word of row i.
+fn row_word(rows: &[u8], map: &[u16], ends: &[u16], elses: &[u16], heads: &[u16], i: usize) -> u16
+    requires { ⌜ (Surveyed (now rows) (now map)) × (i < length (now rows) / 6) ⌝ }
+    requires { ⌜ (Ends (now rows) (now ends)) × (Elses (now rows) (now elses)) × (Heads (now rows) (now heads)) ⌝ }
+    ensures { λ r. ⌜ r ≡ 4096 * codeOf (tableOf (now (rows .entry))) i + goOf (tableOf (now (rows .entry))) i ⌝ }
+{
+    match row::kind(rows, i) {
+        Kind::Function => in_one(NEXT, 0),
+        Kind::Do => in_one(op_of(rows, i) + SET, 0),
+        Kind::If => in_one(op_of(rows, i) + EQUAL, if_go(rows, ends, elses, i)),
+        Kind::Else => in_one(GO, past(rows, ends, spot::opener_of(rows, map, i))),
+        Kind::Loop => in_one(op_of(rows, i) + EQUAL, past(rows, ends, i)),
+        Kind::End => in_one(END, end_go(rows, map, i)),
+        Kind::Break => in_one(GO, past(rows, ends, spot::loop_of(rows, map, i))),
+        Kind::Continue => in_one(GO, spot::loop_of(rows, map, i) as u16),
+        Kind::Call => in_one(CALL, (spot::callee_of(rows, map, heads, i) + 1) as u16),
+        Kind::Unknown => in_one(NEXT, 0),
+    }
 }
 
 // What every row does and where it goes, from the scopes of the rows and the links.
@@ -123,9 +137,7 @@ fn fill(
     let n = rows.len() / row::WIDTH;
     let mut i = 0;
     while i < n {
-        let code = row_code(rows, i);
-        let go = row_go(rows, map, ends, elses, heads, i);
-        goes[i] = in_one(code, go);
+        goes[i] = row_word(rows, map, ends, elses, heads, i);
         i += 1;
     }
 }

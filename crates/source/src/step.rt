@@ -3,6 +3,7 @@ ghost use mathlib.Core.Path.{_≡_};
 ghost use Rattle.rules.specs.Row.{tableOf};
 ghost use Rattle.source.specs.Goes.{Known};
 ghost use Rattle.source.specs.Step.{CanStep, partsOf, after, stepOf};
+use crate::goes;
 use crate::kinds;
 use rules::limits::OPEN;
 use rules::limits::ROWS;
@@ -24,17 +25,17 @@ pub fn row(
     ensures { λ r. ⌜ after r (now (resumes .exit)) (now (functions .exit)) (now (variables .exit)) (now (trace .exit)) ≡ stepOf (tableOf (now (rows .entry))) (partsOf h (now (resumes .entry)) (now (functions .entry)) (now (variables .entry)) (now (trace .entry))) ⌝ }
 {
     match kinds::code_of(rows, goes, h) {
-        0 => kinds::next_row(h),
-        1 => kinds::do_row(0, rows, h, variables, trace),
-        2 => kinds::do_row(1, rows, h, variables, trace),
-        3 => kinds::do_row(2, rows, h, variables, trace),
-        4 => kinds::do_row(3, rows, h, variables, trace),
-        5 => kinds::test_row(0, rows, goes, h, variables),
-        6 => kinds::test_row(1, rows, goes, h, variables),
-        7 => kinds::test_row(2, rows, goes, h, variables),
-        8 => kinds::jump_row(rows, goes, h),
-        9 => kinds::end_row(rows, goes, h, resumes, functions),
-        10 => kinds::call_row(rows, goes, h, resumes, functions),
+        goes::NEXT => kinds::next_row(h),
+        goes::SET => kinds::do_row(0, rows, h, variables, trace),
+        goes::COPY => kinds::do_row(1, rows, h, variables, trace),
+        goes::ADD => kinds::do_row(2, rows, h, variables, trace),
+        goes::SUBTRACT => kinds::do_row(3, rows, h, variables, trace),
+        goes::EQUAL => kinds::test_row(0, rows, goes, h, variables),
+        goes::DIFFERS => kinds::test_row(1, rows, goes, h, variables),
+        goes::LESS => kinds::test_row(2, rows, goes, h, variables),
+        goes::GO => kinds::jump_row(rows, goes, h),
+        goes::END => kinds::end_row(rows, goes, h, resumes, functions),
+        goes::CALL => kinds::call_row(rows, goes, h, resumes, functions),
         _ => kinds::next_row(h),
     }
 }
