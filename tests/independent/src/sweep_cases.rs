@@ -21,7 +21,7 @@ pub fn cases(seed: u64, count: usize) -> Vec<Case> {
     cases.extend(by_hand());
     cases.extend(overflows());
     cases.extend(turned_away());
-    cases.extend(unreadable());
+    cases.extend(unreadable(&["", "list", "budget=20 v1=1"], "list v1=1"));
     cases.extend(sweep_word_cases::all());
     cases.extend(sweep_map_cases::all());
     cases.extend((0..count).map(|_| random(&mut rng)));
@@ -101,30 +101,40 @@ fn turned_away() -> Vec<Case> {
             cases.push(of(&program, words));
         }
     }
+    cases.extend(no_hardening("list", 1, 60));
+    cases
+}
+
+/// Tables beyond the limits, and damaged ones: no source table hardens to most of them.
+pub fn no_hardening(word: &str, seed: u64, count: usize) -> Vec<Case> {
+    let lines = damage::hardened(&limits::worked_listing());
+    let mut cases = Vec::new();
     for lines in damage::beyond_limits() {
-        cases.push(sweep("list budget=9", &lines));
+        cases.push(sweep(&format!("{word} budget=9"), &lines));
     }
-    let mut rng = Random::new(1);
-    for _ in 0..60 {
-        cases.push(sweep("list budget=90 v1=1", &damage::any(&mut rng, &lines)));
+    let mut rng = Random::new(seed);
+    for _ in 0..count {
+        let words = format!("{word} budget=90 v1=1");
+        cases.push(sweep(&words, &damage::any(&mut rng, &lines)));
     }
     cases
 }
 
-/// Malformed lines, and rows where lines are wanted.
-fn unreadable() -> Vec<Case> {
+/// Malformed lines, and rows where lines are wanted; each line bad in every way with the
+/// words `each_way`.
+pub fn unreadable(all_words: &[&str], each_way: &str) -> Vec<Case> {
     let rows = text::lines(&limits::worked_listing(), ROW_BYTES).into_bytes();
     let lines = damage::hardened(&limits::worked_listing());
     let lines = text::lines(&lines, LINE_BYTES).into_bytes();
     let mut cases = Vec::new();
-    for words in ["", "list", "budget=20 v1=1"] {
+    for words in all_words {
         for input in [&rows[..], b"\n", b"x", b"0", b"list\n", &lines[..lines.len() - 2]] {
             cases.push(run_cases::case(words, input));
         }
         cases.push(run_cases::case(words, &[&lines[..], b"\n"].concat()));
         cases.push(run_cases::case(words, &[&lines[..40], b"\r", &lines[40..]].concat()));
     }
-    cases.extend(run_cases::bad_lines("list v1=1", &lines));
+    cases.extend(run_cases::bad_lines(each_way, &lines));
     cases
 }
 

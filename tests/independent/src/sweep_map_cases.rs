@@ -8,9 +8,8 @@ use crate::line::{self, LINE_BYTES};
 use crate::overflow_programs::{self, by_turns};
 use crate::program::Program;
 use crate::random::Random;
-use crate::row::ROW_BYTES;
 use crate::run_cases::{self, Case};
-use crate::sweep_cases::{of, sweep};
+use crate::sweep_cases::{no_hardening, of, sweep, unreadable};
 use crate::sweep_programs;
 use crate::text;
 
@@ -21,7 +20,7 @@ pub fn all() -> Vec<Case> {
     cases.extend(many_pieces());
     cases.extend(large());
     cases.extend(turned_away());
-    cases.extend(unreadable());
+    cases.extend(unreadable(&["map", "map function=9 v1=1"], "map v1=1"));
     cases
 }
 
@@ -138,27 +137,6 @@ fn turned_away() -> Vec<Case> {
         cases.push(of(&program, "map budget=500"));
         cases.push(of(&program, "function=31 map budget=64"));
     }
-    for lines in damage::beyond_limits() {
-        cases.push(sweep("map budget=9", &lines));
-    }
-    let mut rng = Random::new(2);
-    for _ in 0..20 {
-        cases.push(sweep("map budget=90 v1=1", &damage::any(&mut rng, &lines)));
-    }
-    cases
-}
-
-/// Malformed lines, and rows where lines are wanted.
-fn unreadable() -> Vec<Case> {
-    let rows = text::lines(&limits::worked_listing(), ROW_BYTES).into_bytes();
-    let lines = damage::hardened(&limits::worked_listing());
-    let lines = text::lines(&lines, LINE_BYTES).into_bytes();
-    let mut cases = Vec::new();
-    for words in ["map", "map function=9 v1=1"] {
-        for input in [&rows[..], b"\n", b"x", b"map\n", &lines[..lines.len() - 2]] {
-            cases.push(run_cases::case(words, input));
-        }
-    }
-    cases.extend(run_cases::bad_lines("map v1=1", &lines));
+    cases.extend(no_hardening("map", 2, 20));
     cases
 }
