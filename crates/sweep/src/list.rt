@@ -1,7 +1,6 @@
 // Each jump across one do that finished with another trace, in the order of the steps.
 ghost use mathlib.Core.Path.{_≡_};
 ghost use mathlib.Core.Bool.{true};
-ghost use Prim.Native.Nat.{_≤_};
 ghost use lib.ListN.{length};
 ghost use Rattle.rules.specs.Limits.{counterWords};
 ghost use Rattle.rules.specs.Line.{linesIn};
@@ -14,11 +13,8 @@ ghost use Rattle.sweep.specs.Lands.{Lands};
 use crate::jump;
 use compare::narrow;
 use compare::narrow::Narrow;
-use compare::pieces;
 use guard::counters::fresh;
-use machine::map;
 use machine::run;
-use rules::limits::COUNTERS;
 use rules::limits::FUNCTIONS;
 use rules::limits::LINES;
 use rules::limits::VARIABLES;
@@ -27,8 +23,6 @@ use state::machine::Registers;
 use state::machine::afresh;
 use state::machine::begun;
 use sweeper::steps::is_other;
-use sweeper::table;
-use sweeper::table::Prepared;
 
 // One step's jump, where it finished with another trace.
 fn tell(
@@ -49,7 +43,8 @@ fn tell(
     at
 }
 
-fn walk(
+// How many bytes the buffer then holds.
+pub fn walk(
     lines: &[u8],
     starts: &[u16; FUNCTIONS + 1],
     owners: &[u8; LINES + 1],
@@ -94,63 +89,4 @@ fn walk(
         left -= 1;
     }
     next
-}
-
-fn list_hardened(
-    lines: &[u8],
-    variables: [u16; VARIABLES],
-    budget: u16,
-    trace: &mut [u16],
-    words: &mut [u16],
-    text: &mut [u8; 65536],
-) -> usize
-    requires { ⌜ (isHardened (now lines) ≡ true) × (budget ≤ length (now trace)) × (length (now words) ≡ counterWords) ⌝ }
-{
-    let mut starts = map::no_starts();
-    let mut owners = map::no_owners();
-    let mut spare = table::no_words();
-    let mut rows = pieces::no_rows();
-    let p = table::prepare(
-        lines,
-        variables,
-        budget,
-        trace,
-        words,
-        &mut starts,
-        &mut owners,
-        &mut spare,
-        &mut rows,
-    );
-    let Prepared::Traced(home, n) = p else {
-        return 0;
-    };
-    let length = n as usize;
-    walk(
-        lines,
-        &starts,
-        &owners,
-        home,
-        variables,
-        budget,
-        &trace[..length],
-        words,
-        &mut spare,
-        &mut rows,
-        text,
-    )
-}
-
-// Nothing is listed where the lines are no hardened table.
-pub fn list(
-    lines: &[u8],
-    variables: [u16; VARIABLES],
-    budget: u16,
-    trace: &mut [u16; 65535],
-    counters: &mut [u16; COUNTERS],
-    text: &mut [u8; 65536],
-) -> usize {
-    if reader::is_hardened(lines) {
-        return list_hardened(lines, variables, budget, trace, counters, text);
-    }
-    0
 }

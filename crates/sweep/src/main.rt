@@ -10,6 +10,7 @@
 ghost use mathlib.Core.Path.{_≡_};
 ghost use lib.ListN.{length};
 
+mod answer;
 mod jump;
 mod list;
 mod map;
@@ -21,9 +22,7 @@ use command::wrong;
 use console::input;
 use console::input::Read;
 use console::output;
-use console::print;
 use console::start;
-use rules::answer::Swept;
 use rules::limits::COUNTERS;
 use rules::limits::VARIABLES;
 
@@ -87,60 +86,5 @@ fn sweep(a: SweepAsked, lines: &[u8], variables: [u16; VARIABLES]) {
         output::refused(r.number, &mut text);
         return;
     }
-    answer(a, r, lines, variables, &mut trace, &mut counters, &mut text);
-}
-
-fn answer(
-    a: SweepAsked,
-    r: Swept,
-    lines: &[u8],
-    variables: [u16; VARIABLES],
-    trace: &mut [u16; 65535],
-    counters: &mut [u16; COUNTERS],
-    text: &mut [u8; 65536],
-) {
-    if a.map {
-        map::print_map(
-            lines,
-            variables,
-            a.budget,
-            a.function,
-            r,
-            trace,
-            counters,
-            text,
-        );
-        return;
-    }
-    let at = listed(a, lines, variables, trace, counters, text);
-    tell(r, at, text);
-}
-
-// With the word `list`: how many bytes the buffer then holds.
-fn listed(
-    a: SweepAsked,
-    lines: &[u8],
-    variables: [u16; VARIABLES],
-    trace: &mut [u16; 65535],
-    counters: &mut [u16; COUNTERS],
-    text: &mut [u8; 65536],
-) -> usize {
-    if !a.list {
-        return 0;
-    }
-    list::list(lines, variables, a.budget, trace, counters, text)
-}
-
-fn count(name: &[u8], x: u32, at: usize, text: &mut [u8; 65536]) -> usize {
-    let named = print::word(name, at, text);
-    let number = print::number(x as u64, named, text);
-    print::put(b'\n', number, text)
-}
-
-fn tell(r: Swept, at: usize, text: &mut [u8; 65536]) {
-    let alarms = count(b"alarm ", r.alarms, at, text);
-    let same = count(b"same ", r.same, alarms, text);
-    let other = count(b"other ", r.other, same, text);
-    let all = count(b"unfinished ", r.unfinished, other, text);
-    print::flush(all, text);
+    answer::answer(a, r, lines, variables, &mut trace, &mut counters, &mut text);
 }
