@@ -49,6 +49,8 @@ has-next t i m turns (f ∷ fs) e q c (inr h) = inr h
 has-next t i m closes (f ∷ fs) e q c (inl o) = clash (ends-true t i m f fs (close-is-end (kind_at t m) e) q o) c
 has-next t i m closes (f ∷ fs) e q c (inr h) = h
 has-next t i m stays fs e q c h = h
+has-next t i m turns [] e q c h = elim h [ ]
+has-next t i m closes [] e q c h = elim h [ ]
 
 has_first : (t : Table) (i : ℕ) (p : Part) → shape_of (kind_at t i) ≡ pushes p → Has i (open_at t (suc i))
 unfolding open_at

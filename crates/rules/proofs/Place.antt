@@ -226,7 +226,7 @@ start_is t ok n k = let a = function-at t ok n k in first-line-is t ok n (functi
 pub finish-is : (t : Table) → Proper t → (n : ℕ) → n < function_count t → finish_of (harden t) n ≡ line_of t (suc (end_of t (function_row t n)))
 finish-is t ok n k =
     let e = function-end t ok n k in
-    first-line-is t ok (suc n) (suc (end_of t (function_row t n))) e.1.within e.1.Open-after
+    first-line-is t ok (suc n) (suc (end_of t (function_row t n))) e.1.within e.1.open_after
     (functions-next t (end_of t (function_row t n)) e.1.kind_is ∙ functions-home t ok n k (end_of t (function_row t n)) (after_it t ok n k) (le_refl _))
 
 pub ret-value : (t : Table) → Proper t → (n : ℕ) → n < function_count t → ret_value (harden t) n ≡ end_value t n
@@ -237,7 +237,7 @@ ret-value t ok n k =
     let q : finish_of (harden t) n - 1 ≡ line_of t o + 0 = omega (arith, finish-is t ok n k, line-suc t o e.1.kind_is) in
     ap (λ x. a_of_ret (line_at (harden t) x)) q ∙ ap a_of_ret (line-at t o 0 e.1.within (omega (arith, ap line_count e.1.kind_is)))
     ∙ ap (λ c. a_of_ret (line_at (row_lines t o (open_at t o) c) 0)) e.1.kind_is ∙ ap (λ fs. a_of_ret (end_line t o fs (part_of fs))) e.1.open_is
-    ∙ ap (λ p. a_of_ret (end_line t o (e.0 ∷ []) p)) e.1.is_IsBody ∙ ap (λ g. value t g o + 1) e.1.region_is
+    ∙ ap (λ p. a_of_ret (end_line t o (e.0 ∷ []) p)) e.1.is_body ∙ ap (λ g. value t g o + 1) e.1.region_is
 
 -- the function that a call's line goes to
 pub callee : (t : Table) → Proper t → (n : ℕ) → n < function_count t → function_at (harden t) (line_of t (suc (function_row t n))) ≡ n

@@ -56,6 +56,11 @@ kept t g Break j r fs p m a = stays_open a refl
 kept t g Continue j r fs p m a = stays_open a refl
 kept t g Call j r fs p m a = stays_open a refl
 kept t g Unknown j r fs p m a = stays_open a refl
+kept t g Function j r [] p m a = elim a [ ]
+kept t g If j r [] p m a = elim a [ ]
+kept t g Else j r [] p m a = elim a [ ]
+kept t g Loop j r [] p m a = elim a [ ]
+kept t g End j r [] p m a = elim a [ ]
 
 -- it is still open before row j, in the same function; or it ended before
 data Since (t : Table) (g i j : ℕ) : Type 0 where

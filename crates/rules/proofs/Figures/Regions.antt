@@ -32,7 +32,7 @@ module _ (t : Table) (ok : Proper t) (n : ℕ) (known : n < function_count t) wh
       ∙ functions-home t ok n known (end_of t (function_row t n)) (after_it t ok n known) (le_refl _)
 
   next-opens : suc (end_of t (function_row t n)) < length t → kind_at t (suc (end_of t (function_row t n))) ≡ Function
-  next-opens l = opens-function t ok (suc (end_of t (function_row t n))) l (function-end t ok n known).1.Open-after
+  next-opens l = opens-function t ok (suc (end_of t (function_row t n))) l (function-end t ok n known).1.open_after
 
   next-function : suc n < function_count t → function_row t (suc n) ≡ suc (end_of t (function_row t n))
   next-function h = by (eq-or-lt_of_le (function-end t ok n known).1.within)

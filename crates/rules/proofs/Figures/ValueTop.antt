@@ -154,7 +154,7 @@ end-value-below t ok n l =
     omega (
       arith,
       value-next t j e.1.kind_is e.1.open_is,
-      ap (takes End) e.1.is_IsBody,
+      ap (takes End) e.1.is_body,
       ap (λ x. value t x j) e.1.region_is,
       ap (λ x. value t x (suc j)) e.1.region_is,
       value-below t (regions t (function_row t n)) (suc j)

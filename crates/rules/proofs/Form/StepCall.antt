@@ -84,7 +84,7 @@ module _ (t : Table) (ok : Proper t) {H : Type 0} {F : Form H} (S : Settles t F)
           s-is = refl;
           h-is = ap (λ x. hard x (line_of t (suc (function_row t called))) entered (frame n (suc (line_of t i)) left ∷ lineBacks S rest) l vs tr) (callee t ok called known)
               ∙ ap (λ x. hard called (line_of t (suc (function_row t called))) entered (frame n (suc (line_of t i)) x ∷ lineBacks S rest) l vs tr) waits
-              ∙ ap (λ x. hard called (line_of t (suc (function_row t called))) x (lineBacks S (record { function = n; row = i } ∷ rest)) l vs tr) (S.Call-opens _ called _ _ _);
+              ∙ ap (λ x. hard called (line_of t (suc (function_row t called))) x (lineBacks S (record { function = n; row = i } ∷ rest)) l vs tr) (S.call_opens _ called _ _ _);
           in_function = entry t ok called known;
           linked = (record { calls = e; callee = refl; top = f; others = fs; in_function = m }, lk);
           mode = ready refl refl (sym (fresh-value t (function_row t called)));
@@ -198,7 +198,7 @@ module _ (t : Table) (ok : Proper t) {H : Type 0} {F : Form H} (S : Settles t F)
   step_back e q = (
     _,
     line_step t ok S m (suc (line_of t i)) 1 (back_of t i (f ∷ fs) (operands_at t i).n) (omega arith) (rw e (omega arith)) (rw e) _ _ l vs tr
-        ∙ back-line F (harden t) n _ _ _ l vs tr _ _ _ _ (S.Back-passes m e _ _ l (body_below t m) q),
+        ∙ back-line F (harden t) n _ _ _ l vs tr _ _ _ _ (S.back_passes m e _ _ l (body_below t m) q),
     ready_at S (move-to t ok m (suc i) m.within (open_next t i e m.open_is) refl) rest lk (omega (arith, line-suc t i e)) (sym (value-next t i e m.open_is)) l vs tr _
         (S.back-moves _ f fs _ _ _ (body_below t m) (omega (arith, word_at t ok m)) (omega (arith, word_at t ok m))),
   )
