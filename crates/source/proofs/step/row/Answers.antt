@@ -1,3 +1,4 @@
+use borrow.Author.Rules.{rules}
 use native.Mathlib.Omega.{arith}
 use Rattle.source.proofs.Answers.{low}
 use Rattle.source.proofs.Arms.{next-arm, do-arm, test-arm, jump-arm, end-arm, call-arm, no_arm}
@@ -43,4 +44,4 @@ pub returns-in-10 : goal.returns-in-10
 returns-in-10 c = call-arm _ _ c.requires.1.standing c.code_of.ensures c.in-10.is c.call_row.ensures
 
 pub returns-in_default : goal.returns-in_default
-returns-in_default c = no_arm _ _ c.requires.1.standing c.code_of.ensures c.in-0.rest.0.0.0.0.0.0.0.0.0.0.1 c.in-0.rest.0.0.0.0.0.0.0.0.0.1 c.in-0.rest.0.0.0.0.0.0.0.0.1 c.in-0.rest.0.0.0.0.0.0.0.1 c.in-0.rest.0.0.0.0.0.0.1 c.in-0.rest.0.0.0.0.0.1 c.in-0.rest.0.0.0.0.1 c.in-0.rest.0.0.0.1 c.in-0.rest.0.0.1 c.in-0.rest.0.1 c.in-0.rest.1
+returns-in_default c = no_arm _ _ c.requires.1.standing c.code_of.ensures (search rules) (search rules) (search rules) (search rules) (search rules) (search rules) (search rules) (search rules) (search rules) (search rules) (search rules)
