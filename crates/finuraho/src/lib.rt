@@ -18,7 +18,6 @@ ghost use Rattle.rules.specs.SweepCall.{SweepPromise, SweepOtherPromise};
 ghost use Rattle.sweeper.specs.Call.{sweeps, asks};
 ghost use Rattle.finuraho.specs.Given.{writes, refused_with, runs, hardened_runs};
 
-pub mod export;
 mod run;
 mod switched;
 

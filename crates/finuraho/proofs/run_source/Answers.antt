@@ -4,4 +4,4 @@ use mathlib.Core.Path.{sym, ◌∙◌}
 use Rattle.finuraho.proofs.run_source.Goals as goal
 
 pub returns-in-Accepted : goal.returns-in-Accepted
-returns-in-Accepted c = c.source_run.ensures ∙ sym (run-source-stands _ _ _ _ _ (own-chain (record { each = λ i. (c.shared_slice_known-1.given i).fits }) c.check.ensures c.in-Accepted.is))
+returns-in-Accepted c = c.source_run.ensures ∙ sym (run-source-stands _ _ _ _ _ (own-chain (record { each = λ i. (c.type_inv.rows i).fits }) c.check.ensures c.in-Accepted.is))

@@ -5,7 +5,7 @@ use Rattle.sweeper.specs.Call.{sweeps}
 use Rattle.finuraho.proofs.sweep.Goals as goal
 
 pub returns-then-is_hardened : goal.returns-then-is_hardened
-returns-then-is_hardened c = sweep-promise c.args.lines.now c.args.variables c.args.budget c.args.trace.now c.args.counters.now _ (record { each = λ i. omega (arith, c.shared_slice_known-1.given i) }) c.sweep.ensures
+returns-then-is_hardened c = sweep-promise c.args.lines.now c.args.variables c.args.budget c.args.trace.now c.args.counters.now _ (record { each = λ i. omega (arith, c.type_inv.lines i) }) c.sweep.ensures
 
 pub returns : goal.returns
-returns c = sweep-promise c.args.lines.now c.args.variables c.args.budget c.args.trace.now c.args.counters.now _ (record { each = λ i. omega (arith, c.shared_slice_known-1.given i) }) (ap (λ x. sweeps x c.args.trace.now c.args.counters.now) c.refused.ensures ∙ sym (sweep-not-hardened c.args.lines.now c.args.variables c.args.budget c.args.trace.now c.args.counters.now (sym c.is_hardened.ensures ∙ c.if-is_hardened.false)))
+returns c = sweep-promise c.args.lines.now c.args.variables c.args.budget c.args.trace.now c.args.counters.now _ (record { each = λ i. omega (arith, c.type_inv.lines i) }) (ap (λ x. sweeps x c.args.trace.now c.args.counters.now) c.refused.ensures ∙ sym (sweep-not-hardened c.args.lines.now c.args.variables c.args.budget c.args.trace.now c.args.counters.now (sym c.is_hardened.ensures ∙ c.if-is_hardened.false)))

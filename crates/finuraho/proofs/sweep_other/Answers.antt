@@ -5,7 +5,7 @@ use Rattle.sweeper.specs.Call.{asks}
 use Rattle.finuraho.proofs.sweep_other.Goals as goal
 
 pub returns-then-is_hardened : goal.returns-then-is_hardened
-returns-then-is_hardened c = sweep_other_promise c.args.lines.now c.args.variables c.args.budget c.args.trace.now c.args.counters.now _ (record { each = λ i. omega (arith, c.shared_slice_known-1.given i) }) c.sweep_other.ensures
+returns-then-is_hardened c = sweep_other_promise c.args.lines.now c.args.variables c.args.budget c.args.trace.now c.args.counters.now _ (record { each = λ i. omega (arith, c.type_inv.lines i) }) c.sweep_other.ensures
 
 pub returns : goal.returns
-returns c = sweep_other_promise c.args.lines.now c.args.variables c.args.budget c.args.trace.now c.args.counters.now _ (record { each = λ i. omega (arith, c.shared_slice_known-1.given i) }) (ap (λ x. asks x c.args.trace.now c.args.counters.now) c.refused_any.ensures ∙ sym (ask-not-hardened c.args.lines.now c.args.variables c.args.budget c.args.trace.now c.args.counters.now (sym c.is_hardened.ensures ∙ c.if-is_hardened.false)))
+returns c = sweep_other_promise c.args.lines.now c.args.variables c.args.budget c.args.trace.now c.args.counters.now _ (record { each = λ i. omega (arith, c.type_inv.lines i) }) (ap (λ x. asks x c.args.trace.now c.args.counters.now) c.refused_any.ensures ∙ sym (ask-not-hardened c.args.lines.now c.args.variables c.args.budget c.args.trace.now c.args.counters.now (sym c.is_hardened.ensures ∙ c.if-is_hardened.false)))

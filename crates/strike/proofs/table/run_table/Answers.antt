@@ -9,14 +9,14 @@ use Rattle.guard.proofs.Zeroed.{words-after}
 use Rattle.strike.proofs.table.run_table.Goals as goal
 
 pub survey-requires : goal.survey-requires
-survey-requires c = (sound c.args.lines.now (record { each = λ i. omega (arith, c.shared_slice_known-1.given i) }) c.requires.lines_value, c.no_starts-starts.ensures, c.no_owners-owners.ensures)
+survey-requires c = (sound c.args.lines.now (record { each = λ i. omega (arith, c.type_inv.lines i) }) c.requires.lines_value, c.no_starts-starts.ensures, c.no_owners-owners.ensures)
 
 pub home_of-home-requires : goal.home_of-home-requires
-home_of-home-requires c = (sound c.args.lines.now (record { each = λ i. omega (arith, c.shared_slice_known-1.given i) }) c.requires.lines_value, c.survey.ensures)
+home_of-home-requires c = (sound c.args.lines.now (record { each = λ i. omega (arith, c.type_inv.lines i) }) c.requires.lines_value, c.survey.ensures)
 
 pub run_mapped-requires : goal.run_mapped-requires
 run_mapped-requires c = (
-  record { sound = sound c.args.lines.now (record { each = λ i. omega (arith, c.shared_slice_known-1.given i) }) c.requires.lines_value; mapped = record { located = c.survey.ensures; home_is = c.home_of-home.ensures } },
+  record { sound = sound c.args.lines.now (record { each = λ i. omega (arith, c.type_inv.lines i) }) c.requires.lines_value; mapped = record { located = c.survey.ensures; home_is = c.home_of-home.ensures } },
   c.requires.budget_in_bounds.0,
   length-take-le 1024 c.args.counters.now c.requires.budget_in_bounds.1,
 )

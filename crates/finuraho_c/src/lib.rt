@@ -1,5 +1,7 @@
 // The public calls for callers in C or Rust (include/finuraho.h): a slice is a pointer and then a length. Each promises what the call
 // of its name promises.
+#![tactic(auto)]
+
 ghost use Rattle.std.specs.Prelude.{◌≡◌};
 ghost use Rattle.rules.specs.Calls.{check_call, run_source_call};
 ghost use Rattle.rules.specs.Fault.{fault_call};
@@ -18,49 +20,49 @@ use rules::limits::VARIABLES;
 pub extern "C" fn finuraho_check(rows: &[u8]) -> u8
     ensures { result ≡ check_call rows.now }
 {
-    crate::check(rows)
+    finuraho::check(rows)
 }
 
 #[unsafe(no_mangle)]
 pub extern "C" fn finuraho_fault(rows: &[u8]) -> Fault
     ensures { result ≡ fault_call rows.now }
 {
-    crate::fault(rows)
+    finuraho::fault(rows)
 }
 
 #[unsafe(no_mangle)]
 pub extern "C" fn finuraho_measure(rows: &[u8]) -> Measured
     ensures { MeasurePromise rows.now result }
 {
-    crate::measure(rows)
+    finuraho::measure(rows)
 }
 
 #[unsafe(no_mangle)]
 pub extern "C" fn finuraho_hardened_steps(steps: u16, dos: u16, calls: u16) -> u32
     ensures { StepsPromise steps dos calls result }
 {
-    crate::hardened_steps(steps, dos, calls)
+    finuraho::hardened_steps(steps, dos, calls)
 }
 
 #[unsafe(no_mangle)]
 pub extern "C" fn finuraho_harden(rows: &[u8], out: &mut [u8]) -> Wrote
     ensures { HardenPromise rows.now out.old (writes result out.new) }
 {
-    crate::harden(rows, out)
+    finuraho::harden(rows, out)
 }
 
 #[unsafe(no_mangle)]
 pub extern "C" fn finuraho_check_hardened(lines: &[u8]) -> u8
     ensures { CheckHardenedPromise lines.now result }
 {
-    crate::check_hardened(lines)
+    finuraho::check_hardened(lines)
 }
 
 #[unsafe(no_mangle)]
 pub extern "C" fn finuraho_read_back(lines: &[u8], out: &mut [u8]) -> Wrote
     ensures { ReadBackPromise lines.now out.old (writes result out.new) }
 {
-    crate::read_back(lines, out)
+    finuraho::read_back(lines, out)
 }
 
 #[unsafe(no_mangle)]
@@ -72,7 +74,7 @@ pub extern "C" fn finuraho_run_source(
 ) -> Ran
     ensures { runs result trace.new ≡ run_source_call rows.now variables.now budget trace.old }
 {
-    crate::run_source(rows, *variables, budget, trace)
+    finuraho::run_source(rows, *variables, budget, trace)
 }
 
 #[unsafe(no_mangle)]
@@ -87,7 +89,7 @@ pub extern "C" fn finuraho_run_hardened(
 ) -> Ran
     ensures { HardenedPromise lines.now variables.now budget step place trace.old counters.old (hardened_runs result trace.new counters.new) }
 {
-    crate::run_hardened(lines, *variables, budget, step, place, trace, counters)
+    finuraho::run_hardened(lines, *variables, budget, step, place, trace, counters)
 }
 
 #[unsafe(no_mangle)]
@@ -100,7 +102,7 @@ pub extern "C" fn finuraho_sweep(
 ) -> Swept
     ensures { SweepPromise lines.now variables.now budget trace.old counters.old (sweeps result trace.new counters.new) }
 {
-    crate::sweep(lines, *variables, budget, trace, counters)
+    finuraho::sweep(lines, *variables, budget, trace, counters)
 }
 
 #[unsafe(no_mangle)]
@@ -113,5 +115,5 @@ pub extern "C" fn finuraho_sweep_other(
 ) -> AnyOther
     ensures { SweepOtherPromise lines.now variables.now budget trace.old counters.old (asks result trace.new counters.new) }
 {
-    crate::sweep_other(lines, *variables, budget, trace, counters)
+    finuraho::sweep_other(lines, *variables, budget, trace, counters)
 }
