@@ -13,7 +13,7 @@ use rules::limits::ROWS;
 // The words of a map.
 pub const MAP: usize = 6 * (ROWS + 1);
 
-#[derive(Drop)]
+#[derive(Clone, Copy)]
 pub struct Scope {
     // Regions opened so far, in the whole table.
     pub opened: u16,

@@ -13,7 +13,7 @@ use crate::{row, scope};
 use rules::kind::Kind;
 
 // A row's region, by its number in the function, and the row's value.
-#[derive(Drop)]
+#[derive(Clone, Copy)]
 pub struct Spot {
     pub r: u8,
     pub e: u16,

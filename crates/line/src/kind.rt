@@ -4,7 +4,7 @@ ghost use Rattle.line.specs.Read.{line_kind_of};
 
 use crate::Line;
 
-#[derive(Drop)]
+#[derive(Clone, Copy)]
 pub enum LineKind {
     Do,
     Tick,

@@ -1,4 +1,6 @@
 // A hardened line: its fields, a constructor for each kind, and its bytes written. read.rt has its bytes read.
+#![tactic(auto)]
+
 ghost use Rattle.std.specs.Prelude.{◌≡◌, ◌+◌, ◌≤◌, ◌<◌, length};
 ghost use Rattle.rules.specs.Line.{line_width, no_operands, do_line, tick_line, test_line, leave_line, out_line, call_line, back_line, ret_line};
 ghost use Rattle.line.specs.Line.{struct, fields, put};

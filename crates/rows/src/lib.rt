@@ -1,4 +1,6 @@
 // The rows of a source table, one at a time: the kind and the fields that their bytes say, and the bytes put into a buffer.
+#![tactic(auto)]
+
 pub mod dos;
 pub mod first;
 pub mod fits;

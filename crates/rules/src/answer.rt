@@ -3,7 +3,7 @@ use crate::limits::VARIABLES;
 
 // A call that writes a table: the number of 01 and the length of the answer in bytes.
 #[repr(C)]
-#[derive(Drop)]
+#[derive(Clone, Copy)]
 pub struct Wrote {
     pub number: u8,
     pub length: usize,
@@ -11,7 +11,7 @@ pub struct Wrote {
 
 // A run: the number of 01, and what "A run answers outcome, steps, trace length and the variables" names.
 #[repr(C)]
-#[derive(Drop)]
+#[derive(Clone, Copy)]
 pub struct Ran {
     pub number: u8,
     pub outcome: u8,
@@ -22,7 +22,7 @@ pub struct Ran {
 
 // A table's fault: the number of 01, and the row that it is about; for the end of the table, the number of rows.
 #[repr(C)]
-#[derive(Drop)]
+#[derive(Clone, Copy)]
 pub struct Fault {
     pub number: u8,
     pub row: usize,
@@ -31,7 +31,7 @@ pub struct Fault {
 // How much a table takes: the number of 01, and of its hardened table the most regions that a function has, the lines, and the highest
 // counter value that a line names.
 #[repr(C)]
-#[derive(Drop)]
+#[derive(Clone, Copy)]
 pub struct Measured {
     pub number: u8,
     pub regions: u8,
@@ -42,7 +42,7 @@ pub struct Measured {
 // A sweep: the number of 01, and how many of its runs ended with an alarm, finished with the trace of the unstruck run, finished with
 // another, and did not finish (02, No. 4).
 #[repr(C)]
-#[derive(Drop)]
+#[derive(Clone, Copy)]
 pub struct Swept {
     pub number: u8,
     pub alarms: u32,
@@ -53,7 +53,7 @@ pub struct Swept {
 
 // The number of 01, and whether any run of the sweep finished with another trace.
 #[repr(C)]
-#[derive(Drop)]
+#[derive(Clone, Copy)]
 pub struct AnyOther {
     pub number: u8,
     pub other: bool,

@@ -1,5 +1,5 @@
 // How the runs of a sweep end (02, No. 4). specs/Sweep.antt says which run ends how.
-#[derive(Drop)]
+#[derive(Clone, Copy)]
 pub enum Ending {
     Alarmed,
     Same,
@@ -8,7 +8,7 @@ pub enum Ending {
 }
 
 // How many runs ended with an alarm, finished with the trace of the unstruck run, finished with another, and did not finish.
-#[derive(Drop)]
+#[derive(Clone, Copy)]
 pub struct Counts {
     pub alarms: u32,
     pub same: u32,

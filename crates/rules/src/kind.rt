@@ -1,5 +1,5 @@
 // What the kind byte of a row says (01, "The source table").
-#[derive(Drop)]
+#[derive(Clone, Copy)]
 pub enum Kind {
     Function,
     Do,

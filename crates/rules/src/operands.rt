@@ -1,5 +1,5 @@
 // What a row of any kind has beside its kind, and what a do or a test line copies of its row (01, "The source table").
-#[derive(Drop)]
+#[derive(Clone, Copy)]
 pub struct Operands {
     pub op: u8,
     pub p: u8,

@@ -1,5 +1,5 @@
 // What turns a call away (01, the table of that name; 02, No. 1 and No. 4). specs/Refusal.antt lists the number of each.
-#[derive(Drop)]
+#[derive(Clone, Copy)]
 pub enum Refusal {
     NoWholeRows,
     TooManyRows,
@@ -15,7 +15,7 @@ pub enum Refusal {
     NotFinished,
 }
 
-#[derive(Drop)]
+#[derive(Clone, Copy)]
 pub enum Verdict {
     Accepted,
     Refused(Refusal),

@@ -1,5 +1,5 @@
 // What a step answers, and so what a run ends with (01, "Outcomes"). specs/Run.antt lists the number of each.
-#[derive(Drop)]
+#[derive(Clone, Copy)]
 pub enum Step {
     // The run goes on at this row or line; a run that ends so has spent its budget.
     Went(u16),

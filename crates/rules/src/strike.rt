@@ -4,7 +4,7 @@ ghost use Rattle.rules.specs.Form.{strike_by_lem};
 
 use crate::limits::NO_STEP;
 
-#[derive(Drop)]
+#[derive(Clone, Copy)]
 pub enum Strike {
     None,
     // Before this step the running function goes to this place.

@@ -1,20 +1,10 @@
-use Rattle.std.proofs.Common.{rules, ◌≡◌, [], ◌∷◌, ◌≤◌, ◌<◌, length, ℕ, ◌+◌, ◌-◌, ◌*◌, ◌/◌, ◌%◌, Bool, true, false, nat_eq, nat_lt, List, ◌++◌, slice_index_or, slice_set, bit_and, bit_or, Fits, w8, w32, w64, Bor, MutBor}
-use Rattle.text.specs.Hex.{digit_of_lem}
-use Rattle.text.specs.Reading.{good_at, spoilt_reader, newline_reader, Sane, Started, Fed, Added}
+use Prim.Native.Nat.{◌-◌}
+use Rattle.text.proofs.Feeding.{upto-none, upto-more}
 use Rattle.text.proofs.read.feed.Goals as goal
 
--- src/read.rt:127:5
 pub loop-i-init : goal.loop-i-init
-loop-i-init c = ?
+loop-i-init c = upto-none c.requires
 
--- src/read.rt:128:9
-pub take_byte-q-requires : goal.take_byte-q-requires
-take_byte-q-requires c = ?
-
--- src/read.rt:127:5
 pub loop-i-preserved : goal.loop-i-preserved
-loop-i-preserved c = ?
-
--- src/read.rt:121:1
-pub returns : goal.returns
-returns c = ?
+loop-i-preserved c = upto-more c.loop-i.invariant c.loop-i-test.true c.take_byte-q.auto.rows
+    c.take_byte-q.ensures

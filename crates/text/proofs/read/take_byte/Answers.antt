@@ -1,28 +1,29 @@
-use Rattle.std.proofs.Common.{rules, ◌≡◌, [], ◌∷◌, ◌≤◌, ◌<◌, length, ℕ, ◌+◌, ◌-◌, ◌*◌, ◌/◌, ◌%◌, Bool, true, false, nat_eq, nat_lt, List, ◌++◌, slice_index_or, slice_set, bit_and, bit_or, Fits, w8, w32, w64, Bor, MutBor}
-use Rattle.text.specs.Hex.{digit_of_lem}
-use Rattle.text.specs.Reading.{good_at, spoilt_reader, newline_reader, Sane, Started, Fed, Added}
+use Prim.Native.Nat.{◌<◌}
+use mathlib.Core.Path.{sym, ◌∙◌}
+use native.Mathlib.Omega.{arith}
+use Rattle.text.proofs.Digits.{value-small}
+use Rattle.text.proofs.Feeding.{fed-bad, fed-newline, fed-full, fed-digit, fed-other}
 use Rattle.text.proofs.read.take_byte.Goals as goal
 
--- src/read.rt:94:9
 pub returns-then-r : goal.returns-then-r
-returns-then-r c = ?
+returns-then-r c = fed-bad _ _ _ _ c.requires c.if-r.true
 
--- src/read.rt:97:9
 pub returns-then-b-eq10 : goal.returns-then-b-eq10
-returns-then-b-eq10 c = ?
+returns-then-b-eq10 c = fed-newline _ _ _ _ c.requires c.if-r.false c.if-b-eq10.true c.at_newline.ensures
 
--- src/read.rt:100:9
 pub returns-then-r-digits : goal.returns-then-r-digits
-returns-then-r-digits c = ?
+returns-then-r-digits c = fed-full _ _ _ _ c.requires c.if-r.false c.if-b-eq10.false (omega (arith, c.if-r-digits.true))
+    c.spoilt.ensures
 
--- src/read.rt:104:28
 pub add_digit-requires : goal.add_digit-requires
-add_digit-requires c = ?
+add_digit-requires c = let small : c.in-Value.v < 16 =
+    value-small _ _ (sym c.in-Value.is ∙ c.digit_of-d.ensures) in
+    (small, omega (arith, c.requires), omega (arith, c.requires), omega (arith, c.requires))
 
--- src/read.rt:89:1
 pub returns-in-Value : goal.returns-in-Value
-returns-in-Value c = ?
+returns-in-Value c = fed-digit _ _ _ _ c.requires c.if-r.false c.if-b-eq10.false (omega (arith, c.if-r-digits.false))
+    (sym c.in-Value.is ∙ c.digit_of-d.ensures) c.add_digit.ensures
 
--- src/read.rt:89:1
 pub returns-in-Other : goal.returns-in-Other
-returns-in-Other c = ?
+returns-in-Other c = fed-other _ _ _ _ c.requires c.if-r.false c.if-b-eq10.false
+    (sym c.in-Other.is ∙ c.digit_of-d.ensures) c.spoilt-in-Other.ensures

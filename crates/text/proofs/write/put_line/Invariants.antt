@@ -1,11 +1,10 @@
-use Rattle.std.proofs.Common.{length, ◌-◌, ◌≡◌, [], ◌∷◌, ◌++◌, ◌+◌, ◌*◌, ◌≤◌, ◌<◌, ℕ}
-use Rattle.text.specs.Hex.{digit, hex, newline}
-use Rattle.text.specs.Listing.{decimal, refused_word, refused_text, listing_text, Listable, Written, Puts}
+use Prim.Native.Nat.{◌-◌}
+use lib.ListN.{length}
+use Rattle.text.proofs.Putting.{Line}
 use Rattle.text.proofs.write.put_line.Given as goal
 
 abbrev pub invariant-loop-i : goal.invariant-loop-i
-invariant-loop-i l = ?
+invariant-loop-i l = Line l.group l.at l.initial.out l.out l.next l.i
 
--- proposed from the loop's first test
 abbrev pub decreases-loop-i : goal.decreases-loop-i
 decreases-loop-i l = length l.group - l.i
