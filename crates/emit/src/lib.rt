@@ -1,4 +1,6 @@
 // Writing the lines of a table, row by row.
+#![tactic(auto)]
+
 ghost use Rattle.std.specs.Prelude.{◌≡◌, ◌/◌, ◌<◌, length};
 ghost use Rattle.rules.specs.Row.{table_of};
 ghost use Rattle.rules.specs.Calls.{over};

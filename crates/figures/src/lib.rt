@@ -1,5 +1,7 @@
 // How much the hardened table of a source table takes (02, No. 2), by sums over its rows: no table is written and no row is looked at
 // twice.
+#![tactic(auto)]
+
 ghost use Rattle.std.specs.Prelude.{◌≡◌};
 ghost use Rattle.rules.specs.declared.refusal.Verdict.TheVariants.{Accepted};
 ghost use Rattle.rules.specs.Row.{table_of};

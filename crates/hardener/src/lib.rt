@@ -1,4 +1,6 @@
 // Hardening an accepted table whose links are known, and telling whether it hardens to given bytes.
+#![tactic(auto)]
+
 ghost use Rattle.std.specs.Prelude.{◌≡◌};
 ghost use Rattle.rules.specs.declared.refusal.Verdict.TheVariants.{Accepted};
 ghost use Rattle.rules.specs.Bytes.{same};

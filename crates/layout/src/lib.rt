@@ -1,4 +1,6 @@
 // Where each row of an accepted table stands, which bases its regions have, and which value each row has.
+#![tactic(auto)]
+
 ghost use Rattle.std.specs.Prelude.{◌≡◌, ◌≤◌, length};
 ghost use Rattle.layout.specs.Scope.{map_words};
 ghost use Rattle.rules.specs.Limits.{max_rows};

@@ -1,4 +1,6 @@
 // The step and the run of a hardened table.
+#![tactic(auto)]
+
 pub mod map;
 pub mod run;
 pub mod step;

@@ -1,4 +1,6 @@
 // Running an accepted source table whose links are known.
+#![tactic(auto)]
+
 ghost use Rattle.std.specs.Prelude.{◌≡◌, ◌≤◌, length};
 ghost use Rattle.rules.specs.declared.refusal.Verdict.TheVariants.{Accepted};
 ghost use Rattle.rules.specs.Row.{table_of};

@@ -1,4 +1,6 @@
 // What every run keeps from step to step: the registers, the functions that wait, the variables and the trace.
+#![tactic(auto)]
+
 pub mod answer;
 pub mod machine;
 pub mod open;

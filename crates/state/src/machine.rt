@@ -7,7 +7,7 @@ use rules::step::Step;
 
 // The numbers of a run: the functions that wait for the running one are as many as `depth`; `at` is the row or the line where the run
 // is, `last` what region 0 of the function that returned last ended at.
-#[derive(Drop)]
+#[derive(Clone, Copy)]
 pub struct Registers {
     pub depth: u16,
     pub function: u8,

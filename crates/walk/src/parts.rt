@@ -15,7 +15,7 @@ use rules::kind::Kind;
 use rules::refusal::Refusal;
 
 // The rows from row `base` on, up to the end or else row of the part that they stand in.
-#[cycle(construct_else_part_if_part_loop_part_sequence)]
+#[cycle(walker)]
 pub fn sequence(
     rows: &[u8],
     base: usize,
@@ -55,7 +55,7 @@ pub fn sequence(
 }
 
 // The construct that row `base` begins. Each arm tests the fields for its own kind, so that there is one jump by the kind.
-#[cycle(construct_else_part_if_part_loop_part_sequence)]
+#[cycle(walker)]
 fn construct(
     rows: &[u8],
     base: usize,
@@ -100,7 +100,7 @@ fn construct(
 }
 
 // The if in row `base`.
-#[cycle(construct_else_part_if_part_loop_part_sequence)]
+#[cycle(walker)]
 fn if_part(
     rows: &[u8],
     base: usize,
@@ -153,7 +153,7 @@ fn if_part(
 }
 
 // The rest of the if in row `base`, from its else row `row` on.
-#[cycle(construct_else_part_if_part_loop_part_sequence)]
+#[cycle(walker)]
 fn else_part(
     rows: &[u8],
     row: usize,
@@ -192,7 +192,7 @@ fn else_part(
 }
 
 // The loop in row `base`.
-#[cycle(construct_else_part_if_part_loop_part_sequence)]
+#[cycle(walker)]
 fn loop_part(
     rows: &[u8],
     base: usize,

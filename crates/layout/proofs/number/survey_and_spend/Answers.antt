@@ -1,0 +1,24 @@
+use Prim.Native.Nat.{◌-◌}
+use native.Mathlib.Omega.{arith}
+use Rattle.layout.proofs.Numbers.{spendings}
+use Rattle.layout.proofs.Survey.{surveys}
+use borrow.Author.Rules.{rules}
+use Rattle.layout.proofs.number.survey_and_spend.Goals as goal
+
+pub loop-i-init : goal.loop-i-init
+loop-i-init c = (search (surveys, rules), search (spendings, rules))
+
+pub loop-i-preserved : goal.loop-i-preserved
+loop-i-preserved c = (search (surveys, rules), search (spendings, rules))
+
+pub spend-requires-clause-stands : goal.spend-requires-clause-stands
+spend-requires-clause-stands c = (search (surveys, rules), omega arith, omega arith)
+
+pub after-here-requires-clause-stands : goal.after-here-requires-clause-stands
+after-here-requires-clause-stands c = (search (surveys, rules), omega arith)
+
+pub after-here-requires-clause-mapped : goal.after-here-requires-clause-mapped
+after-here-requires-clause-mapped c = (search (surveys, rules), omega arith)
+
+pub returns-clause-surveyed : goal.returns-clause-surveyed
+returns-clause-surveyed c = search (surveys, rules)

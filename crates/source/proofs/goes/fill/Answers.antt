@@ -1,0 +1,7 @@
+use native.Mathlib.Omega.{arith}
+use Prim.Native.Nat.{◌-◌}
+use Rattle.source.proofs.Targets.{filled}
+use Rattle.source.proofs.goes.fill.Goals as goal
+
+pub returns : goal.returns
+returns c = filled c.requires.surveyed.0 c.loop-i.invariant (omega (arith, c.loop-i-test.false))
