@@ -1,7 +1,6 @@
 use Prim.Native.Nat.{◌-◌}
 use mathlib.Core.Path.{refl, sym, ◌∙◌}
 use native.Mathlib.Omega.{arith}
-use Rattle.rules.proofs.Logic.{not-true, not-false}
 use Rattle.hardener.proofs.Passes.{made-start, made-room, made-stretch, made_more, made-differs, made_all}
 use Rattle.hardener.proofs.pass.make.Goals as goal
 
@@ -12,10 +11,10 @@ pub agrees-requires : goal.agrees-requires
 agrees-requires c = made-stretch c.args.comparing c.args.rows.now c.args.lines.now c.args.out.now _ c.loop-from.from c.batch-count.result c.requires.laid.1 c.batch-count.ensures (omega arith) (c.index-first.ensures ∙ c.line_of.ensures) (c.index-past.ensures ∙ c.line_of-in-loop-from.ensures)
 
 pub returns-then-not-agrees : goal.returns-then-not-agrees
-returns-then-not-agrees c = made-differs c.args.comparing c.args.rows.now c.args.lines.now c.args.out.now c.loop-from.out c.loop-from.from c.batch-count.result c.batch-count.ensures c.emit_rows.ensures (c.index-first.ensures ∙ c.line_of.ensures) (c.index-past.ensures ∙ c.line_of-in-loop-from.ensures) (sym (not-true c.agrees.result c.if-not-agrees.true) ∙ c.agrees.ensures)
+returns-then-not-agrees c = made-differs c.args.comparing c.args.rows.now c.args.lines.now c.args.out.now c.loop-from.out c.loop-from.from c.batch-count.result c.batch-count.ensures c.emit_rows.ensures (c.index-first.ensures ∙ c.line_of.ensures) (c.index-past.ensures ∙ c.line_of-in-loop-from.ensures) (sym c.if-not-agrees.true ∙ c.agrees.ensures)
 
 pub loop-from-preserved : goal.loop-from-preserved
-loop-from-preserved c = (c.batch-count.ensures.rows, omega arith, made_more c.args.comparing c.args.rows.now c.args.lines.now c.args.out.now c.loop-from.out c.loop-from.from c.batch-count.result c.loop-from.invariant.2 (omega arith) c.batch-count.ensures c.emit_rows.ensures (c.index-first.ensures ∙ c.line_of.ensures) (c.index-past.ensures ∙ c.line_of-in-loop-from.ensures) (sym (not-false c.agrees.result c.if-not-agrees.false) ∙ c.agrees.ensures))
+loop-from-preserved c = (c.batch-count.ensures.rows, omega arith, made_more c.args.comparing c.args.rows.now c.args.lines.now c.args.out.now c.loop-from.out c.loop-from.from c.batch-count.result c.loop-from.invariant.2 (omega arith) c.batch-count.ensures c.emit_rows.ensures (c.index-first.ensures ∙ c.line_of.ensures) (c.index-past.ensures ∙ c.line_of-in-loop-from.ensures) (sym c.if-not-agrees.false ∙ c.agrees.ensures))
 
 pub returns : goal.returns
 returns c = made_all c.args.comparing c.args.rows.now c.args.lines.now c.args.out.now c.loop-from.out c.loop-from.from c.loop-from.invariant.2 (omega arith) c.requires.laid.1
