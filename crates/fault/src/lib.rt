@@ -1,4 +1,6 @@
 // What a source table gets: the number and the row that it is about, or its chain.
+#![tactic(auto)]
+
 ghost use Rattle.std.specs.Prelude.{◌≡◌, cond};
 ghost use Rattle.rules.specs.Switch.{given_of};
 ghost use Rattle.rules.specs.Fault.{calling_row};

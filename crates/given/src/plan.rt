@@ -11,7 +11,7 @@ use crate::things::cases_of;
 use rules::kind::Kind;
 
 // Elses, then the row itself or the if of a case, then ends; and what is stored of the things: a mark in a slot, and how many are open.
-#[derive(Drop)]
+#[derive(Clone, Copy)]
 pub struct Plan {
     pub elses: usize,
     pub own: usize,

@@ -8,7 +8,7 @@ use rows::first::{fits, fits_switch, kind};
 use rows::kind::{CASE, DEFAULT, SWITCH};
 use rules::kind::Kind;
 
-#[derive(Drop)]
+#[derive(Clone, Copy)]
 pub enum Sort {
     // A kind that is none, or a field that is wrong.
     Wrong,

@@ -1,4 +1,6 @@
 // Reading a hardened table back: the rows of a candidate, and whether they are a table that hardens to the same bytes.
+#![tactic(auto)]
+
 ghost use Rattle.std.specs.Prelude.{◌≡◌, length};
 ghost use Rattle.rules.specs.ReadBack.{is_hardened_lem};
 ghost use Rattle.rules.specs.Calls.{zeros};

@@ -1,20 +1,14 @@
-use mathlib.Core.Logic.{⊎_elim}
 use mathlib.Core.Path.{◌≡◌, refl, sym, ap, ◌∙◌}
 use mathlib.Core.Bool.{false, cond}
-use mathlib.Core.List.{[], ◌∷◌}
 use Prim.Native.Nat.{◌+◌}
-use native.Mathlib.Omega.{arith}
-use denote.Enum.Declared.{tag_of}
-use types.Run.{OneOf}
 use lib.ListN.{set}
-use Rattle.line.specs.contracts.kind.LineKind.{the_type}
 use Rattle.line.specs.declared.kind.LineKind.{LineKind}
 use Rattle.line.specs.declared.kind.LineKind.TheVariants.{Do, Tick, Test, Leave, Out, Call, Back, Ret}
 use Rattle.line.specs.Read.{ends_function_lem}
 use Rattle.machine.specs.Map.{passed, passed_of}
 use Rattle.machine.proofs.map.pass.Goals as goal
 
-not-ret : (kd : LineKind) → OneOf (0 ∷ 1 ∷ 2 ∷ 3 ∷ 4 ∷ 5 ∷ 6 ∷ []) (tag_of the_type kd) → ends_function_lem kd ≡ false
+not-ret : (kd : LineKind) → (kd ≡ Ret → ⊥) → ends_function_lem kd ≡ false
 not-ret Do k = refl
 not-ret Tick k = refl
 not-ret Test k = refl
@@ -22,16 +16,12 @@ not-ret Leave k = refl
 not-ret Out k = refl
 not-ret Call k = refl
 not-ret Back k = refl
-not-ret Ret k =
-    absurd
-    (⊎_elim (λ z. omega arith)
-    (⊎_elim (λ z. omega arith)
-    (⊎_elim (λ z. omega arith) (⊎_elim (λ z. omega arith) (⊎_elim (λ z. omega arith) (⊎_elim (λ z. omega arith) (λ z. omega arith)))))) k)
+not-ret Ret k = absurd (k refl)
 
 pub returns-in_default : goal.returns-in_default
 unfolding passed_of
 returns-in_default c = ap (λ b. cond b (passed (c.args.function + 1) (set c.args.starts.now (c.args.function + 1) (c.args.line + 1))) (passed c.args.function c.args.starts.now))
-    (sym (ap ends_function_lem (sym c.kind_at-kind.ensures) ∙ not-ret c.kind_at-kind.result c.in_default.is))
+    (sym (ap ends_function_lem (sym c.kind_at-kind.ensures) ∙ not-ret c.kind_at-kind.result c.in_default.not-Ret))
 
 pub returns : goal.returns
 unfolding passed_of

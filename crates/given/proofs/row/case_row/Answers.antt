@@ -1,0 +1,17 @@
+use Rattle.std.proofs.Common.{ap, not}
+use Rattle.given.proofs.Rows.{top-few, row-refused, row_sound}
+use Rattle.given.proofs.Cases.{case-named, case-wrong}
+use native.Mathlib.Omega.{arith}
+use Rattle.given.proofs.row.case_row.Goals as goal
+
+pub returns-then-not-fits : goal.returns-then-not-fits
+returns-then-not-fits c = case-wrong c.requires.here c.requires.at_value c.fits.ensures c.requires.reached (ap not c.if-not-fits.true)
+
+pub case_cause-requires : goal.case_cause-requires
+case_cause-requires c = (omega arith, top-few c.requires.reached c.innermost-top.ensures)
+
+pub returns-in-Refused : goal.returns-in-Refused
+returns-in-Refused c = row-refused c.requires.reached c.requires.here (case-named c.requires.here c.requires.at_value c.fits.ensures (ap not c.if-not-fits.false)) c.innermost-top.ensures c.word-number.ensures c.case_cause.ensures c.in-Refused.is
+
+pub take_case-requires-clause-sound : goal.take_case-requires-clause-sound
+take_case-requires-clause-sound c = row_sound c.requires.reached c.requires.here (case-named c.requires.here c.requires.at_value c.fits.ensures (ap not c.if-not-fits.false)) c.innermost-top.ensures c.word-number.ensures c.case_cause.ensures c.in-Accepted.is
