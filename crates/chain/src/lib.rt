@@ -1,4 +1,6 @@
 // The chain of a source table, with its links: what hardening and running go by where a table has switches.
+#![tactic(auto)]
+
 ghost use Rattle.std.specs.Prelude.{◌≡◌, ◌*◌, length};
 ghost use Rattle.rules.specs.Limits.{max_rows};
 ghost use Rattle.rules.specs.Row.{row_width};

@@ -3,6 +3,8 @@
 // own bytes (TablePromise), a hardened run demand 3 of its own bytes, values, budget and jump (Promise), measuring what hardening then
 // shows (Measure), the sum of steps what running then shows (Steps), and the sweeps that the four counts add up and that the second call
 // tells of the third (SweepCall).
+#![tactic(auto)]
+
 ghost use Rattle.std.specs.Prelude.{◌≡◌};
 ghost use Rattle.rules.specs.declared.refusal.Verdict.TheVariants.{Accepted};
 ghost use Rattle.rules.specs.Calls.{check_call, run_source_call, short_output, writing};
@@ -16,7 +18,6 @@ ghost use Rattle.rules.specs.SweepCall.{SweepPromise, SweepOtherPromise};
 ghost use Rattle.sweeper.specs.Call.{sweeps, asks};
 ghost use Rattle.finuraho.specs.Given.{writes, refused_with, runs, hardened_runs};
 
-pub mod export;
 mod run;
 mod switched;
 

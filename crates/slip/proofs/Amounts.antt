@@ -6,15 +6,12 @@ use mathlib.Core.List.{List, [], ◌∷◌}
 use Prim.Native.Nat.{ℕ, ◌+◌, ◌-◌, ◌*◌, ◌≤◌}
 use native.Mathlib.Omega.{arith}
 use lib.ListN.{length}
-use types.Run.{OneOf}
-use denote.Enum.Declared.{tag_of}
 use Rattle.rules.specs.Line.{line_width, lines_in}
 use Rattle.rules.specs.Hardened.{Hardened}
 use Rattle.line.specs.declared.kind.LineKind.{LineKind}
 use Rattle.line.specs.declared.kind.LineKind.TheVariants.{Do, Tick, Test, Leave, Out, Call, Back, Ret}
 use Rattle.line.specs.declared.Line.{Line}
 use Rattle.line.specs.Read.{line_kind_at, struct_at, as_line}
-use Rattle.line.specs.contracts.kind.LineKind.{the_type}
 use Rattle.line.proofs.Decode.{length-lines, line_is}
 use Rattle.machine.specs.Step.{Map, Parts, last_line_lem}
 use Rattle.machine.specs.Stands.{Ready, Stands}
@@ -24,9 +21,8 @@ use Rattle.slip.specs.declared.amount.Amount.TheVariants.{NotSmall}
 use Rattle.slip.specs.Amount.{slips_by, over_line, over_do_lem}
 
 -- the arm of a `let .. else` that is not the first variant's
-no-do : (k : LineKind) → OneOf (1 ∷ 2 ∷ 3 ∷ 4 ∷ 5 ∷ 6 ∷ 7 ∷ []) (tag_of the_type k) → (l : Line) (back : Bool) → NotSmall ≡ over_line (as_line k l) back
-no-do Do o l back =
-    absurd (⊎_elim (λ z. omega arith) (⊎_elim (λ z. omega arith) (⊎_elim (λ z. omega arith) (⊎_elim (λ z. omega arith) (⊎_elim (λ z. omega arith) (⊎_elim (λ z. omega arith) (λ z. omega arith)))))) o)
+no-do : (k : LineKind) → (k ≡ Do → ⊥) → (l : Line) (back : Bool) → NotSmall ≡ over_line (as_line k l) back
+no-do Do o l back = absurd (o refl)
 no-do Tick o l back = refl
 no-do Test o l back = refl
 no-do Leave o l back = refl
@@ -40,7 +36,7 @@ module _ (bs : List ℕ) (k : ℕ) (back : Bool) (h : line_width * k + line_widt
   unfolding over_do_lem
   read_is = ap (λ y. over_line (as_line y (struct_at bs k)) back) e ∙ ap (λ y. over_line y back) (sym (line_is bs k (omega (arith, length-lines bs))))
 
-  pub over_none : OneOf (1 ∷ 2 ∷ 3 ∷ 4 ∷ 5 ∷ 6 ∷ 7 ∷ []) (tag_of the_type kd) → NotSmall ≡ over_do_lem (lines_in bs) k back
+  pub over_none : (kd ≡ Do → ⊥) → NotSmall ≡ over_do_lem (lines_in bs) k back
   over_none o = no-do kd o (struct_at bs k) back ∙ read_is
 
   pub over_do : {l : Line} {r : Amount} → kd ≡ Do → l ≡ struct_at bs k → r ≡ slips_by l.e back → r ≡ over_do_lem (lines_in bs) k back

@@ -18,7 +18,7 @@ pub struct Registers {
 }
 
 // Where each function that waits goes on, and its number; the variables; the registers.
-#[derive(Drop)]
+#[derive(Clone, Copy)]
 pub struct Machine {
     pub resumes: [u16; OPEN],
     pub functions: [u8; OPEN],

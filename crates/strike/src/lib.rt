@@ -1,3 +1,5 @@
 // Whole runs of hardened tables, and what may strike them.
+#![tactic(auto)]
+
 pub mod struck;
 pub mod table;

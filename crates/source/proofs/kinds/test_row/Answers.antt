@@ -5,7 +5,7 @@ pub fields-requires : goal.fields-requires
 fields-requires c = (c.requires.0, test_op c.requires.0 c.requires.2 c.requires.3)
 
 pub holds-requires : goal.holds-requires
-holds-requires c = operands-in c.requires.0 (test-variables c.requires.0 (record { each = λ j. (c.shared_slice_known-1.given j).fits }) c.requires.2 c.requires.3) c.fields.ensures
+holds-requires c = operands-in c.requires.0 (test-variables c.requires.0 (record { each = λ j. (c.type_inv.rows j).fits }) c.requires.2 c.requires.3) c.fields.ensures
 
 pub next_row-requires : goal.next_row-requires
 next_row-requires c = low c.requires.0

@@ -1,0 +1,12 @@
+use Rattle.fault.proofs.Ends.{calls-here, calls-on, calls-done}
+use Prim.Native.Nat.{◌-◌}
+use Rattle.fault.proofs.calling.Goals as goal
+
+pub returns-then-calls_beyond : goal.returns-then-calls_beyond
+returns-then-calls_beyond c = calls-here c.loop-at.invariant c.loop-at-test.true c.calls_beyond.ensures c.if-calls_beyond.true
+
+pub loop-at-preserved : goal.loop-at-preserved
+loop-at-preserved c = calls-on c.loop-at.invariant c.loop-at-test.true c.calls_beyond.ensures c.if-calls_beyond.false
+
+pub returns : goal.returns
+returns c = calls-done c.loop-at.invariant c.loop-at-test.false

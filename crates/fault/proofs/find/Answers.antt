@@ -1,0 +1,17 @@
+use Rattle.fault.proofs.Ends.{find_none, find-ragged, find-long, find_stopped, find_last}
+use Rattle.fault.proofs.find.Goals as goal
+
+pub returns-then-rows-eq0 : goal.returns-then-rows-eq0
+returns-then-rows-eq0 c = find_none _ _ c.if-rows-eq0.true
+
+pub returns-then-rows-ne0 : goal.returns-then-rows-ne0
+returns-then-rows-ne0 c = find-ragged _ _ c.if-rows-eq0.false c.if-rows-ne0.true
+
+pub returns-then-rows-gt-ROWS : goal.returns-then-rows-gt-ROWS
+returns-then-rows-gt-ROWS c = find-long _ _ c.if-rows-eq0.false c.if-rows-ne0.false c.if-rows-gt-ROWS.true
+
+pub returns-in-Stopped : goal.returns-in-Stopped
+returns-in-Stopped c = find_stopped _ _ c.if-rows-eq0.false c.if-rows-ne0.false c.if-rows-gt-ROWS.false c.rows.ensures c.in-Stopped.is
+
+pub returns-in-Counted : goal.returns-in-Counted
+returns-in-Counted c = find_last _ _ c.if-rows-eq0.false c.if-rows-ne0.false c.if-rows-gt-ROWS.false c.rows.ensures c.in-Counted.is c.calling-at.ensures c.last.ensures
