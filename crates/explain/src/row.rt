@@ -64,7 +64,7 @@ pub fn open_at(rows: &[u8], row: usize) -> usize {
     while 0 < i {
         i -= 1;
         let kind = at(rows, i).kind;
-        count = std::num::wrapping_add_usize(count, opens(kind, nest));
+        count = count.wrapping_add(opens(kind, nest));
         nest = nest_before(kind, nest);
     }
     count
@@ -91,7 +91,7 @@ fn opens(kind: u8, nest: usize) -> usize {
 // Inside how many closed ones the row before this one stands. One that is still open is left and not counted.
 fn nest_before(kind: u8, nest: usize) -> usize {
     match kind {
-        END => std::num::wrapping_add_usize(nest, 1),
+        END => nest.wrapping_add(1),
         FUNCTION | IF | LOOP | SWITCH => around(nest),
         _ => nest,
     }
