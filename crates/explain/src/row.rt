@@ -58,7 +58,7 @@ pub fn inner(rows: &[u8], row: usize) -> u8 {
 
 // How many functions, ifs, loops and cases of open switches are open before this row, where none of the rows before it is at fault.
 pub fn open_at(rows: &[u8], row: usize) -> usize {
-    let mut count = 0;
+    let mut count: usize = 0;
     let mut nest = 0;
     let mut i = row;
     while 0 < i {
