@@ -4,7 +4,7 @@ ghost use Rattle.std.specs.Prelude.{◌≤◌};
 use rows::WIDTH;
 use rows::kind::{CASE, DEFAULT, ELSE, END, FUNCTION, IF, LOOP, SWITCH};
 
-#[derive(Drop)]
+#[derive(Clone, Copy)]
 pub struct Row {
     pub kind: u8,
     pub op: u8,

@@ -9,7 +9,7 @@ use console::print;
 use line::read;
 
 // How many bytes the buffer then holds, and whether a column had more runs than are drawn one by one.
-#[derive(Drop)]
+#[derive(Clone, Copy)]
 pub struct Drawn {
     pub at: usize,
     pub mixed: bool,

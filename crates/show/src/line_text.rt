@@ -60,7 +60,7 @@ fn word(rt: &impl Print, kind: LineKind, at: usize, text: &mut [u8; 65536]) -> u
 }
 
 // The counters that a line looks at: none, that of region r, or those of r and s.
-#[derive(Drop)]
+#[derive(Clone, Copy)]
 struct Looked {
     count: u8,
     r: u8,

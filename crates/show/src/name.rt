@@ -4,7 +4,7 @@ ghost use Rattle.std.specs.Prelude.{◌+◌, ◌≤◌, length};
 use console::print;
 
 // Its first byte, and how many.
-#[derive(Drop)]
+#[derive(Clone, Copy)]
 pub struct Name {
     pub from: u8,
     pub length: u8,

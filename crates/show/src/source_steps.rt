@@ -22,14 +22,14 @@ use source::{goes, run};
 use state::machine::{Machine, Registers, Stopped, begun};
 
 // Where a walk stopped, and the calls on its way.
-#[derive(Drop)]
+#[derive(Clone, Copy)]
 struct Walked {
     stopped: Stopped,
     calls: u16,
 }
 
 // What is told of a run: the bytes that the buffer then holds, and the calls made.
-#[derive(Drop)]
+#[derive(Clone, Copy)]
 pub struct Told {
     pub at: usize,
     pub calls: u16,
