@@ -26,12 +26,10 @@ use Rattle.rules.proofs.Logic.{clash}
 use Rattle.rules.proofs.Accepted.{refused-not}
 use Rattle.rules.proofs.Encode.{row_drop}
 use Rattle.rules.proofs.Switch.Chain.{given-length, row-given}
-use Rattle.rows.specs.declared.row.Row as code
 use Rattle.rows.specs.Row.{six, test_row}
 use Rattle.rows.proofs.Rows.{rest_all}
 use Rattle.rows.proofs.Six.{read-bytes, test-bytes}
 use Rattle.scan.specs.declared.open.Standing.{Standing}
-use Rattle.scan.specs.declared.open.Next.TheVariants as next
 use Rattle.given.specs.declared.row.After.TheVariants.{Faulty}
 use Rattle.given.specs.declared.sort.Sort.{Sort}
 use Rattle.given.specs.declared.sort.Sort.TheVariants.{Wrong, Plain, Switch, Case, Default}

@@ -8,10 +8,10 @@ use native.Mathlib.Omega.{arith}
 use lib.Dec.{eqb, ltb}
 use lib.ListN.{length, get_or, get_or-eq_default}
 use Rattle.rules.specs.declared.kind.Kind.{Kind}
-use Rattle.rules.specs.declared.kind.Kind.TheVariants.{Do, If, Else, Loop, End, Break, Continue, Call}
+use Rattle.rules.specs.declared.kind.Kind.TheVariants.{If, Else, Loop, End, Break, Continue}
 use Rattle.rules.specs.Bytes.{low, high}
 use Rattle.rules.specs.Row.{kind_byte, row_bytes, table_bytes}
-use Rattle.rules.specs.Line.{Line, ret_line, line_width, lines_in, line_at, is_ret}
+use Rattle.rules.specs.Line.{ret_line, line_width, lines_in, line_at, is_ret}
 use Rattle.rules.specs.Function.{function_at}
 use Rattle.rules.specs.ReadBack.{leaves_to_lem, row_for, begins, function_row_if}
 use Rattle.rules.proofs.Logic.{clash}

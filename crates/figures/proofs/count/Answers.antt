@@ -1,5 +1,4 @@
 use mathlib.Core.Path.{refl, ◌∙◌}
-use Prim.Native.Nat.{◌-◌}
 use Rattle.figures.proofs.Counting.{counting-start, counting_fits, counting_next, counting_all}
 use Rattle.figures.proofs.count.Goals as goal
 

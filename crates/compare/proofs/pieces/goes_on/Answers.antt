@@ -1,4 +1,3 @@
-use Prim.Native.Nat.{◌-◌}
 use Rattle.compare.proofs.Begins.{matched_next, matched_not, matched_end}
 use Rattle.compare.proofs.pieces.goes_on.Goals as goal
 

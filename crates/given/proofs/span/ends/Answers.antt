@@ -1,5 +1,4 @@
 use Rattle.given.proofs.Spans.{ends-refused, ends_on, ends_done, end-bytes}
-use Prim.Native.Nat.{◌-◌}
 use Rattle.given.proofs.span.ends.Goals as goal
 
 pub returns-in-Faulty : goal.returns-in-Faulty

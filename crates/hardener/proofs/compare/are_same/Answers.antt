@@ -1,5 +1,4 @@
 use native.Mathlib.Omega.{arith}
-use Prim.Native.Nat.{◌-◌}
 use Rattle.hardener.proofs.Compares.{same_none, same_next}
 use Rattle.hardener.proofs.compare.are_same.Goals as goal
 

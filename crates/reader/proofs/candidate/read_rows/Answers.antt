@@ -1,4 +1,3 @@
-use Prim.Native.Nat.{◌-◌}
 use native.Mathlib.Omega.{arith}
 use Rattle.rules.specs.Row.{table_bytes}
 use Rattle.rules.specs.ReadBack.{function_row_if}

@@ -1,4 +1,3 @@
-use Prim.Native.Nat.{◌-◌}
 use native.Mathlib.Omega.{arith}
 use Rattle.reader.proofs.Passes.{dos-more}
 use Rattle.reader.proofs.dos.dos.Goals as goal

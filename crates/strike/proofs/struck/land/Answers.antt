@@ -11,10 +11,10 @@ returns-then-last-place c = lands-beyond _ _ _ _ _ c.if-last-place.true
 
 pub run_lines-requires : goal.run_lines-requires
 run_lines-requires c = (
-      c.requires.0,
-      subst (λ x. Going (lines_in c.args.lines.now) c.args.left (parts_in x c.args.counters.now c.args.trace.now)) (sym c.at_line-struck.ensures)
-          (going-there _ _ c.requires.0 _ _ c.requires.1 _ c.if-last-place.false),
-    )
+  c.requires.0,
+  subst (λ x. Going (lines_in c.args.lines.now) c.args.left (parts_in x c.args.counters.now c.args.trace.now)) (sym c.at_line-struck.ensures)
+      (going-there _ _ c.requires.0 _ _ c.requires.1 _ c.if-last-place.false),
+)
 
 pub returns : goal.returns
 returns c = c.run_lines.ensures

@@ -12,10 +12,10 @@ use Rattle.strike.proofs.table.run_mapped.Goals as goal
 
 pub strike-x-requires : goal.strike-x-requires
 strike-x-requires c = (
-      c.requires.0,
-      subst (λ w. Going (lines_in c.args.lines.now) c.args.budget (parts_in c.begun-start.result w c.args.trace.now)) (sym c.fresh.ensures)
-          (going_start c.args.lines.now c.args.variables c.args.words.now c.args.trace.now _ c.requires.0.sound c.begun-start.ensures c.requires.2 c.args.budget c.requires.1 (omega (arith, c.ranges))),
-    )
+  c.requires.0,
+  subst (λ w. Going (lines_in c.args.lines.now) c.args.budget (parts_in c.begun-start.result w c.args.trace.now)) (sym c.fresh.ensures)
+      (going_start c.args.lines.now c.args.variables c.args.words.now c.args.trace.now _ c.requires.0.sound c.begun-start.ensures c.requires.2 c.args.budget c.requires.1 (omega (arith, c.ranges))),
+)
 
 pub returns : goal.returns
 returns c = let m = map_of c.args.starts.now c.args.owners.now c.args.home in
