@@ -7,7 +7,7 @@ use native.Mathlib.Nat.{add-zero, not-suc-le-zero}
 use native.Mathlib.Omega.{arith}
 use lib.Dec.{eqb}
 use lib.ListN.{length, get_or}
-use Rattle.rules.specs.Line.{Line, line_width, line_in_lem, lines_from, lines_in, line_at, is_ret}
+use Rattle.rules.specs.Line.{line_width, line_in_lem, lines_from, lines_in, line_at, is_ret}
 use Rattle.line.specs.declared.Line as Declared
 use Rattle.line.specs.declared.kind.LineKind.{LineKind}
 use Rattle.line.specs.declared.kind.LineKind.TheVariants.{Do, Tick, Test, Leave, Out, Call, Back, Ret}

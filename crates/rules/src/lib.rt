@@ -1,5 +1,6 @@
 // The types that the definitions and the code share, what reads a word, and the numbers of the causes.
 #![tactic(auto)]
+
 pub mod answer;
 pub mod bytes;
 pub mod computed;

@@ -9,7 +9,7 @@ use Rattle.rules.specs.declared.kind.Kind.{Kind}
 use Rattle.rules.specs.declared.kind.Kind.TheVariants.{Else, End}
 use Rattle.rules.specs.Row.{Table, kind_at}
 use Rattle.rules.specs.Scan.{Part, body, then_part, else_part, loop_body, Open, regions, open_at, body_region, end_of}
-use Rattle.rules.specs.Value.{inside, past, takes, value}
+use Rattle.rules.specs.Value.{past, takes, value}
 use Rattle.rules.specs.Line.{Line, leave_line, line_at}
 use Rattle.rules.specs.Harden.{line_count, line_of, end_line, row_lines, harden}
 use Rattle.rules.specs.State.{Frame}

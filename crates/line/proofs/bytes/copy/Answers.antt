@@ -1,7 +1,6 @@
 use Rattle.line.proofs.Puts.{copies}
 use borrow.Author.Rules.{rules}
 use native.Mathlib.Omega.{arith}
-use Prim.Native.Nat.{◌-◌}
 use lib.ListN.{length-set}
 use Rattle.line.proofs.bytes.copy.Goals as goal
 

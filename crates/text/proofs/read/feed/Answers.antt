@@ -1,4 +1,3 @@
-use Prim.Native.Nat.{◌-◌}
 use Rattle.text.proofs.Feeding.{upto-none, upto-more}
 use Rattle.text.proofs.read.feed.Goals as goal
 

@@ -1,4 +1,3 @@
-use Prim.Native.Nat.{◌-◌}
 use Rattle.text.proofs.Groups.{lines_none, lines_more, lines_all, next-group}
 use Rattle.text.proofs.write.listing.Goals as goal
 

@@ -1,4 +1,3 @@
-use Prim.Native.Nat.{◌-◌}
 use Rattle.text.proofs.Putting.{line-none, line-more, line-all}
 use Rattle.text.proofs.write.put_line.Goals as goal
 
