@@ -1,5 +1,5 @@
 // The command line of the program `run`: which run, and with what. The loop over the words is `sweep`'s too.
-ghost use Rattle.std.specs.Prelude.{◌≡◌, length};
+ghost use Rattle.std.specs.Prelude.{◌≡◌, ◌≤◌, length};
 
 use crate::word;
 use crate::word::Word;
@@ -7,10 +7,11 @@ use crate::wrong::Expected;
 use console::number::Number;
 use console::word::is;
 use rules::limits::{NO_STEP, VARIABLES};
+use std::env::{Env, FillError};
 
 // A budget, a jump, a function, `trace`, `show`, `list` and `map` are given once at most. A sweep has no jump, `trace` or `show`, a run no
 // `list`, `map` or function.
-#[derive(Drop)]
+#[derive(Clone, Copy)]
 pub struct Asked {
     pub hardened: bool,
     pub sweep: bool,
@@ -28,44 +29,52 @@ pub struct Asked {
 }
 
 // What was expected in a word's place, and how many of its bytes the buffer holds.
-#[derive(Drop)]
+#[derive(Clone, Copy)]
 pub struct Fault {
     pub expected: Expected,
     pub length: usize,
 }
 
-#[derive(Drop)]
+#[derive(Clone, Copy)]
 pub enum Given {
     Wrong(Fault),
     Right(Asked),
 }
 
 // What is asked with one word more, or what was expected in its place.
-#[derive(Drop)]
+#[derive(Clone, Copy)]
 pub enum Taken {
     Wrong(Expected),
     Right(Asked),
 }
 
 // Reads each word into the buffer, where the first wrong one stays.
-pub fn read(buffer: &mut [u8], variables: &mut [u16; VARIABLES]) -> Given
+pub fn read(rt: &impl Env, buffer: &mut [u8], variables: &mut [u16; VARIABLES]) -> Given
     requires { 4096 ≡ length buffer.old }
 {
-    let n = os::arg(1, buffer);
-    if is_long() {
-        return wrong(Expected::Shorter, 4096);
+    match rt.arg(1, buffer) {
+        Ok(n) => read_first(rt, n, buffer, variables),
+        Err(FillError::NotPresent) => wrong(Expected::Run, 0),
+        Err(FillError::TooLong) => wrong(Expected::Shorter, 4096),
     }
+}
+
+// The first word has this length.
+fn read_first(rt: &impl Env, n: usize, buffer: &mut [u8], variables: &mut [u16; VARIABLES]) -> Given
+    requires { (4096 ≡ length buffer.old) × (n ≤ 4096) }
+{
     if is(&buffer[..n], b"source") {
-        return read_rest(2, begun(false), buffer, variables);
+        return read_rest(rt, 2, begun(false), buffer, variables);
     }
     if is(&buffer[..n], b"hardened") {
-        return read_rest(2, begun(true), buffer, variables);
+        return read_rest(rt, 2, begun(true), buffer, variables);
     }
     wrong(Expected::Run, n)
 }
 
 // The words from the one with this number on, which is 2 in a run and 1 in a sweep.
 pub fn read_rest(
+    rt: &impl Env,
     first: usize,
     start: Asked,
     buffer: &mut [u8],
@@ -73,28 +82,21 @@ pub fn read_rest(
 ) -> Given
     requires { 4096 ≡ length buffer.old }
 {
-    let count = os::arg_count();
     let mut seen = [0u8; VARIABLES];
     let mut asked = start;
-    let mut i = first;
-    while i < count {
-        let n = os::arg(i, buffer);
-        if is_long() {
-            return wrong(Expected::Shorter, 4096);
-        }
+    for i in first..usize::MAX {
+        let n = match rt.arg(i, buffer) {
+            Ok(n) => n,
+            Err(FillError::NotPresent) => return Given::Right(asked),
+            Err(FillError::TooLong) => return wrong(Expected::Shorter, 4096),
+        };
         let w = word::read(&buffer[..n], asked.sweep);
         match take(w, asked, variables, &mut seen) {
             Taken::Wrong(e) => return wrong(e, n),
             Taken::Right(a) => asked = a,
         }
-        i += 1;
     }
     Given::Right(asked)
-}
-
-// Whether the last argument read was longer than the buffer.
-fn is_long() -> bool {
-    os::errno() == libc::ENAMETOOLONG
 }
 
 fn wrong(expected: Expected, length: usize) -> Given {

@@ -4,8 +4,9 @@ ghost use Rattle.std.specs.Prelude.{◌≡◌, length};
 use crate::arguments;
 use crate::arguments::{Asked, Fault, Given};
 use rules::limits::VARIABLES;
+use std::env::Env;
 
-#[derive(Drop)]
+#[derive(Clone, Copy)]
 pub struct SweepAsked {
     pub list: bool,
     pub map: bool,
@@ -14,7 +15,7 @@ pub struct SweepAsked {
 }
 
 // `Mapless` is a function that is named with no map to draw.
-#[derive(Drop)]
+#[derive(Clone, Copy)]
 pub enum SweepGiven {
     Wrong(Fault),
     Mapless,
@@ -22,12 +23,12 @@ pub enum SweepGiven {
 }
 
 // Reads each word into the buffer, where the first wrong one stays.
-pub fn read(buffer: &mut [u8], variables: &mut [u16; VARIABLES]) -> SweepGiven
+pub fn read(rt: &impl Env, buffer: &mut [u8], variables: &mut [u16; VARIABLES]) -> SweepGiven
     requires { 4096 ≡ length buffer.old }
 {
     let mut start = arguments::begun(true);
     start.sweep = true;
-    match arguments::read_rest(1, start, buffer, variables) {
+    match arguments::read_rest(rt, 1, start, buffer, variables) {
         Given::Wrong(f) => SweepGiven::Wrong(f),
         Given::Right(a) => given(a),
     }

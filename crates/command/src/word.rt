@@ -3,7 +3,7 @@ use crate::wrong::Expected;
 use console::number::{Number, decimal};
 use console::word::{find, is, skip};
 
-#[derive(Drop)]
+#[derive(Clone, Copy)]
 pub enum Word {
     Budget(u16),
     // a variable's number, which may be too large, and its value

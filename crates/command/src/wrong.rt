@@ -1,6 +1,6 @@
 // The line for a wrong word, on standard error: the word, and what is expected there.
 
-#[derive(Drop)]
+#[derive(Clone, Copy)]
 pub enum Expected {
     // the first word
     Run,

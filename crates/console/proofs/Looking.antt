@@ -1,10 +1,7 @@
 -- What is wrong with a byte, by the code's tests of it, and a text that is looked at byte by byte. Assumes nothing.
-use Rattle.std.proofs.Common.{◌≡◌, ℕ, suc, ◌+◌, ◌%◌, ◌^◌, ◌<◌, ◌≤◌, true, false, ◌⊎◌, List, [], ◌∷◌, ◌++◌, length, get_or, drop, sym, refl, ap, ◌∙◌, inl, inr, ⊎_elim, add-one, arith, drop_of_length-le, drop-cons, le-ltb, lt-ltb, eq-eqb, ne_eqb, le-leb}
+use Rattle.std.proofs.Common.{◌≡◌, ℕ, suc, ◌+◌, ◌%◌, ◌^◌, ◌<◌, ◌≤◌, true, false, ◌⊎◌, List, [], ◌∷◌, ◌++◌, length, get_or, drop, sym, refl, ap, ◌∙◌, inl, inr, add-one, arith, drop_of_length-le, drop-cons, le-ltb, lt-ltb, eq-eqb, ne_eqb, le-leb}
 use mathlib.Core.Bool.{and-false}
 use borrow.Author.Tests.{lt-leb}
-use denote.Enum.Declared.{tag_of}
-use types.Run.{OneOf}
-use Rattle.console.specs.contracts.malformed.Wrong.{the_type}
 use Rattle.console.specs.declared.malformed.Seen.{Seen}
 use Rattle.console.specs.declared.malformed.Wrong.{Wrong}
 use Rattle.console.specs.declared.malformed.Wrong.TheVariants.{Nothing, CarriageReturn, Long, Uppercase, Space, Other, Empty, Short}
@@ -102,23 +99,9 @@ module _ (b : ℕ) (s : Seen) {m : ℕ} where
   unfolding behind_byte
   behind-digit e k = rw (ne_eqb b 10 e, k)
 
--- what the code's test of an enum says
-pub fine : (w : Wrong) → tag_of the_type w ≡ 0 → is_wrong w ≡ false
-fine Nothing k = refl
-fine CarriageReturn k = absurd (let z : ⊥ = omega arith in z)
-fine Long k = absurd (let z : ⊥ = omega arith in z)
-fine Uppercase k = absurd (let z : ⊥ = omega arith in z)
-fine Space k = absurd (let z : ⊥ = omega arith in z)
-fine Other k = absurd (let z : ⊥ = omega arith in z)
-fine Empty k = absurd (let z : ⊥ = omega arith in z)
-fine Short k = absurd (let z : ⊥ = omega arith in z)
-
-pub not-fine : (w : Wrong) → OneOf (1 ∷ 2 ∷ 3 ∷ 4 ∷ 5 ∷ 6 ∷ 7 ∷ []) (tag_of the_type w) → is_wrong w ≡ true
-not-fine Nothing k =
-    absurd
-    (⊎_elim (λ z. omega arith)
-    (⊎_elim (λ z. omega arith)
-    (⊎_elim (λ z. omega arith) (⊎_elim (λ z. omega arith) (⊎_elim (λ z. omega arith) (⊎_elim (λ z. omega arith) (λ z. omega arith)))))) k)
+-- all but one of them are wrong
+pub not-fine : (w : Wrong) → (w ≡ Nothing → ⊥) → is_wrong w ≡ true
+not-fine Nothing k = absurd (k refl)
 not-fine CarriageReturn k = refl
 not-fine Long k = refl
 not-fine Uppercase k = refl

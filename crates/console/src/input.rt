@@ -3,66 +3,70 @@ ghost use Rattle.std.specs.Prelude.{◌≡◌, ◌≤◌, length};
 ghost use Rattle.console.specs.Input.{read_at_end, Kept};
 
 use crate::malformed::Seen;
-use crate::{malformed, output};
+use crate::{failure, malformed, output};
+use std::io::Read as _;
 use text::read;
 use text::read::Reader;
 
 // What was read: how many bytes, where those that the buffer does not hold are not counted; or nothing to go on with, which was told.
-#[derive(Drop)]
+#[derive(Clone, Copy)]
 pub enum Read {
     Bytes(usize),
     Nothing,
 }
 
 // Rows of 12 digits. There is room for 1,025: one more than a table may have, so that a longer one still meets 2.
-pub fn take_rows(chunk: &mut [u8], bytes: &mut [u8]) -> Read
+pub fn take_rows(rt: &(impl Input + Print), chunk: &mut [u8], bytes: &mut [u8]) -> Read
     requires { 65536 ≡ length bytes.old }
     ensures { Kept 12 6150 bytes.new result }
 {
-    take(12, chunk, &mut bytes[..6150])
+    take(rt, 12, chunk, &mut bytes[..6150])
 }
 
 // Lines of 40 digits. There is room for 2,049: one more than a hardened table may have, so that a longer one still meets 10.
-pub fn take_lines(chunk: &mut [u8], bytes: &mut [u8]) -> Read
+pub fn take_lines(rt: &(impl Input + Print), chunk: &mut [u8], bytes: &mut [u8]) -> Read
     requires { 65536 ≡ length bytes.old }
     ensures { Kept 40 40980 bytes.new result }
 {
-    take(40, chunk, &mut bytes[..40980])
+    take(rt, 40, chunk, &mut bytes[..40980])
 }
 
 // Each line has so many digits.
-fn take(digits: usize, chunk: &mut [u8], bytes: &mut [u8]) -> Read
+fn take(rt: &(impl Input + Print), digits: usize, chunk: &mut [u8], bytes: &mut [u8]) -> Read
     requires { digits ≤ 40 }
     ensures { Kept digits (length bytes.old) bytes.new result }
 {
     let mut r = read::start();
     let mut seen = malformed::start();
+    let mut reader = rt.reader();
     let mut reads: u64 = 0;
     while reads < 18446744073709551615 {
-        let got = libc::read(0, chunk);
-        if got < 0 {
-            os::fail(b"cannot read standard input");
-            return Read::Nothing;
-        }
-        let n = io::count(got, chunk);
+        let n = match reader.read(chunk) {
+            Ok(n) => n,
+            Err(e) => {
+                failure::tell(b"cannot read standard input", e);
+                return Read::Nothing;
+            }
+        };
         if n == 0 {
-            return ended(r, seen, digits);
+            return ended(rt, r, seen, digits);
         }
         r = read::feed(&chunk[..n], digits, r, bytes);
         seen = malformed::look(&chunk[..n], digits, seen);
         reads += 1;
     }
-    ended(r, seen, digits)
+    ended(rt, r, seen, digits)
 }
 
 // The input ends here.
-fn ended(r: Reader, seen: Seen, digits: usize) -> Read
+fn ended(rt: &impl Print, r: Reader, seen: Seen, digits: usize) -> Read
     ensures { result ≡ read_at_end digits r }
 {
+    let length = r.length;
     if read::is_good(r, digits) {
-        return Read::Bytes(r.length);
+        return Read::Bytes(length);
     }
     malformed::tell(seen, digits);
-    output::answer(b"unreadable\n");
+    output::answer(rt, b"unreadable\n");
     Read::Nothing
 }

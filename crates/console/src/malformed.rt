@@ -3,7 +3,7 @@ ghost use Rattle.std.specs.Prelude.{◌≡◌};
 ghost use Rattle.console.specs.Malformed.{at_first_lem, look_on, next_seen, behind_byte, wrong_byte_lem, wrong_end_lem, wrong_digit_lem};
 
 // What is wrong with a byte, by what stands before it on its line.
-#[derive(Drop)]
+#[derive(Clone, Copy)]
 enum Wrong {
     Nothing,
     CarriageReturn,
@@ -16,7 +16,7 @@ enum Wrong {
 }
 
 // The line, counted from 1, and its digits so far; nothing is counted behind a wrong byte.
-#[derive(Drop)]
+#[derive(Clone, Copy)]
 pub struct Seen {
     line: u64,
     column: usize,
@@ -69,14 +69,14 @@ fn behind(b: u8, s: Seen) -> Seen
 {
     if b == b'\n' {
         return Seen {
-            line: std::num::wrapping_add_u64(s.line, 1),
+            line: s.line.wrapping_add(1),
             column: 0,
             wrong: Wrong::Nothing,
         };
     }
     Seen {
         line: s.line,
-        column: std::num::wrapping_add_usize(s.column, 1),
+        column: s.column.wrapping_add(1),
         wrong: Wrong::Nothing,
     }
 }

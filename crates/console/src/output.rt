@@ -3,6 +3,7 @@ ghost use Rattle.std.specs.Prelude.{◌≡◌, ◌≤◌, min, ◌++◌, length,
 ghost use Rattle.io.specs.Counts.{IsPrefixLen};
 ghost use Rattle.text.specs.Listing.{refused_text};
 
+use crate::failure;
 use text::write;
 
 pub fn least(a: usize, b: usize) -> usize
@@ -22,25 +23,27 @@ pub fn within(n: usize, buffer: &[u8]) -> usize
 }
 
 // Every answer goes this way: where it can't be written that is said, once, and the caller writes no more.
-pub fn answer(bytes: &[u8]) -> bool {
-    if io::write_all(1, bytes) {
-        return true;
+pub fn answer(rt: &impl Print, bytes: &[u8]) -> bool {
+    match rt.write_all(bytes) {
+        Ok(()) => true,
+        Err(e) => {
+            failure::tell(b"cannot write standard output", e);
+            false
+        }
     }
-    os::fail(b"cannot write standard output");
-    false
 }
 
 // The first so many bytes of a buffer.
-pub fn answer_front(n: usize, buffer: &[u8]) -> bool {
+pub fn answer_front(rt: &impl Print, n: usize, buffer: &[u8]) -> bool {
     let all = within(n, buffer);
-    answer(&buffer[..all])
+    answer(rt, &buffer[..all])
 }
 
 // `refused N`
-pub fn refused(number: u8, text: &mut [u8])
+pub fn refused(rt: &impl Print, number: u8, text: &mut [u8])
     requires { 65536 ≡ length text.old }
     ensures { text.new ≡ refused_text number ++ drop (length (refused_text number)) text.old }
 {
     let n = write::refusal(number, text);
-    answer_front(n, text);
+    answer_front(rt, n, text);
 }

@@ -13,7 +13,7 @@ use Rattle.rules.specs.Row.{Table, table_of, kind_at, operands_at}
 use Rattle.rules.specs.Scan.{Open, open_at, regions, body_region, opener_of, local, end_of, else_of}
 use Rattle.rules.specs.Value.{base}
 use Rattle.rules.specs.Check.{is_outside, misplaced_in}
-use Rattle.rules.specs.Line.{Line, do_line, tick_line, test_line, line_at}
+use Rattle.rules.specs.Line.{do_line, tick_line, test_line, line_at}
 use Rattle.rules.specs.Harden.{line_of, test_of, row_lines}
 use Rattle.rules.specs.Links.{is_opening, else_link}
 use Rattle.rules.proofs.Logic.{clash}

@@ -5,30 +5,37 @@ use console::print;
 use rows::kind::{DO, IF, LOOP, SWITCH};
 
 // The first wrong field of op, p, q and n, what it is, and what it may be. A call's or a case's n is never wrong.
-pub fn put(r: Row, at: usize, text: &mut [u8; 65536]) -> usize {
+pub fn put(rt: &impl Print, r: Row, at: usize, text: &mut [u8; 65536]) -> usize {
     let op = largest_op(r.kind);
     if op < r.op {
-        return field(b"op is ", r.op as u16, op as u16, at, text);
+        return field(rt, b"op is ", r.op as u16, op as u16, at, text);
     }
     let p = largest_p(r.kind);
     if p < r.p {
-        return field(b"p is ", r.p as u16, p as u16, at, text);
+        return field(rt, b"p is ", r.p as u16, p as u16, at, text);
     }
     let q = largest_q(r.kind, r.op);
     if q < r.q {
-        return field(b"q is ", r.q as u16, q as u16, at, text);
+        return field(rt, b"q is ", r.q as u16, q as u16, at, text);
     }
-    field(b"n is ", r.n, 0, at, text)
+    field(rt, b"n is ", r.n, 0, at, text)
 }
 
 // `p is 16, not 0 to 15`, `n is 700, not 0`
-fn field(name: &[u8], value: u16, most: u16, at: usize, text: &mut [u8; 65536]) -> usize {
-    let is = print::named(name, value, at, text);
-    let not = print::word(b", not 0", is, text);
+fn field(
+    rt: &impl Print,
+    name: &[u8],
+    value: u16,
+    most: u16,
+    at: usize,
+    text: &mut [u8; 65536],
+) -> usize {
+    let is = print::named(rt, name, value, at, text);
+    let not = print::word(rt, b", not 0", is, text);
     if most == 0 {
         return not;
     }
-    print::named(b" to ", most, not, text)
+    print::named(rt, b" to ", most, not, text)
 }
 
 fn largest_op(kind: u8) -> u8 {

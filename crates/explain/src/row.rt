@@ -4,7 +4,7 @@ ghost use Rattle.std.specs.Prelude.{◌≤◌};
 use rows::WIDTH;
 use rows::kind::{CASE, DEFAULT, ELSE, END, FUNCTION, IF, LOOP, SWITCH};
 
-#[derive(Drop)]
+#[derive(Clone, Copy)]
 pub struct Row {
     pub kind: u8,
     pub op: u8,
@@ -58,13 +58,13 @@ pub fn inner(rows: &[u8], row: usize) -> u8 {
 
 // How many functions, ifs, loops and cases of open switches are open before this row, where none of the rows before it is at fault.
 pub fn open_at(rows: &[u8], row: usize) -> usize {
-    let mut count = 0;
+    let mut count: usize = 0;
     let mut nest = 0;
     let mut i = row;
     while 0 < i {
         i -= 1;
         let kind = at(rows, i).kind;
-        count = std::num::wrapping_add_usize(count, opens(kind, nest));
+        count = count.wrapping_add(opens(kind, nest));
         nest = nest_before(kind, nest);
     }
     count
@@ -91,7 +91,7 @@ fn opens(kind: u8, nest: usize) -> usize {
 // Inside how many closed ones the row before this one stands. One that is still open is left and not counted.
 fn nest_before(kind: u8, nest: usize) -> usize {
     match kind {
-        END => std::num::wrapping_add_usize(nest, 1),
+        END => nest.wrapping_add(1),
         FUNCTION | IF | LOOP | SWITCH => around(nest),
         _ => nest,
     }

@@ -11,7 +11,7 @@ use lib.Dec.{eqb}
 use Rattle.rules.specs.declared.kind.Kind.{Kind}
 use Rattle.rules.specs.declared.kind.Kind.TheVariants.{Call}
 use Rattle.rules.specs.Row.{table_of, kind_at, operands_at}
-use Rattle.rules.specs.Scan.{Part, body, loop_body, Open, pushes, shape_of, regions, open_at, region_of, body_region, opener_of, around, from_loop, end_of, function_count, function_row}
+use Rattle.rules.specs.Scan.{Part, loop_body, Open, pushes, shape_of, regions, open_at, region_of, body_region, opener_of, around, from_loop, end_of, function_count, function_row}
 use Rattle.rules.specs.Value.{base, value}
 use Rattle.rules.specs.Check.{is_outside}
 use Rattle.rules.specs.Harden.{line_of}

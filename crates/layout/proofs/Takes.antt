@@ -8,7 +8,7 @@ use lib.ListN.{length}
 use Rattle.rules.specs.declared.kind.Kind.{Kind}
 use Rattle.rules.specs.declared.kind.Kind.TheVariants.{Function, Do, If, Else, Loop, End, Break, Continue, Call, Unknown}
 use Rattle.rules.specs.Row.{Table, table_of, kind_at}
-use Rattle.rules.specs.Scan.{Part, body, Open, open_at, regions, region_of, body_region}
+use Rattle.rules.specs.Scan.{Part, Open, open_at, regions, region_of, body_region}
 use Rattle.rules.specs.Value.{takes, takes_in}
 use Rattle.rules.specs.Check.{is_outside, misplaced_in}
 use Rattle.rules.proofs.Scan.{Chain, chain, body-least}

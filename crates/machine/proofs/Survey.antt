@@ -14,7 +14,6 @@ use Rattle.rules.specs.Line.{Line, lines_in, line_at, is_ret}
 use Rattle.rules.specs.Function.{function_at, start_of}
 use Rattle.rules.proofs.Search.{first_is}
 use Rattle.rules.proofs.Place.{function-at-next, function-at-mono}
-use Rattle.line.specs.declared.Line as Declared
 use Rattle.line.specs.Read.{line_kind_at, struct_at, ends_function_lem}
 use Rattle.machine.specs.Map.{Passed, passed, passed_of}
 use Rattle.machine.specs.Stands.{Sound, Located}

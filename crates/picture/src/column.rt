@@ -9,43 +9,71 @@ use console::print;
 use line::read;
 
 // How many bytes the buffer then holds, and whether a column had more runs than are drawn one by one.
-#[derive(Drop)]
+#[derive(Clone, Copy)]
 pub struct Drawn {
     pub at: usize,
     pub mixed: bool,
 }
 
-fn open(class: u8, at: usize, text: &mut [u8; 65536]) -> usize {
-    let path = print::word(b"<path class=\"", at, text);
-    let classed = print::put(class, path, text);
-    print::word(b"\" d=\"", classed, text)
+fn open(rt: &impl Print, class: u8, at: usize, text: &mut [u8; 65536]) -> usize {
+    let path = print::word(rt, b"<path class=\"", at, text);
+    let classed = print::put(rt, class, path, text);
+    print::word(rt, b"\" d=\"", classed, text)
 }
 
-fn close(at: usize, text: &mut [u8; 65536]) -> usize {
-    print::word(b"\"/>\n", at, text)
+fn close(rt: &impl Print, at: usize, text: &mut [u8; 65536]) -> usize {
+    print::word(rt, b"\"/>\n", at, text)
 }
 
 // The places where the run stood: every strike out of them to a wide place is an alarm, but for those that are drawn over it.
-pub fn stood(cells: &[u8], width: u16, at: usize, text: &mut [u8; 65536]) -> usize {
-    let opened = open(b'a', at, text);
-    let drawn = runs::pieces(runs::STRUCK, cells, 0, width, opened, text);
-    close(drawn, text)
+pub fn stood(
+    rt: &impl Print,
+    cells: &[u8],
+    width: u16,
+    at: usize,
+    text: &mut [u8; 65536],
+) -> usize {
+    let opened = open(rt, b'a', at, text);
+    let drawn = runs::pieces(rt, runs::STRUCK, cells, 0, width, opened, text);
+    close(rt, drawn, text)
 }
 
 // The cells of one rank, where there are any.
-fn path(class: u8, r: u8, cells: &[u8], place: u16, at: usize, text: &mut [u8; 65536]) -> usize {
+fn path(
+    rt: &impl Print,
+    class: u8,
+    r: u8,
+    cells: &[u8],
+    place: u16,
+    at: usize,
+    text: &mut [u8; 65536],
+) -> usize {
     if runs::behind_last(r, cells) == 0 {
         return at;
     }
-    let opened = open(class, at, text);
-    let drawn = runs::pieces(r, cells, place, 1, opened, text);
-    close(drawn, text)
+    let opened = open(rt, class, at, text);
+    let drawn = runs::pieces(rt, r, cells, place, 1, opened, text);
+    close(rt, drawn, text)
 }
 
 // Eight runs at most, so that the picture stays small: all behind them is one piece of another class.
-fn unfinished(cells: &[u8], place: u16, before: Drawn, text: &mut [u8; 65536]) -> Drawn {
+fn unfinished(
+    rt: &impl Print,
+    cells: &[u8],
+    place: u16,
+    before: Drawn,
+    text: &mut [u8; 65536],
+) -> Drawn {
     let n = runs::ninth(rank::UNFINISHED, cells);
-    let eight = path(b'u', rank::UNFINISHED, &cells[..n], place, before.at, text);
+    let eight = path(
+        rt,
+        b'u',
+        rank::UNFINISHED,
+        &cells[..n],
+        place,
+        before.at,
+        text,
+    );
     let last = runs::behind_last(rank::UNFINISHED, cells);
     if last <= n {
         return Drawn {
@@ -53,16 +81,17 @@ fn unfinished(cells: &[u8], place: u16, before: Drawn, text: &mut [u8; 65536]) -
             mixed: before.mixed,
         };
     }
-    let opened = open(b'x', eight, text);
-    let drawn = runs::piece(place, 1, n, last, opened, text);
+    let opened = open(rt, b'x', eight, text);
+    let drawn = runs::piece(rt, place, 1, n, last, opened, text);
     Drawn {
-        at: close(drawn, text),
+        at: close(rt, drawn, text),
         mixed: true,
     }
 }
 
 // Place m has no line.
 fn labels(
+    rt: &impl Print,
     lines: &[u8],
     first: u16,
     place: u16,
@@ -76,12 +105,13 @@ fn labels(
         return at;
     }
     let kind = read::kind_at(lines, first + place);
-    let named = label::line(place, kind, at, text);
-    label::narrow(lines, first, place, kind, cells, named, text)
+    let named = label::line(rt, place, kind, at, text);
+    label::narrow(rt, lines, first, place, kind, cells, named, text)
 }
 
 // The column of this place of the function whose lines begin with `first`; a cell for each of them.
 pub fn draw(
+    rt: &impl Print,
     lines: &[u8],
     first: u16,
     place: u16,
@@ -91,12 +121,12 @@ pub fn draw(
 ) -> Drawn
     requires { (first + length cells.now ≤ max_lines) × (line_width * (first + length cells.now) ≤ length lines.now) }
 {
-    let u = unfinished(cells, place, before, text);
-    let s = path(b's', rank::SAME, cells, place, u.at, text);
-    let o = path(b'o', rank::OTHER, cells, place, s, text);
-    let l = labels(lines, first, place, cells, o, text);
+    let u = unfinished(rt, cells, place, before, text);
+    let s = path(rt, b's', rank::SAME, cells, place, u.at, text);
+    let o = path(rt, b'o', rank::OTHER, cells, place, s, text);
+    let l = labels(rt, lines, first, place, cells, o, text);
     Drawn {
-        at: label::number(place, l, text),
+        at: label::number(rt, place, l, text),
         mixed: u.mixed,
     }
 }

@@ -32,6 +32,7 @@ pub fn last_of(
 
 // Up to the columns. Where the run stood is told by any of them.
 fn background(
+    rt: &impl Print,
     lines: &[u8],
     starts: &[u16; FUNCTIONS + 1],
     owners: &[u8; LINES + 1],
@@ -54,13 +55,14 @@ fn background(
     let c = cells(
         lines, starts, owners, home, variables, budget, trace, function, 0, counters, spare, rows,
     );
-    let begun = frame::begin(function, m, 0, text);
+    let begun = frame::begin(rt, function, m, 0, text);
     let own = &c[from as usize..to as usize];
-    let stood = column::stood(own, m + 1, begun, text);
-    frame::fifths(m, stood, text)
+    let stood = column::stood(rt, own, m + 1, begun, text);
+    frame::fifths(rt, m, stood, text)
 }
 
 fn columns(
+    rt: &impl Print,
     lines: &[u8],
     starts: &[u16; FUNCTIONS + 1],
     owners: &[u8; LINES + 1],
@@ -87,7 +89,15 @@ fn columns(
             lines, starts, owners, home, variables, budget, trace, function, place, counters,
             spare, rows,
         );
-        d = column::draw(lines, from, place, &c[from as usize..to as usize], d, text);
+        d = column::draw(
+            rt,
+            lines,
+            from,
+            place,
+            &c[from as usize..to as usize],
+            d,
+            text,
+        );
         place += 1;
     }
     d
@@ -95,6 +105,7 @@ fn columns(
 
 // How many bytes the buffer then holds, the picture behind those that were written out.
 pub fn draw(
+    rt: &impl Print,
     lines: &[u8],
     starts: &[u16; FUNCTIONS + 1],
     owners: &[u8; LINES + 1],
@@ -112,14 +123,14 @@ pub fn draw(
     requires { (Ready lines.now (map_of starts.now owners.now home)) × (is_hardened_lem lines.now ≡ true) × (Finishes (lines_in lines.now) variables budget trace.now) × (function < function_at (lines_in lines.now) (length (lines_in lines.now))) × (length counters.old ≡ counter_words) × (length spare.old ≡ counter_words) × (length rows.old ≡ piece_steps) }
 {
     let at = background(
-        lines, starts, owners, home, variables, budget, trace, function, counters, spare, rows,
+        rt, lines, starts, owners, home, variables, budget, trace, function, counters, spare, rows,
         text,
     );
     let d = columns(
-        lines, starts, owners, home, variables, budget, trace, function, counters, spare, rows, at,
-        text,
+        rt, lines, starts, owners, home, variables, budget, trace, function, counters, spare, rows,
+        at, text,
     );
     let f = function as usize;
     let m = starts[f + 1] - starts[f];
-    frame::end(swept, m, d.mixed, d.at, text)
+    frame::end(rt, swept, m, d.mixed, d.at, text)
 }

@@ -7,38 +7,45 @@ use console::print;
 use line::kind::LineKind;
 use line::read;
 
-fn kind_name(kind: LineKind, at: usize, text: &mut [u8; 65536]) -> usize {
+fn kind_name(rt: &impl Print, kind: LineKind, at: usize, text: &mut [u8; 65536]) -> usize {
     match kind {
-        LineKind::Do => print::word(b" do", at, text),
-        LineKind::Tick => print::word(b" tick", at, text),
-        LineKind::Test => print::word(b" test", at, text),
-        LineKind::Leave => print::word(b" leave", at, text),
-        LineKind::Out => print::word(b" out", at, text),
-        LineKind::Call => print::word(b" call", at, text),
-        LineKind::Back => print::word(b" back", at, text),
-        LineKind::Ret => print::word(b" ret", at, text),
+        LineKind::Do => print::word(rt, b" do", at, text),
+        LineKind::Tick => print::word(rt, b" tick", at, text),
+        LineKind::Test => print::word(rt, b" test", at, text),
+        LineKind::Leave => print::word(rt, b" leave", at, text),
+        LineKind::Out => print::word(rt, b" out", at, text),
+        LineKind::Call => print::word(rt, b" call", at, text),
+        LineKind::Back => print::word(rt, b" back", at, text),
+        LineKind::Ret => print::word(rt, b" ret", at, text),
     }
 }
 
 // The line before this place.
-pub fn line(place: u16, kind: LineKind, at: usize, text: &mut [u8; 65536]) -> usize {
-    let y = print::named(b"<text class=\"l\" x=\"-.4\" y=\"", place, at, text);
-    let number = print::named(b".8\">", place, y, text);
-    let named = kind_name(kind, number, text);
-    print::word(b"</text>\n", named, text)
+pub fn line(
+    rt: &impl Print,
+    place: u16,
+    kind: LineKind,
+    at: usize,
+    text: &mut [u8; 65536],
+) -> usize {
+    let y = print::named(rt, b"<text class=\"l\" x=\"-.4\" y=\"", place, at, text);
+    let number = print::named(rt, b".8\">", place, y, text);
+    let named = kind_name(rt, kind, number, text);
+    print::word(rt, b"</text>\n", named, text)
 }
 
 // The label's class, by what became of the jump.
-fn class(r: u8, at: usize, text: &mut [u8; 65536]) -> usize {
+fn class(rt: &impl Print, r: u8, at: usize, text: &mut [u8; 65536]) -> usize {
     match r {
-        rank::OTHER => print::word(b"<text class=\"mo\"", at, text),
-        rank::UNFINISHED => print::word(b"<text class=\"mu\"", at, text),
-        _ => print::word(b"<text class=\"ms\"", at, text),
+        rank::OTHER => print::word(rt, b"<text class=\"mo\"", at, text),
+        rank::UNFINISHED => print::word(rt, b"<text class=\"mu\"", at, text),
+        _ => print::word(rt, b"<text class=\"ms\"", at, text),
     }
 }
 
 // The do of this line is crossed by the jump out of place y; nothing where the run never stood there.
 fn crossed(
+    rt: &impl Print,
     lines: &[u8],
     line: u16,
     words: &[u8],
@@ -57,18 +64,19 @@ fn crossed(
         return at;
     }
     let l = read::line_at(lines, line);
-    let classed = class(r, at, text);
-    let x = print::word(b" x=\"", classed, text);
-    let right = print::number(cells.len() as u64 + 1, x, text);
-    let down = print::word(b".4\" y=\"", right, text);
-    let y = print::number(y as u64, down, text);
-    let row = print::named(b".8\">row ", l.e, y, text);
-    let told = print::word(words, row, text);
-    print::word(b"</text>\n", told, text)
+    let classed = class(rt, r, at, text);
+    let x = print::word(rt, b" x=\"", classed, text);
+    let right = print::number(rt, cells.len() as u64 + 1, x, text);
+    let down = print::word(rt, b".4\" y=\"", right, text);
+    let y = print::number(rt, y as u64, down, text);
+    let row = print::named(rt, b".8\">row ", l.e, y, text);
+    let told = print::word(rt, words, row, text);
+    print::word(rt, b"</text>\n", told, text)
 }
 
 // The narrow jump to this place comes back to a do from its tick, or past it from the do.
 pub fn narrow(
+    rt: &impl Print,
     lines: &[u8],
     first: u16,
     place: u16,
@@ -81,8 +89,17 @@ pub fn narrow(
 {
     let y = place as usize;
     match kind {
-        LineKind::Do => crossed(lines, first + place, b" done twice", cells, y + 1, at, text),
-        LineKind::Tick => past(lines, first, place, cells, at, text),
+        LineKind::Do => crossed(
+            rt,
+            lines,
+            first + place,
+            b" done twice",
+            cells,
+            y + 1,
+            at,
+            text,
+        ),
+        LineKind::Tick => past(rt, lines, first, place, cells, at, text),
         LineKind::Test => at,
         LineKind::Leave => at,
         LineKind::Out => at,
@@ -93,6 +110,7 @@ pub fn narrow(
 }
 
 fn past(
+    rt: &impl Print,
     lines: &[u8],
     first: u16,
     place: u16,
@@ -106,15 +124,24 @@ fn past(
         return at;
     }
     let y = place as usize - 1;
-    crossed(lines, first + place - 1, b" left out", cells, y, at, text)
+    crossed(
+        rt,
+        lines,
+        first + place - 1,
+        b" left out",
+        cells,
+        y,
+        at,
+        text,
+    )
 }
 
 // Every fifth place is numbered.
-pub fn number(place: u16, at: usize, text: &mut [u8; 65536]) -> usize {
+pub fn number(rt: &impl Print, place: u16, at: usize, text: &mut [u8; 65536]) -> usize {
     if place % 5 != 0 {
         return at;
     }
-    let x = print::named(b"<text class=\"t\" x=\"", place, at, text);
-    let number = print::named(b".5\" y=\"-.4\">", place, x, text);
-    print::word(b"</text>\n", number, text)
+    let x = print::named(rt, b"<text class=\"t\" x=\"", place, at, text);
+    let number = print::named(rt, b".5\" y=\"-.4\">", place, x, text);
+    print::word(rt, b"</text>\n", number, text)
 }

@@ -1,4 +1,6 @@
 // The map of a function as an SVG picture, element by element (docs/PROGRAMS.md, "The map").
+#![tactic(auto)]
+
 pub mod column;
 pub mod frame;
 pub mod function;

@@ -54,6 +54,7 @@ fn beginning(r: u8, cells: &[u8], y: usize, before: usize) -> usize
 
 // The cells `from` to just below `to`, `width` columns from this place on.
 pub fn piece(
+    rt: &impl Print,
     place: u16,
     width: u16,
     from: usize,
@@ -63,17 +64,18 @@ pub fn piece(
 ) -> usize
     requires { from ≤ to }
 {
-    let x = print::named(b"M", place, at, text);
-    let space = print::put(b' ', x, text);
-    let y = print::number(from as u64, space, text);
-    let w = print::named(b"h", width, y, text);
-    let v = print::put(b'v', w, text);
-    let height = print::number((to - from) as u64, v, text);
-    let back = print::named(b"H", place, height, text);
-    print::put(b'z', back, text)
+    let x = print::named(rt, b"M", place, at, text);
+    let space = print::put(rt, b' ', x, text);
+    let y = print::number(rt, from as u64, space, text);
+    let w = print::named(rt, b"h", width, y, text);
+    let v = print::put(rt, b'v', w, text);
+    let height = print::number(rt, (to - from) as u64, v, text);
+    let back = print::named(rt, b"H", place, height, text);
+    print::put(rt, b'z', back, text)
 }
 
 fn piece_ended(
+    rt: &impl Print,
     r: u8,
     cells: &[u8],
     place: u16,
@@ -86,13 +88,14 @@ fn piece_ended(
     requires { (y < length cells.now) × (from ≤ y) }
 {
     if ends(r, cells, y) {
-        return piece(place, width, from, y + 1, at, text);
+        return piece(rt, place, width, from, y + 1, at, text);
     }
     at
 }
 
 // Every run of this rank.
 pub fn pieces(
+    rt: &impl Print,
     r: u8,
     cells: &[u8],
     place: u16,
@@ -105,7 +108,7 @@ pub fn pieces(
     let mut y = 0;
     while y < cells.len() {
         from = beginning(r, cells, y, from);
-        next = piece_ended(r, cells, place, width, from, y, next, text);
+        next = piece_ended(rt, r, cells, place, width, from, y, next, text);
         y += 1;
     }
     next

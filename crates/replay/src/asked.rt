@@ -2,7 +2,7 @@
 ghost use Rattle.std.specs.Prelude.{◌≡◌, ◌≤◌, ◌<◌, length};
 ghost use Rattle.replay.specs.Asked.{Within, Buffers};
 
-#[derive(Drop)]
+#[derive(Clone, Copy)]
 pub struct Asked {
     // The first letter of the word; that of `hardened`, which is longer than `harden`, counts as `H`.
     pub kind: u8,

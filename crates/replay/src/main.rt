@@ -1,5 +1,7 @@
 // Puts each line of standard input to the public calls and prints what they give back, every lent buffer included. The lines and
 // the answers that they must get are made by tests/independent.
+#![tactic(auto)]
+
 ghost use Rattle.std.specs.Prelude.{◌≡◌, ◌≤◌, ◌<◌, length};
 ghost use Rattle.replay.specs.Asked.{Within, Buffers, Lent};
 

@@ -7,6 +7,8 @@
 // them; or `refused N`, or `unreadable`, as the programs harden and readback do. A missing budget is 65,535, a missing variable 0. A wrong
 // word is answered by a line on standard error, and nothing is run. The input is read to its end in constant memory before anything is
 // printed. What a small jump amounts to stands in a line before the outcome. docs/PROGRAMS.md has every word of it.
+#![tactic(auto)]
+
 ghost use Rattle.std.specs.Prelude.{◌≡◌, length};
 
 mod answer;
@@ -22,15 +24,17 @@ use show::source_steps::Told;
 use show::{hardened_steps, source_steps};
 use slip::amount::Amount;
 use slip::find;
+use std::env::Env;
 
 // Slots for the longest trace.
 fn slots() -> [u16; 65535] {
     [0; 65535]
 }
 
-fn main() {
-    if os::arg_count() < 2 || start::asks_help() {
+fn main(rt: HostRuntime) {
+    if !start::has_words(&rt) || start::asks_help(&rt) {
         start::tell(
+            &rt,
             b"usage: run source [budget=N] [v0=N .. v15=N] [trace] [show] < rows
        run hardened [budget=N] [v0=N .. v15=N] [jump=STEP:PLACE] [trace] [show] < lines
 N, STEP and PLACE are 0 to 65535. Without budget= it is 65535, without v0= to v15= they are 0, without jump= there is no jump.
@@ -39,13 +43,13 @@ trace lists a trace of more than 20 rows, show lists each step.
         );
         return;
     }
-    take_words();
+    take_words(&rt);
 }
 
-fn take_words() {
+fn take_words(rt: &(impl Env + Input + Print)) {
     let mut buffer = io::buffer();
     let mut variables = [0u16; VARIABLES];
-    match arguments::read(&mut buffer, &mut variables) {
+    match arguments::read(rt, &mut buffer, &mut variables) {
         Given::Wrong(f) => {
             let expected = f.expected;
             let n = output::within(f.length, &buffer);
@@ -54,7 +58,7 @@ fn take_words() {
         Given::Right(a) => {
             let mut bytes = io::large_buffer();
             tell_no_jump(a);
-            run(a, variables, &mut buffer, &mut bytes);
+            run(rt, a, variables, &mut buffer, &mut bytes);
         }
     }
 }
@@ -66,35 +70,41 @@ fn tell_no_jump(a: Asked) {
     }
 }
 
-fn run(a: Asked, variables: [u16; VARIABLES], chunk: &mut [u8], bytes: &mut [u8])
+fn run(
+    rt: &(impl Input + Print),
+    a: Asked,
+    variables: [u16; VARIABLES],
+    chunk: &mut [u8],
+    bytes: &mut [u8],
+)
     requires { 65536 ≡ length bytes.old }
 {
-    match take(a.hardened, chunk, bytes) {
+    match take(rt, a.hardened, chunk, bytes) {
         Read::Bytes(n) => {
             let all = output::within(n, bytes);
-            run_table(a, &bytes[..all], variables);
+            run_table(rt, a, &bytes[..all], variables);
         }
         Read::Nothing => {}
     }
 }
 
 // The lines or the rows, as bytes.
-fn take(hardened: bool, chunk: &mut [u8], bytes: &mut [u8]) -> Read
+fn take(rt: &(impl Input + Print), hardened: bool, chunk: &mut [u8], bytes: &mut [u8]) -> Read
     requires { 65536 ≡ length bytes.old }
 {
     if hardened {
-        return input::take_lines(chunk, bytes);
+        return input::take_lines(rt, chunk, bytes);
     }
-    input::take_rows(chunk, bytes)
+    input::take_rows(rt, chunk, bytes)
 }
 
-fn run_table(a: Asked, table: &[u8], variables: [u16; VARIABLES]) {
+fn run_table(rt: &impl Print, a: Asked, table: &[u8], variables: [u16; VARIABLES]) {
     let mut text = io::large_buffer();
     let mut trace = slots();
-    let told = list_steps(a, table, variables, &mut trace, &mut text);
+    let told = list_steps(rt, a, table, variables, &mut trace, &mut text);
     let amount = amount(a, table, variables, &mut trace);
     let r = ran(a, table, variables, &mut trace);
-    answer::tell(r, a, told, amount, &trace, &mut text);
+    answer::tell(rt, r, a, told, amount, &trace, &mut text);
 }
 
 // What a jump amounts to, told before the run: it overwrites the slots.
@@ -107,6 +117,7 @@ fn amount(a: Asked, table: &[u8], variables: [u16; VARIABLES], trace: &mut [u16;
 
 // A source run is always walked, since that counts its calls.
 fn list_steps(
+    rt: &impl Print,
     a: Asked,
     table: &[u8],
     variables: [u16; VARIABLES],
@@ -115,15 +126,16 @@ fn list_steps(
 ) -> Told {
     if a.hardened {
         return Told {
-            at: list_lines(a, table, variables, trace, text),
+            at: list_lines(rt, a, table, variables, trace, text),
             calls: 0,
         };
     }
-    source_steps::tell(table, variables, a.budget, a.show, trace, text)
+    source_steps::tell(rt, table, variables, a.budget, a.show, trace, text)
 }
 
 // With the word `show`: how many bytes the buffer then holds.
 fn list_lines(
+    rt: &impl Print,
     a: Asked,
     table: &[u8],
     variables: [u16; VARIABLES],
@@ -134,7 +146,7 @@ fn list_lines(
         return 0;
     }
     let strike = strike_by(a.step, a.place);
-    hardened_steps::list(table, variables, a.budget, strike, trace, text)
+    hardened_steps::list(rt, table, variables, a.budget, strike, trace, text)
 }
 
 fn ran(a: Asked, table: &[u8], variables: [u16; VARIABLES], trace: &mut [u16; 65535]) -> Ran {

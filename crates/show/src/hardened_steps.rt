@@ -21,6 +21,7 @@ use strike::struck::land;
 
 // What comes next is listed, and then made: the jump that is due, with no step after it, or one step.
 fn turn(
+    rt: &impl Print,
     lines: &[u8],
     starts: &[u16; FUNCTIONS + 1],
     owners: &[u8; LINES + 1],
@@ -37,17 +38,18 @@ fn turn(
 {
     if due::is_due(strike) {
         let place = due::place_of(strike);
-        *at = line_text::list_jump(place, *at, text);
+        *at = line_text::list_jump(rt, place, *at, text);
         return land(
             lines, starts, owners, home, machine, 0, place, counters, trace,
         );
     }
     let h = machine.registers;
-    *at = line_text::list(lines, starts, h, counters, *at, text);
+    *at = line_text::list(rt, lines, starts, h, counters, *at, text);
     run::step(lines, starts, owners, home, machine, counters, trace)
 }
 
 fn walk(
+    rt: &impl Print,
     lines: &[u8],
     starts: &[u16; FUNCTIONS + 1],
     owners: &[u8; LINES + 1],
@@ -68,7 +70,7 @@ fn walk(
     let mut rest = strike;
     while 0 < left {
         let x = turn(
-            lines, starts, owners, home, m, rest, counters, trace, at, text,
+            rt, lines, starts, owners, home, m, rest, counters, trace, at, text,
         );
         let s = x.step;
         let Step::Went(_) = s else {
@@ -93,6 +95,7 @@ fn no_counters() -> [u16; COUNTERS]
 
 // The steps of a hardened table's run, and how many bytes the buffer then holds. What it leaves in the trace is not looked at afterwards.
 fn list_accepted(
+    rt: &impl Print,
     lines: &[u8],
     variables: [u16; VARIABLES],
     budget: u16,
@@ -111,6 +114,7 @@ fn list_accepted(
     counters::fresh(&mut counters, 0, 1);
     let mut at = 0;
     let x = walk(
+        rt,
         lines,
         &starts,
         &owners,
@@ -124,11 +128,12 @@ fn list_accepted(
         text,
     );
     let s = x.step;
-    limit::list(s, at, text)
+    limit::list(rt, s, at, text)
 }
 
 // Nothing is listed where the lines are no hardened table.
 pub fn list(
+    rt: &impl Print,
     lines: &[u8],
     variables: [u16; VARIABLES],
     budget: u16,
@@ -139,7 +144,7 @@ pub fn list(
     requires { budget ≤ length trace.old }
 {
     if reader::is_hardened(lines) {
-        return list_accepted(lines, variables, budget, strike, trace, text);
+        return list_accepted(rt, lines, variables, budget, strike, trace, text);
     }
     0
 }

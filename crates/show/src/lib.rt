@@ -1,4 +1,6 @@
 // The steps of a run as a text: each is listed before it is made.
+#![tactic(auto)]
+
 mod due;
 mod front;
 pub mod hardened_steps;

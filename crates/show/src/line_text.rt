@@ -49,8 +49,9 @@ fn name_of(kind: LineKind) -> Name
     }
 }
 
-fn word(kind: LineKind, at: usize, text: &mut [u8; 65536]) -> usize {
+fn word(rt: &impl Print, kind: LineKind, at: usize, text: &mut [u8; 65536]) -> usize {
     name::list(
+        rt,
         b" do    tick  test  leave out   call  back  ret  ",
         name_of(kind),
         at,
@@ -59,7 +60,7 @@ fn word(kind: LineKind, at: usize, text: &mut [u8; 65536]) -> usize {
 }
 
 // The counters that a line looks at: none, that of region r, or those of r and s.
-#[derive(Drop)]
+#[derive(Clone, Copy)]
 struct Looked {
     count: u8,
     r: u8,
@@ -97,6 +98,7 @@ fn looks(kind: LineKind, l: Line) -> Looked
 
 // ` counter R holds V`, where the line looks at this one.
 fn counter(
+    rt: &impl Print,
     shown: bool,
     r: u8,
     depth: u16,
@@ -111,39 +113,47 @@ fn counter(
     }
     let i = index(depth, r);
     let v = counters[i];
-    let behind = print::named(b" counter ", r as u16, at, text);
-    print::named(b" holds ", v, behind, text)
+    let behind = print::named(rt, b" counter ", r as u16, at, text);
+    print::named(rt, b" holds ", v, behind, text)
 }
 
 // A back looks also at where the function that returned last ended.
-fn ended(kind: LineKind, last: u16, at: usize, text: &mut [u8; 65536]) -> usize {
+fn ended(rt: &impl Print, kind: LineKind, last: u16, at: usize, text: &mut [u8; 65536]) -> usize {
     let LineKind::Back = kind else {
         return at;
     };
-    print::named(b" ended ", last, at, text)
+    print::named(rt, b" ended ", last, at, text)
 }
 
 // The return from place m: the host looks at region 0's counter of a function 0 that is the only open one.
-fn end(depth: u16, counters: &[u16], at: usize, text: &mut [u8; 65536]) -> usize
+fn end(rt: &impl Print, depth: u16, counters: &[u16], at: usize, text: &mut [u8; 65536]) -> usize
     requires { Room depth counters.now }
 {
-    let named = print::word(b" end", at, text);
-    let held = counter(depth == 0, 0, depth, counters, named, text);
-    print::put(b'\n', held, text)
+    let named = print::word(rt, b" end", at, text);
+    let held = counter(rt, depth == 0, 0, depth, counters, named, text);
+    print::put(rt, b'\n', held, text)
 }
 
-fn line(lines: &[u8], h: Registers, counters: &[u16], at: usize, text: &mut [u8; 65536]) -> usize
+fn line(
+    rt: &impl Print,
+    lines: &[u8],
+    h: Registers,
+    counters: &[u16],
+    at: usize,
+    text: &mut [u8; 65536],
+) -> usize
     requires { (LineHere lines.now h.at) × (Room h.depth counters.now) }
 {
     let kind = read::kind_at(lines, h.at);
     let x = looks(kind, read::line_at(lines, h.at));
-    let named = word(kind, at, text);
-    let one = counter(0 < x.count, x.r, h.depth, counters, named, text);
-    let two = counter(1 < x.count, x.s, h.depth, counters, one, text);
-    print::put(b'\n', ended(kind, h.last, two, text), text)
+    let named = word(rt, kind, at, text);
+    let one = counter(rt, 0 < x.count, x.r, h.depth, counters, named, text);
+    let two = counter(rt, 1 < x.count, x.s, h.depth, counters, one, text);
+    print::put(rt, b'\n', ended(rt, kind, h.last, two, text), text)
 }
 
 pub fn list(
+    rt: &impl Print,
     lines: &[u8],
     starts: &[u16; FUNCTIONS + 1],
     h: Registers,
@@ -156,15 +166,15 @@ pub fn list(
     let f = h.function as usize;
     let first = starts[f];
     let last = starts[f + 1];
-    let place = front::list(h, b" place ", h.at - first, at, text);
+    let place = front::list(rt, h, b" place ", h.at - first, at, text);
     if h.at == last {
-        return end(h.depth, counters, place, text);
+        return end(rt, h.depth, counters, place, text);
     }
-    line(lines, h, counters, place, text)
+    line(rt, lines, h, counters, place, text)
 }
 
 // The jump, before its step.
-pub fn list_jump(place: u16, at: usize, text: &mut [u8; 65536]) -> usize {
-    let named = print::named(b"jump to place ", place, at, text);
-    print::put(b'\n', named, text)
+pub fn list_jump(rt: &impl Print, place: u16, at: usize, text: &mut [u8; 65536]) -> usize {
+    let named = print::named(rt, b"jump to place ", place, at, text);
+    print::put(rt, b'\n', named, text)
 }

@@ -4,16 +4,16 @@ ghost use Rattle.std.specs.Prelude.{◌+◌, ◌≤◌, length};
 use console::print;
 
 // Its first byte, and how many.
-#[derive(Drop)]
+#[derive(Clone, Copy)]
 pub struct Name {
     pub from: u8,
     pub length: u8,
 }
 
-pub fn list(names: &[u8], name: Name, at: usize, text: &mut [u8; 65536]) -> usize
+pub fn list(rt: &impl Print, names: &[u8], name: Name, at: usize, text: &mut [u8; 65536]) -> usize
     requires { name.from + name.length ≤ length names.now }
 {
     let from = name.from as usize;
     let to = from + (name.length as usize);
-    print::word(&names[from..to], at, text)
+    print::word(rt, &names[from..to], at, text)
 }

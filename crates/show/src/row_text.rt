@@ -56,8 +56,9 @@ fn name_of(kind: Kind) -> Name
     }
 }
 
-fn word(kind: Kind, at: usize, text: &mut [u8; 65536]) -> usize {
+fn word(rt: &impl Print, kind: Kind, at: usize, text: &mut [u8; 65536]) -> usize {
     name::list(
+        rt,
         b" function\n do\n       if\n       else\n     loop\n     end\n      break\n    continue\n call\n     unknown\n ",
         name_of(kind),
         at,
@@ -65,9 +66,9 @@ fn word(kind: Kind, at: usize, text: &mut [u8; 65536]) -> usize {
     )
 }
 
-pub fn list(rows: &[u8], h: Registers, at: usize, text: &mut [u8; 65536]) -> usize
+pub fn list(rt: &impl Print, rows: &[u8], h: Registers, at: usize, text: &mut [u8; 65536]) -> usize
     requires { Inside rows.now h.at }
 {
     let kind = row::kind(rows, row::index(h.at));
-    word(kind, front::list(h, b" row ", h.at, at, text), text)
+    word(rt, kind, front::list(rt, h, b" row ", h.at, at, text), text)
 }

@@ -29,24 +29,31 @@ struct Walked {
 }
 
 // What is told of a run: the bytes that the buffer then holds, and the calls made.
-#[derive(Drop)]
+#[derive(Clone, Copy)]
 pub struct Told {
     pub at: usize,
     pub calls: u16,
 }
 
-fn list_step(rows: &[u8], h: Registers, show: bool, at: usize, text: &mut [u8; 65536]) -> usize
+fn list_step(
+    rt: &impl Print,
+    rows: &[u8],
+    h: Registers,
+    show: bool,
+    at: usize,
+    text: &mut [u8; 65536],
+) -> usize
     requires { Inside rows.now h.at }
 {
     if show {
-        return row_text::list(rows, h, at, text);
+        return row_text::list(rt, rows, h, at, text);
     }
     at
 }
 
-fn list_end(s: Step, show: bool, at: usize, text: &mut [u8; 65536]) -> usize {
+fn list_end(rt: &impl Print, s: Step, show: bool, at: usize, text: &mut [u8; 65536]) -> usize {
     if show {
-        return limit::list(s, at, text);
+        return limit::list(rt, s, at, text);
     }
     at
 }
@@ -73,6 +80,7 @@ fn spent(m: Machine) -> Stopped
 }
 
 fn walk(
+    rt: &impl Print,
     rows: &[u8],
     goes: &[u16; ROWS],
     start: Machine,
@@ -90,7 +98,7 @@ fn walk(
     let mut calls = 0;
     while 0 < left {
         let h = m.registers;
-        *at = list_step(rows, h, show, *at, text);
+        *at = list_step(rt, rows, h, show, *at, text);
         let made = with_row(rows, h, calls);
         let x = run::step(rows, goes, m, trace);
         let s = x.step;
@@ -109,6 +117,7 @@ fn walk(
 
 // An accepted table's run.
 fn tell_accepted(
+    rt: &impl Print,
     rows: &[u8],
     ends: &[u16; ROWS],
     elses: &[u16; ROWS],
@@ -128,6 +137,7 @@ fn tell_accepted(
     goes::find(rows, ends, elses, heads, &mut goes);
     let mut at = 0;
     let w = walk(
+        rt,
         rows,
         &goes,
         begun(1, variables),
@@ -140,13 +150,14 @@ fn tell_accepted(
     let x = w.stopped;
     let s = x.step;
     Told {
-        at: list_end(s, show, at, text),
+        at: list_end(rt, s, show, at, text),
         calls: w.calls,
     }
 }
 
 // A table with a switch, whose rows are those of its chain. Nothing is listed where the table is refused.
 fn tell_switched(
+    rt: &impl Print,
     rows: &[u8],
     ends: &mut [u16; ROWS],
     elses: &mut [u16; ROWS],
@@ -165,6 +176,7 @@ fn tell_switched(
         Linked::Refused(_) => Told { at: 0, calls: 0 },
         Linked::Bytes(n) => {
             tell_accepted(
+                rt,
                 &chain[..n],
                 ends,
                 elses,
@@ -180,6 +192,7 @@ fn tell_switched(
 }
 
 pub fn tell(
+    rt: &impl Print,
     rows: &[u8],
     variables: [u16; VARIABLES],
     budget: u16,
@@ -195,10 +208,10 @@ pub fn tell(
     let mut heads = [0u16; FUNCTIONS];
     match table::check::check(rows, &mut ends, &mut elses, &mut heads) {
         Verdict::Refused(_) => tell_switched(
-            rows, &mut ends, &mut elses, &mut heads, variables, budget, show, trace, text,
+            rt, rows, &mut ends, &mut elses, &mut heads, variables, budget, show, trace, text,
         ),
         Verdict::Accepted => tell_accepted(
-            rows, &ends, &elses, &heads, variables, budget, show, trace, text,
+            rt, rows, &ends, &elses, &heads, variables, budget, show, trace, text,
         ),
     }
 }

@@ -13,22 +13,23 @@ use rules::limits::{COUNTERS, VARIABLES};
 use sweeper::table;
 use sweeper::table::Prepared;
 
-fn count(name: &[u8], x: u32, at: usize, text: &mut [u8; 65536]) -> usize {
-    let named = print::word(name, at, text);
-    let number = print::number(x as u64, named, text);
-    print::put(b'\n', number, text)
+fn count(rt: &impl Print, name: &[u8], x: u32, at: usize, text: &mut [u8; 65536]) -> usize {
+    let named = print::word(rt, name, at, text);
+    let number = print::number(rt, x as u64, named, text);
+    print::put(rt, b'\n', number, text)
 }
 
-fn tell(r: Swept, at: usize, text: &mut [u8; 65536]) {
-    let alarms = count(b"alarm ", r.alarms, at, text);
-    let same = count(b"same ", r.same, alarms, text);
-    let other = count(b"other ", r.other, same, text);
-    let all = count(b"unfinished ", r.unfinished, other, text);
-    print::flush(all, text);
+fn tell(rt: &impl Print, r: Swept, at: usize, text: &mut [u8; 65536]) {
+    let alarms = count(rt, b"alarm ", r.alarms, at, text);
+    let same = count(rt, b"same ", r.same, alarms, text);
+    let other = count(rt, b"other ", r.other, same, text);
+    let all = count(rt, b"unfinished ", r.unfinished, other, text);
+    print::flush(rt, all, text);
 }
 
 // The list and the map go over the unstruck run once more: its trace, and where the functions are.
 fn walk_again(
+    rt: &impl Print,
     a: SweepAsked,
     r: Swept,
     lines: &[u8],
@@ -60,19 +61,20 @@ fn walk_again(
     let known = &trace[..n as usize];
     if a.map {
         map::show(
-            lines, &starts, &owners, home, variables, a.budget, known, a.function, r, words,
+            rt, lines, &starts, &owners, home, variables, a.budget, known, a.function, r, words,
             &mut spare, &mut rows, text,
         );
         return;
     }
     let at = list::walk(
-        lines, &starts, &owners, home, variables, a.budget, known, words, &mut spare, &mut rows,
-        text,
+        rt, lines, &starts, &owners, home, variables, a.budget, known, words, &mut spare,
+        &mut rows, text,
     );
-    tell(r, at, text);
+    tell(rt, r, at, text);
 }
 
 pub fn answer(
+    rt: &impl Print,
     a: SweepAsked,
     r: Swept,
     lines: &[u8],
@@ -83,11 +85,11 @@ pub fn answer(
 ) {
     if !a.list {
         if !a.map {
-            tell(r, 0, text);
+            tell(rt, r, 0, text);
             return;
         }
     }
     if reader::is_hardened(lines) {
-        walk_again(a, r, lines, variables, trace, counters, text);
+        walk_again(rt, a, r, lines, variables, trace, counters, text);
     }
 }

@@ -7,11 +7,11 @@ use rules::limits::FUNCTIONS;
 use state::machine::Registers;
 
 // Where a line is past the do, the do is left out; where it is the do itself, that is done twice.
-fn outcome(from: u16, to: u16, at: usize, text: &mut [u8; 65536]) -> usize {
+fn outcome(rt: &impl Print, from: u16, to: u16, at: usize, text: &mut [u8; 65536]) -> usize {
     if from < to {
-        return print::word(b" left out\n", at, text);
+        return print::word(rt, b" left out\n", at, text);
     }
-    print::word(b" done twice\n", at, text)
+    print::word(rt, b" done twice\n", at, text)
 }
 
 // The do's line is the lower of the two; its e is its row.
@@ -27,6 +27,7 @@ fn row(lines: &[u8], starts: &[u16; FUNCTIONS + 1], h: Registers, line: u16) -> 
 }
 
 pub fn tell(
+    rt: &impl Print,
     lines: &[u8],
     starts: &[u16; FUNCTIONS + 1],
     h: Registers,
@@ -39,11 +40,11 @@ pub fn tell(
 {
     let f = h.function as usize;
     let first = starts[f];
-    let stepped = print::named(b"step ", step, at, text);
-    let function = print::named(b" function ", h.function as u16, stepped, text);
-    let from = print::named(b" from place ", h.at - first, function, text);
-    let to = print::named(b" to place ", line - first, from, text);
+    let stepped = print::named(rt, b"step ", step, at, text);
+    let function = print::named(rt, b" function ", h.function as u16, stepped, text);
+    let from = print::named(rt, b" from place ", h.at - first, function, text);
+    let to = print::named(rt, b" to place ", line - first, from, text);
     let row = row(lines, starts, h, line);
-    let all = print::named(b" row ", row, to, text);
-    outcome(h.at, line, all, text)
+    let all = print::named(rt, b" row ", row, to, text);
+    outcome(rt, h.at, line, all, text)
 }

@@ -21,6 +21,7 @@ use sweeper::steps::is_other;
 
 // One step's jump, where it finished with another trace.
 fn tell(
+    rt: &impl Print,
     lines: &[u8],
     starts: &[u16; FUNCTIONS + 1],
     h: Registers,
@@ -33,13 +34,14 @@ fn tell(
 {
     let ending = n.ending;
     if is_other(ending) {
-        return jump::tell(lines, starts, h, n.line, step, at, text);
+        return jump::tell(rt, lines, starts, h, n.line, step, at, text);
     }
     at
 }
 
 // How many bytes the buffer then holds.
 pub fn walk(
+    rt: &impl Print,
     lines: &[u8],
     starts: &[u16; FUNCTIONS + 1],
     owners: &[u8; LINES + 1],
@@ -73,7 +75,7 @@ pub fn walk(
             spare,
             rows,
         );
-        next = tell(lines, starts, h, n, budget - left, next, text);
+        next = tell(rt, lines, starts, h, n, budget - left, next, text);
         let x = run::step(lines, starts, owners, home, m, counters, rows);
         let s = x.step;
         let Step::Went(_) = s else {

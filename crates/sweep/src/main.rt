@@ -7,6 +7,8 @@
 // finish, each on a line of its own, and with `list` each jump across one do that finished with another trace before them; with `map` in their
 // place a picture of how every jump inside one function ends; or `refused N`, or `unreadable`, as the other programs do. docs/PROGRAMS.md has
 // every word of it.
+#![tactic(auto)]
+
 ghost use Rattle.std.specs.Prelude.{◌≡◌, length};
 
 mod answer;
@@ -19,15 +21,17 @@ use command::{sweep_words, wrong};
 use console::input::Read;
 use console::{input, output, start};
 use rules::limits::{COUNTERS, VARIABLES};
+use std::env::Env;
 
 // Slots for the longest trace.
 fn slots() -> [u16; 65535] {
     [0; 65535]
 }
 
-fn main() {
-    if start::asks_help() {
+fn main(rt: HostRuntime) {
+    if start::asks_help(&rt) {
         start::tell(
+            &rt,
             b"usage: sweep [budget=N] [v0=N .. v15=N] [list] < lines
        sweep [budget=N] [v0=N .. v15=N] map [function=F] < lines
 N is 0 to 65535, F 0 to 31. Without budget= it is 65535, without v0= to v15= and function= they are 0.
@@ -37,13 +41,13 @@ map draws how every jump inside function F ends, as an SVG picture.
         );
         return;
     }
-    take_words();
+    take_words(&rt);
 }
 
-fn take_words() {
+fn take_words(rt: &(impl Env + Input + Print)) {
     let mut buffer = io::buffer();
     let mut variables = [0u16; VARIABLES];
-    match sweep_words::read(&mut buffer, &mut variables) {
+    match sweep_words::read(rt, &mut buffer, &mut variables) {
         SweepGiven::Wrong(f) => {
             let expected = f.expected;
             let n = output::within(f.length, &buffer);
@@ -54,31 +58,46 @@ fn take_words() {
         }
         SweepGiven::Right(a) => {
             let mut bytes = io::large_buffer();
-            take_lines(a, variables, &mut buffer, &mut bytes);
+            take_lines(rt, a, variables, &mut buffer, &mut bytes);
         }
     }
 }
 
-fn take_lines(a: SweepAsked, variables: [u16; VARIABLES], chunk: &mut [u8], bytes: &mut [u8])
+fn take_lines(
+    rt: &(impl Input + Print),
+    a: SweepAsked,
+    variables: [u16; VARIABLES],
+    chunk: &mut [u8],
+    bytes: &mut [u8],
+)
     requires { 65536 ≡ length bytes.old }
 {
-    match input::take_lines(chunk, bytes) {
+    match input::take_lines(rt, chunk, bytes) {
         Read::Bytes(n) => {
             let all = output::within(n, bytes);
-            sweep(a, &bytes[..all], variables);
+            sweep(rt, a, &bytes[..all], variables);
         }
         Read::Nothing => {}
     }
 }
 
-fn sweep(a: SweepAsked, lines: &[u8], variables: [u16; VARIABLES]) {
+fn sweep(rt: &impl Print, a: SweepAsked, lines: &[u8], variables: [u16; VARIABLES]) {
     let mut text = io::large_buffer();
     let mut trace = slots();
     let mut counters = [0u16; COUNTERS];
     let r = finuraho::sweep(lines, variables, a.budget, &mut trace, &mut counters);
     if r.number != 0 {
-        output::refused(r.number, &mut text);
+        output::refused(rt, r.number, &mut text);
         return;
     }
-    answer::answer(a, r, lines, variables, &mut trace, &mut counters, &mut text);
+    answer::answer(
+        rt,
+        a,
+        r,
+        lines,
+        variables,
+        &mut trace,
+        &mut counters,
+        &mut text,
+    );
 }

@@ -23,6 +23,7 @@ fn tell_missing(wanted: u8, last: u8) {
 }
 
 pub fn show(
+    rt: &impl Print,
     lines: &[u8],
     starts: &[u16; FUNCTIONS + 1],
     owners: &[u8; LINES + 1],
@@ -45,8 +46,8 @@ pub fn show(
         return;
     }
     let at = function::draw(
-        lines, starts, owners, home, variables, budget, trace, wanted, swept, counters, spare,
+        rt, lines, starts, owners, home, variables, budget, trace, wanted, swept, counters, spare,
         rows, text,
     );
-    print::flush(at, text);
+    print::flush(rt, at, text);
 }

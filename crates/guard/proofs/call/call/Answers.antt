@@ -1,6 +1,5 @@
 use Prim.Native.Nat.{ℕ, ◌+◌, ◌<◌}
 use native.Mathlib.Omega.{arith}
-use borrow.Author.Tests.{eqb-true, eqb-false, leb-true, leb-false, not-true, not-false}
 use Rattle.guard.proofs.Returns.{call-alarm, call_deep, call_opens}
 use Rattle.guard.proofs.call.call.Goals as goal
 

@@ -1,5 +1,4 @@
 use native.Mathlib.Omega.{arith}
-use Prim.Native.Nat.{◌-◌}
 use Rattle.source.proofs.Targets.{filled}
 use Rattle.source.proofs.goes.fill.Goals as goal
 

@@ -1,9 +1,8 @@
-use Rattle.state.proofs.Ends.{not-went}
 use Rattle.source.proofs.Runs.{run_on, run_ends_with, run_spent}
 use Rattle.source.proofs.run.run_rows.Goals as goal
 
 pub returns-in_default : goal.returns-in_default
-returns-in_default c =  run_ends_with c.requires.0 c.loop-left.invariant c.loop-left-test.true _ c.row-t.ensures c.in_default.not-Went _ c.standing-h.ensures _ c.at_end.ensures
+returns-in_default c = run_ends_with c.requires.0 c.loop-left.invariant c.loop-left-test.true _ c.row-t.ensures c.in_default.not-Went _ c.standing-h.ensures _ c.at_end.ensures
 
 pub loop-left-preserved : goal.loop-left-preserved
 loop-left-preserved c = run_on c.requires.0 c.loop-left.invariant c.loop-left-test.true _ c.row-t.ensures _ c.in-Went.is _ c.standing-h.ensures

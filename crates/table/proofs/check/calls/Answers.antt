@@ -1,5 +1,4 @@
 use borrow.Author.Rules.{rules}
-use Prim.Native.Nat.{◌-◌}
 use Rattle.table.proofs.Whole.{calling}
 use Rattle.table.proofs.check.calls.Goals as goal
 
