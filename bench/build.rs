@@ -1,5 +1,5 @@
 //! Links the proved library where the feature `ours` asks for it: the one in the folder FINURAHO_LIBRARY,
-//! or the one that `rt staticlib` makes.
+//! or the one that `examples/library` makes.
 
 use std::path::{Path, PathBuf};
 
@@ -13,7 +13,7 @@ fn main() {
     let made = Path::new(&here).join("../target/staticlib");
     let folder = std::env::var("FINURAHO_LIBRARY").map_or(made, PathBuf::from);
     let archive = folder.join("libfinuraho.a");
-    assert!(archive.exists(), "{} is missing: run `rt staticlib finuraho`", archive.display());
+    assert!(archive.exists(), "{} is missing: run `examples/library`", archive.display());
     println!("cargo::rerun-if-changed={}", archive.display());
     println!("cargo::rustc-link-search=native={}", folder.display());
     println!("cargo::rustc-link-lib=static=finuraho");

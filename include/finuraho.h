@@ -3,11 +3,11 @@
  *
  * The rules are document 01, "Counter-hardened statement tables for fee cards", and of document 02 No. 1, switches, No. 2, figures,
  * No. 4, the sweep, No. 5, sums that overflow, and No. 6, the small jump. What each call gives back, for all bytes, numbers and buffers,
- * is proved (crates/finuraho/src/export.rt) to be what Calls.antt, Fault.antt, Measure.antt, Steps.antt and SweepCall.antt of
+ * is proved (crates/finuraho_c/src/lib.rt) to be what Calls.antt, Fault.antt, Measure.antt, Steps.antt and SweepCall.antt of
  * crates/rules/specs say. That this header fits the library is not proved: tests/header/run tests it.
  *
- * `rt staticlib finuraho` makes target/staticlib/libfinuraho.a, the library to link: into programs for x86-64 Linux. Of the C library
- * it needs memcpy and memset. docs/FORMAT.md has rows, lines, figures, limits and numbers on one page.
+ * examples/library makes target/staticlib/libfinuraho.a, the library to link: into programs for x86-64 Linux, on processors of the level
+ * x86-64-v2. Of the C library it needs memcpy and memset. docs/FORMAT.md has rows, lines, figures, limits and numbers on one page.
  *
  * What a caller must keep, in every call:
  *   - A pointer followed by a length is valid for that many elements, bytes or 16-bit words, until the call returns. With the
