@@ -6,8 +6,8 @@
  * is proved (crates/finuraho_c/src/lib.rt) to be what Calls.antt, Fault.antt, Measure.antt, Steps.antt and SweepCall.antt of
  * crates/rules/specs say. That this header fits the library is not proved: tests/header/run tests it.
  *
- * examples/library makes target/staticlib/libfinuraho.a, the library to link: into programs for x86-64 Linux, on processors of the level
- * x86-64-v2. Of the C library it needs memcpy and memset. docs/FORMAT.md has rows, lines, figures, limits and numbers on one page.
+ * examples/library makes target/staticlib/libfinuraho.a, the library to link: into programs for x86-64 Linux. Of the C library it needs
+ * memcpy and memset. docs/FORMAT.md has rows, lines, figures, limits and numbers on one page.
  *
  * What a caller must keep, in every call:
  *   - A pointer followed by a length is valid for that many elements, bytes or 16-bit words, until the call returns. With the

@@ -1,8 +1,8 @@
 -- What the walk over the steps keeps of a column, and what each step adds to it. Assumes nothing.
-use mathlib.Core.Path.{◌≡◌, refl, sym, ap, ◌∙◌, subst}
+use mathlib.Core.Path.{◌≡◌, refl, sym, ap, ◌∙◌}
 use mathlib.Core.Bool.{Bool, true, false, cond, ◌&&◌}
 use mathlib.Core.List.{List, []}
-use Prim.Native.Nat.{ℕ, zero, suc, ◌+◌, ◌-◌, ◌≤◌, ◌<◌, max}
+use Prim.Native.Nat.{ℕ, suc, ◌+◌, ◌-◌, ◌<◌, max}
 use native.Mathlib.Nat.{max-zero}
 use native.Mathlib.Omega.{arith}
 use lib.Dec.{eqb}
@@ -29,7 +29,7 @@ use Rattle.sweeper.proofs.Settling.{place_is}
 use Rattle.sweeper.proofs.Walking as Walking
 use Rattle.sweeper.proofs.Walking.{form, unstruck, state_of, from_there}
 use Rattle.sweeper.proofs.Sweeping.{Sweeping, stands-before, sweep-on, walked_all}
-use Rattle.cells.specs.Worst.{rank, strike_rank, worst_to, worst, ColumnIs}
+use Rattle.cells.specs.Worst.{rank, strike_rank, worst_to, ColumnIs}
 use Rattle.cells.specs.Struck.{PlaceOf, ends_there_lem, StruckIs}
 
 module _ {bs : List ℕ} {mp : Map} {b : ℕ} {tr vs : List ℕ} {k left : ℕ} {m : Machine} {ws : List ℕ} {at : ℕ} (w : Sweeping bs mp b tr vs k left m ws at) (f p : ℕ) (pl : PlaceOf (lines_in bs) f p) where

@@ -1,11 +1,9 @@
 -- What the code of one strike needs to know of the line that it goes to, and what it says of it. Assumes nothing.
 use mathlib.Core.Path.{◌≡◌, refl, sym, ap, ◌∙◌}
-use mathlib.Core.Bool.{Bool, true, false, cond}
 use mathlib.Core.List.{List}
 use Prim.Native.Nat.{ℕ, suc, ◌+◌, ◌-◌, ◌≤◌, ◌<◌}
 use native.Mathlib.Numerals.{add-one}
 use native.Mathlib.Omega.{arith}
-use lib.Dec.{eqb}
 use lib.ListN.{length, get_or}
 use borrow.Author.Tests.{eq-eqb, ne_eqb}
 use Rattle.rules.specs.declared.ending.Ending.{Ending}
@@ -13,7 +11,6 @@ use Rattle.rules.specs.declared.ending.Ending.TheVariants.{Same}
 use Rattle.rules.specs.Limits.{max_lines}
 use Rattle.rules.specs.Line.{lines_in}
 use Rattle.rules.specs.Function.{function_at, start_of, finish_of}
-use Rattle.rules.specs.Hardened.{Hardened}
 use Rattle.rules.specs.Settled.{across}
 use Rattle.line.proofs.Decode.{length-lines}
 use Rattle.state.specs.declared.machine.Machine.{Machine}
@@ -21,9 +18,9 @@ use Rattle.machine.specs.Step.{Map}
 use Rattle.machine.specs.Stands.{Ready}
 use Rattle.places.specs.Places.{wide_of, wide_last, wide_at}
 use Rattle.compare.specs.declared.narrow.Narrow.{Narrow}
-use Rattle.compare.specs.Compared.{Stood, ends_at}
+use Rattle.compare.specs.Compared.{ends_at}
 use Rattle.compare.specs.Narrow.{NarrowIs}
-use Rattle.sweeper.specs.Steps.{first_of, last_of}
+use Rattle.sweeper.specs.Steps.{last_of}
 use Rattle.sweeper.proofs.Settling.{dos_in}
 use Rattle.cells.specs.Worst.{rank}
 use Rattle.cells.specs.Struck.{PlaceOf, InLines, ends_there_lem, EndingIs, StruckIs}

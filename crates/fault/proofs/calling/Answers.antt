@@ -1,5 +1,4 @@
 use Rattle.fault.proofs.Ends.{calls-here, calls-on, calls-done}
-use Prim.Native.Nat.{◌-◌}
 use Rattle.fault.proofs.calling.Goals as goal
 
 pub returns-then-calls_beyond : goal.returns-then-calls_beyond

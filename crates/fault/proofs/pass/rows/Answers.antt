@@ -1,6 +1,5 @@
 use Rattle.fault.proofs.Ends.{pass-start, pass-stopped, pass_end}
 use mathlib.Core.Path.{refl}
-use Prim.Native.Nat.{◌-◌}
 use Rattle.fault.proofs.pass.rows.Goals as goal
 
 pub loop-at-init : goal.loop-at-init
