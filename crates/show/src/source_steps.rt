@@ -22,7 +22,7 @@ use source::{goes, run};
 use state::machine::{Machine, Registers, Stopped, begun};
 
 // Where a walk stopped, and the calls on its way.
-#[derive(Clone, Copy)]
+#[derive(Drop)]
 struct Walked {
     stopped: Stopped,
     calls: u16,
