@@ -1,0 +1,15 @@
+use Rattle.std.proofs.Common.{◌-◌, length, get_or, sym, ap, ◌∙◌, arith}
+use Rattle.rules.specs.Line.{lines_in}
+use Rattle.line.proofs.Decode.{length-lines}
+use Rattle.picture.proofs.function.last_of.Goals as goal
+
+pub overflow_sub-result : goal.overflow_sub-result
+overflow_sub-result c = omega (arith, c.requires.sound.within.some_line, length-lines c.args.lines.now)
+
+pub bounds-owners-n : goal.bounds-owners-n
+bounds-owners-n c = omega (arith, c.requires.sound.within.few_lines, length-lines c.args.lines.now)
+
+pub returns : goal.returns
+returns c =
+    ap (λ n. get_or c.args.owners.now (n - 1) 0) (sym (length-lines c.args.lines.now))
+    ∙ c.requires.mapped.located.owner_is (length (lines_in c.args.lines.now) - 1) (omega (arith, c.requires.sound.within.some_line))
