@@ -14,7 +14,7 @@ use Rattle.rules.specs.Switch.{chain_bytes}
 use Rattle.rules.specs.Given.{given_verdict}
 use Rattle.rules.specs.Links.{Checked}
 use Rattle.rules.proofs.Switch.Chain.{chain-accepted}
-use Rattle.rules.proofs.Switch.Bound.{few-chained}
+use Rattle.rules.proofs.Switch.Bound.{few_chained}
 use Rattle.fault.specs.declared.Found.{Found}
 use Rattle.fault.specs.declared.Found.TheVariants.{Faulty, Chain}
 use Rattle.fault.specs.Found.{HasChain, FoundOk}
@@ -31,13 +31,13 @@ module _ {rows chain : List ℕ} {x : Found} (ok : FoundOk rows chain x) where
     found = (subst (FoundOk rows chain) m ok).leads
 
     pub chain_fits : row_width * n ≤ row_width * max_rows
-    chain_fits = omega (arith, found.rows_are, few-chained rows found.accepted)
+    chain_fits = omega (arith, found.rows_are, few_chained rows found.accepted)
 
     front : chain_bytes rows ≡ take (row_width * n) chain
     unfolding chain_bytes
     front =
         let q = found.rows_are in
-        sym (found.written (omega (arith, long, few-chained rows found.accepted))) ∙ ap (λ k. take (row_width * k) chain) (sym q)
+        sym (found.written (omega (arith, long, few_chained rows found.accepted))) ∙ ap (λ k. take (row_width * k) chain) (sym q)
 
     pub link-found : {v : Verdict} {ends elses heads : List ℕ} → Checked (take (row_width * n) chain) v ends elses heads
         → LinkedOk rows chain ends elses heads (linked.Bytes (row_width * n))

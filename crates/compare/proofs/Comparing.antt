@@ -19,7 +19,7 @@ use Rattle.rules.specs.State.{retraced}
 use Rattle.rules.specs.Run.{Answer, run, outcome_of_lem}
 use Rattle.rules.specs.Hardened.{Counters, Hardened, counter_form, striking_step}
 use Rattle.rules.specs.Sweep.{ending_of}
-use Rattle.rules.proofs.Form.Trace.{run-retraced, run_on, run-on-steps, run-over}
+use Rattle.rules.proofs.Form.Trace.{run_retraced, run_on, run_on_steps, run-over}
 use Rattle.state.specs.declared.machine.Machine.{Machine}
 use Rattle.state.specs.declared.machine.Stopped.{Stopped}
 use Rattle.state.specs.Machine.{machine_afresh}
@@ -145,13 +145,13 @@ module _ (bs : List ℕ) (k : Map) (rd : Ready bs k) (known : List ℕ) (budget 
     goes_on = ap (λ y. plainly ls y c.here) all_is ∙ run_on (counter_form ls) ls n (left - n) 0 (retraced [] c.here) i went
 
     traced_few : x.machine.registers.traced ≤ n
-    traced_few = omega (arith, ended.traced_few i went, ended.steps_are, run-on-steps (counter_form ls) ls n 0 (retraced [] c.here) i went)
+    traced_few = omega (arith, ended.traced_few i went, ended.steps_are, run_on_steps (counter_form ls) ls n 0 (retraced [] c.here) i went)
 
     ends_so : ends_beside ok known at (plainly ls left c.here) ≡ ends_beside fits known (at + x.machine.registers.traced) rest
     ends_so =
-        let r = run-retraced (counter_form ls) ls got.state.trace (left - n) (0 + n) 0 got.state in
+        let r = run_retraced (counter_form ls) ls got.state.trace (left - n) (0 + n) 0 got.state in
         ap (ends_beside ok known at) goes_on ∙ ap (λ o. ended_by_lem (outcome_of_lem o) (ok && same (run (striking_step ls None) (left - n) (0 + n) got.state).state.trace (drop at known))) r.step_is
-        ∙ ap (λ y. ended_by_lem (outcome_of_lem rest.step) (ok && same y.trace (drop at known))) r.state-is
+        ∙ ap (λ y. ended_by_lem (outcome_of_lem rest.step) (ok && same y.trace (drop at known))) r.state_is
         ∙ ap (ended_by_lem (outcome_of_lem rest.step)) (in_parts known at ok c.within got.state.trace rest.state.trace)
         ∙ ap (λ y. ended_by_lem (outcome_of_lem rest.step) ((ok && goes_on_lem y known at) && same rest.state.trace (drop (at + length got.state.trace) known))) (sym recorded)
         ∙ ap (λ y. ended_by_lem (outcome_of_lem rest.step) (fits && same rest.state.trace (drop (at + y) known))) (sym traced_is)

@@ -12,8 +12,8 @@ use Rattle.rules.specs.Demands.{Demand, Theorem}
 use Rattle.rules.proofs.Accepted.{Proper, proper}
 use Rattle.rules.proofs.Reading.{lines_of, hardened-source}
 use Rattle.rules.proofs.Form.Demand.{demand-of}
-use Rattle.rules.proofs.Counter.Settles.{counterSettles}
-use Rattle.rules.proofs.Counter.Strict.{counterStrict}
+use Rattle.rules.proofs.Counter.Settles.{counter_settles}
+use Rattle.rules.proofs.Counter.Strict.{counter_strict}
 
 -- the lines of a hardened table are those of the table that it is read back to
 pub hardened-lines : (lines : List ℕ) → is_hardened_lem lines ≡ true → harden (table_of (source_bytes lines)) ≡ lines_in lines
@@ -27,4 +27,4 @@ demand_3 lines vars budget k place e =
     let ok = source-proper lines e in
     let t = table_of (source_bytes lines) in
     subst (λ ls. Demand (counter_form ls) ls t vars budget k place) (hardened-lines lines e)
-    (demand-of t ok (counterSettles t ok) (counterStrict t ok) vars budget k place)
+    (demand-of t ok (counter_settles t ok) (counter_strict t ok) vars budget k place)

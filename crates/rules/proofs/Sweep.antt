@@ -5,12 +5,12 @@ use Rattle.rules.specs.ReadBack.{source_bytes}
 use Rattle.rules.specs.Hardened.{counter_form}
 use Rattle.rules.specs.Settled.{SweepLaw, Sweeps}
 use Rattle.rules.proofs.Form.Sweep.{swept}
-use Rattle.rules.proofs.Counter.Settles.{counterSettles}
-use Rattle.rules.proofs.Counter.Strict.{counterStrict}
+use Rattle.rules.proofs.Counter.Settles.{counter_settles}
+use Rattle.rules.proofs.Counter.Strict.{counter_strict}
 use Rattle.rules.proofs.Demand3.{hardened-lines, source-proper}
 
 pub sweeps : Sweeps
 sweeps lines vars budget e =
     let ok = source-proper lines e in
     let t = table_of (source_bytes lines) in
-    subst (λ ls. SweepLaw (counter_form ls) ls vars budget) (hardened-lines lines e) (swept t ok (counterSettles t ok) (counterStrict t ok) vars budget)
+    subst (λ ls. SweepLaw (counter_form ls) ls vars budget) (hardened-lines lines e) (swept t ok (counter_settles t ok) (counter_strict t ok) vars budget)

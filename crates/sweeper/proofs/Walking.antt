@@ -19,7 +19,7 @@ use Rattle.rules.specs.Hardened.{Counters, Hardened, counter_form, striking_step
 use Rattle.rules.specs.RunPromise.{state_at}
 use Rattle.rules.specs.Sweep.{unstruck_run}
 use Rattle.rules.specs.Settled.{across, narrow_ending, StandsBefore, SweepLaw}
-use Rattle.rules.proofs.Form.Trace.{run-on-steps}
+use Rattle.rules.proofs.Form.Trace.{run_on_steps}
 use Rattle.rules.proofs.Form.Walk.{some-step, start_is, in-budget, known-trace, narrow_rest, walk-over, WalksOn, walks_on}
 use Rattle.state.specs.declared.machine.Machine.{Machine}
 use Rattle.state.specs.declared.machine.Stopped.{Stopped}
@@ -132,7 +132,7 @@ module _ (bs vs : List ℕ) (b k left : ℕ) (m : Machine) (ws : List ℕ) (at :
       stood-next =
           let q = restand (lines_in bs) rows x.machine ws' rows' got.state (ended.still_stands i went) in
           record {
-            stands = λ slots. subst (Stands (lines_in bs) slots (parts_in (machine_afresh x.machine) ws' slots)) next.state-is (q.stands slots);
+            stands = λ slots. subst (Stands (lines_in bs) slots (parts_in (machine_afresh x.machine) ws' slots)) next.state_is (q.stands slots);
             no_steps = refl;
           }
 
@@ -143,7 +143,7 @@ module _ (bs vs : List ℕ) (b k left : ℕ) (m : Machine) (ws : List ℕ) (at :
             left_is = omega (arith, w.left_is);
             stood = subst (λ y. Stood (lines_in bs) y ws' (state_of bs vs (suc k))) (sym q) stood-next;
             at_is = omega (arith, w.at_is, next.traced_is, ended.traces.traced_is);
-            few_rows = omega (arith, w.few_rows, ended.traced_few i went, ended.steps_are, run-on-steps (form bs) (lines_in bs) 1 0 (retraced [] (state_of bs vs k)) i went);
+            few_rows = omega (arith, w.few_rows, ended.traced_few i went, ended.steps_are, run_on_steps (form bs) (lines_in bs) 1 0 (retraced [] (state_of bs vs k)) i went);
           }
 
     ends_not_zero : IsEnd x.step → outcome_of_lem got.step ≢ 0

@@ -18,13 +18,13 @@ use Rattle.rules.proofs.Parts.{holding, loop-in}
 
 -- The counter of region x, where the innermost of the parts fs holds v: each part around holds what its inner part's row left,
 -- and every other region 0.
-abbrev pub counterOf : Table → List Open → ℕ → ℕ → ℕ
-counterOf t [] v x = 0
-counterOf t (f ∷ fs) v x = cond (eqb x f.region) v (counterOf t fs (holding t f fs) x)
+abbrev pub counter_of : Table → List Open → ℕ → ℕ → ℕ
+counter_of t [] v x = 0
+counter_of t (f ∷ fs) v x = cond (eqb x f.region) v (counter_of t fs (holding t f fs) x)
 
 -- the same by the numbers inside the function
 abbrev pub counters : Table → (z : ℕ) → List Open → ℕ → Counters
-counters t z fs v x = counterOf t fs v (z + x)
+counters t z fs v x = counter_of t fs v (z + x)
 
 shift : (z g x : ℕ) → z ≤ g → eqb x (g - z) ≡ eqb (z + x) g
 shift z g x h = by (eqb (z + x) g) refl
@@ -33,16 +33,16 @@ shift z g x h = by (eqb (z + x) g) refl
     by true q = eq-eqb x (g - z) (omega (arith, eqb-true (z + x) g q))
     by false q = ne_eqb x (g - z) (λ e. eqb-false (z + x) g q (omega arith))
 
-pub at-region : (t : Table) (z : ℕ) (fs : List Open) (v g : ℕ) → z ≤ g → counters t z fs v (g - z) ≡ counterOf t fs v g
-at-region t z fs v g h = ap (counterOf t fs v) (omega arith)
+pub at-region : (t : Table) (z : ℕ) (fs : List Open) (v g : ℕ) → z ≤ g → counters t z fs v (g - z) ≡ counter_of t fs v g
+at-region t z fs v g h = ap (counter_of t fs v) (omega arith)
 
-pub counter-top : (t : Table) (f : Open) (fs : List Open) (v : ℕ) → counterOf t (f ∷ fs) v f.region ≡ v
+pub counter-top : (t : Table) (f : Open) (fs : List Open) (v : ℕ) → counter_of t (f ∷ fs) v f.region ≡ v
 counter-top t f fs v = rw (eq-eqb f.region f.region refl)
 
-pub counter-under : (t : Table) (f : Open) (fs : List Open) (v x : ℕ) → x ≢ f.region → counterOf t (f ∷ fs) v x ≡ counterOf t fs (holding t f fs) x
+pub counter-under : (t : Table) (f : Open) (fs : List Open) (v x : ℕ) → x ≢ f.region → counter_of t (f ∷ fs) v x ≡ counter_of t fs (holding t f fs) x
 counter-under t f fs v x h = rw (ne_eqb x f.region h)
 
-counter-off : (t : Table) (fs : List Open) (v x : ℕ) → NotIn x fs → counterOf t fs v x ≡ 0
+counter-off : (t : Table) (fs : List Open) (v x : ℕ) → NotIn x fs → counter_of t fs v x ≡ 0
 counter-off t [] v x n = refl
 counter-off t (f ∷ fs) v x n = counter-under t f fs v x (λ e. n.0 (sym e)) ∙ counter-off t fs _ x n.1
 
@@ -71,7 +71,7 @@ put-body t n b = fun_ext (λ x. ap (λ y. cond y b 0) (same x))
 
 -- ---- a part closes, and the region around gets a
 leave-at : (t : Table) (f h : Open) (hs : List Open) (v a y : ℕ) → Chain f.region (h ∷ hs) → (p q : Bool) → eqb y h.region ≡ p → eqb y f.region ≡ q
-    → cond p a (cond q 0 (cond q v (cond p (holding t f (h ∷ hs)) (counterOf t hs (holding t h hs) y)))) ≡ cond p a (counterOf t hs (holding t h hs) y)
+    → cond p a (cond q 0 (cond q v (cond p (holding t f (h ∷ hs)) (counter_of t hs (holding t h hs) y)))) ≡ cond p a (counter_of t hs (holding t h hs) y)
 leave-at t f h hs v a y k true q e₁ e₂ = refl
 leave-at t f h hs v a y k false true e₁ e₂ = sym (counter-off t hs _ y (chain-not-in y hs (omega (arith, eqb-true y f.region e₂)) k.1))
 leave-at t f h hs v a y k false false e₁ e₂ = refl
@@ -83,16 +83,16 @@ put-leave t z f h hs v a l k = fun_ext (λ x. rw (shift z h.region x l, shift z 
 
 -- ---- break and continue: the parts up to the innermost loop body close
 counter-skip : (t : Table) (fs : List Open) (b : ℕ) (l : Open) (hs : List Open) (v y : ℕ) → from_loop fs ≡ l ∷ hs → Chain b fs → y < l.region
-    → counterOf t fs v y ≡ counterOf t hs (holding t l hs) y
+    → counter_of t fs v y ≡ counter_of t hs (holding t l hs) y
 counter-skip t [] b l hs v y e k h = clash {b = true} refl cc
 counter-skip t (f ∷ fs) b l hs v y e k h =
     by (is_loop_body f.part) e (λ q. counter-skip t fs f.region l hs (holding t f fs) y q k.1 h)
   where
-    by : (d : Bool) → cond d (f ∷ fs) (from_loop fs) ≡ l ∷ hs → (from_loop fs ≡ l ∷ hs → counterOf t fs (holding t f fs) y ≡ counterOf t hs (holding t l hs) y)
-        → counterOf t (f ∷ fs) v y ≡ counterOf t hs (holding t l hs) y
+    by : (d : Bool) → cond d (f ∷ fs) (from_loop fs) ≡ l ∷ hs → (from_loop fs ≡ l ∷ hs → counter_of t fs (holding t f fs) y ≡ counter_of t hs (holding t l hs) y)
+        → counter_of t (f ∷ fs) v y ≡ counter_of t hs (holding t l hs) y
     by true q ih =
         let r : f.region ≡ l.region = ap region_of q in
-        counter-under t f fs v y (omega arith) ∙ ap (λ (g : List Open). counterOf t (around g) (value_in t (opener_of g) (around g) + inside) y) q
+        counter-under t f fs v y (omega arith) ∙ ap (λ (g : List Open). counter_of t (around g) (value_in t (opener_of g) (around g) + inside) y) q
     by false q ih = counter-under t f fs v y (omega (arith, (loop-in fs f.region l hs q k.1).low)) ∙ ih q
 
 shift_le : (z g x : ℕ) → z ≤ g → leb (g - z) x ≡ leb g (z + x)
@@ -111,7 +111,7 @@ shift-ge z g x h = by (leb (z + x) g) refl
 
 out_at : (t : Table) (f : Open) (fs : List Open) (l h : Open) (hs : List Open) (v a y : ℕ) → from_loop (f ∷ fs) ≡ l ∷ h ∷ hs → Chain (suc f.region) (f ∷ fs)
     → (p q r : Bool) → eqb y h.region ≡ p → leb l.region y ≡ q → leb y f.region ≡ r
-    → cond p a (cond (q && r) 0 (counterOf t (f ∷ fs) v y)) ≡ cond p a (counterOf t hs (holding t h hs) y)
+    → cond p a (cond (q && r) 0 (counter_of t (f ∷ fs) v y)) ≡ cond p a (counter_of t hs (holding t h hs) y)
 out_at t f fs l h hs v a y e k true q r e₁ e₂ e₃ = refl
 out_at t f fs l h hs v a y e k false true true e₁ e₂ e₃ =
     let i = loop-in (f ∷ fs) (suc f.region) l (h ∷ hs) e k in

@@ -17,7 +17,7 @@ use Rattle.rules.proofs.Scan.{origin}
 use Rattle.rules.proofs.Value.{AllHeld, held, Held, value-moves, value_pos}
 use Rattle.rules.proofs.Function.{part-takes, not-silent}
 use Rattle.rules.proofs.Parts.{holding}
-use Rattle.rules.proofs.Counter.Counters.{counterOf}
+use Rattle.rules.proofs.Counter.Counters.{counter_of}
 
 module _ (t : Table) (ok : Proper t) (j : ℕ) (h : Open) (hs : List Open) (d : ℕ) (jl : j < length t) (l : open_at t j ≡ h ∷ hs) (b : d ≤ takes (kind_at t j) h.part - 1) where
   -- both in one region
@@ -41,8 +41,8 @@ module _ (t : Table) (ok : Proper t) (j : ℕ) (h : Open) (hs : List Open) (d : 
           absurd (no2 m.0 (rw q at m.1))
 
   at_top : (i : ℕ) (f : Open) (fs : List Open) (e : ℕ) → i < length t → open_at t i ≡ f ∷ fs → e ≤ takes (kind_at t i) f.part - 1
-      → (counterOf t fs (holding t f fs) h.region ≡ value t h.region j + d → ⊥)
-      → (x : Bool) → eqb h.region f.region ≡ x → counterOf t (f ∷ fs) (value t f.region i + e) h.region ≡ value t h.region j + d → (i ≡ j) × (e ≡ d)
+      → (counter_of t fs (holding t f fs) h.region ≡ value t h.region j + d → ⊥)
+      → (x : Bool) → eqb h.region f.region ≡ x → counter_of t (f ∷ fs) (value t f.region i + e) h.region ≡ value t h.region j + d → (i ≡ j) × (e ≡ d)
   at_top i f fs e il k a deep true q v =
       let r : h.region ≡ f.region = eqb-true h.region f.region q in
       let v' : value t f.region i + e ≡ value t h.region j + d = rw q at v in
@@ -52,7 +52,7 @@ module _ (t : Table) (ok : Proper t) (j : ℕ) (h : Open) (hs : List Open) (d : 
   -- At row i the innermost region is e past the row's value. Row j's guard, which wants d past its value, passes only where i is
   -- j and e is d; the rows that open a part have no guard `inside` past their value.
   pub unique : ((p : Part) → shape_of (kind_at t j) ≡ pushes p → d ≡ inside → ⊥) → (fs : List Open) (f : Open) (i e : ℕ) → i < length t → open_at t i ≡ f ∷ fs
-      → e ≤ takes (kind_at t i) f.part - 1 → counterOf t (f ∷ fs) (value t f.region i + e) h.region ≡ value t h.region j + d → (i ≡ j) × (e ≡ d)
+      → e ≤ takes (kind_at t i) f.part - 1 → counter_of t (f ∷ fs) (value t f.region i + e) h.region ≡ value t h.region j + d → (i ≡ j) × (e ≡ d)
   unique z [] f i e il k a v = at_top i f [] e il k a (λ y. deep0 y) (eqb h.region f.region) refl v
     where
       deep0 : 0 ≡ value t h.region j + d → ⊥

@@ -20,15 +20,15 @@ use Rattle.rules.proofs.Accepted.{Proper}
 use Rattle.rules.proofs.Value.{AllHeld, held, Held, value-moves}
 use Rattle.rules.proofs.Function.{part-takes, InFunction, function-end, body_is, not-past-end, not-silent}
 use Rattle.rules.proofs.Parts.{holding, body_below}
-use Rattle.rules.proofs.Counter.Counters.{counterOf, counters, at-region}
+use Rattle.rules.proofs.Counter.Counters.{counter_of, counters, at-region}
 use Rattle.rules.proofs.Counter.Unique.{unique}
 use Rattle.rules.proofs.Guard.{checks_at, checks_for, phase_of, Guards}
 use Rattle.rules.proofs.Between.{Between, not_same, not-over-do}
-use Rattle.rules.proofs.Form.Where.{From, at-guard, before_do, Stands}
+use Rattle.rules.proofs.Form.Where.{From, at_guard, before_do, Stands}
 
 -- the guard that the run stands before, or will after its do, is not across a guard
 pub own-guard : (t : Table) (i j k k' ph e ph' d : ℕ) → j < length t → i ≡ j → e ≡ d → k ≡ line_of t i + ph → k' ≡ line_of t j + ph' → From t i ph e → ph' ≡ phase_of (kind_at t j) d → Between (harden t) k k' → ⊥
-own-guard t i j k k' ph e ph' d l ij ed a b (at-guard p) q w =
+own-guard t i j k k' ph e ph' d l ij ed a b (at_guard p) q w =
     not_same (harden t) k k' (omega (arith, ap (line_of t) ij, ap (λ x. phase_of (kind_at t x) e) ij, ap (phase_of (kind_at t j)) ed)) w
 own-guard t i j k k' ph e ph' d l ij ed a b (before_do r p x) q w =
     let rj : kind_at t j ≡ Do = ap (kind_at t) (sym ij) ∙ r in
@@ -42,7 +42,7 @@ module _ (t : Table) (ok : Proper t) (n k w : ℕ) (f : Open) (fs : List Open) (
       let bb : body_region (h ∷ hs) ≡ body_region (f ∷ fs) = body_is t ok mj ∙ sym (body_is t ok st.in_function) in
       let zh : body_region (f ∷ fs) ≤ h.region = omega (arith, body_below t mj) in
       unique t ok j h hs d mj.within mj.open_is g.within g.at_opener fs f st.i st.e st.in_function.within st.in_function.open_is st.within
-      (ap (λ y. counterOf t (f ∷ fs) y h.region) (sym st.holds) ∙ sym (at-region t (body_region (f ∷ fs)) (f ∷ fs) w h.region zh)
+      (ap (λ y. counter_of t (f ∷ fs) y h.region) (sym st.holds) ∙ sym (at-region t (body_region (f ∷ fs)) (f ∷ fs) w h.region zh)
       ∙ ap (counters t (body_region (f ∷ fs)) (f ∷ fs) w) (sym (g.at_own ∙ ap (λ y. h.region - y) bb)) ∙ eqb-true _ _ x ∙ g.for_value)
 
   pub refused : (j ph d : ℕ) (h : Open) (hs : List Open) (ℓ : Line) → InFunction t n j h hs → Guards t j h hs ph d ℓ → ((st.i ≡ j) × (st.e ≡ d) → ⊥)
@@ -68,13 +68,13 @@ module _ (t : Table) (ok : Proper t) (j : ℕ) (h : Open) (ej : kind_at t j ≡ 
       omega (arith, mv.0, mv.1, ap (λ y. value t y j) q)
 
   cond-le : (f : Open) (fs : List Open) (i e : ℕ) → open_at t i ≡ f ∷ fs → e ≤ takes (kind_at t i) f.part - 1 → i ≤ j
-      → counterOf t fs (holding t f fs) h.region ≤ value t h.region j → (b : Bool) → eqb h.region f.region ≡ b
-      → cond b (value t f.region i + e) (counterOf t fs (holding t f fs) h.region) ≤ value t h.region j
+      → counter_of t fs (holding t f fs) h.region ≤ value t h.region j → (b : Bool) → eqb h.region f.region ≡ b
+      → cond b (value t f.region i + e) (counter_of t fs (holding t f fs) h.region) ≤ value t h.region j
   cond-le f fs i e k a l d true q = top-le f fs i e k a (eqb-true h.region f.region q) (eq-or-lt_of_le l)
   cond-le f fs i e k a l d false q = d
 
   not_past : (fs : List Open) (f : Open) (i e : ℕ) → open_at t i ≡ f ∷ fs → e ≤ takes (kind_at t i) f.part - 1 → i ≤ j
-      → counterOf t (f ∷ fs) (value t f.region i + e) h.region ≤ value t h.region j
+      → counter_of t (f ∷ fs) (value t f.region i + e) h.region ≤ value t h.region j
   not_past [] f i e k a l = cond-le f [] i e k a l (omega arith) (eqb h.region f.region) refl
   not_past (g ∷ gs) f i e k a l =
       let m : Held t i f (g ∷ gs) = (subst (AllHeld t i) k (held t i)).0 in
@@ -88,8 +88,8 @@ not-ended t ok n k w f fs st =
     let m = st.in_function in
     let fe = function-end t ok n m.known in
     let np = not_past t ok (end_of t (function_row t n)) fe.0 fe.1.kind_is fe.1.open_is fe.1.within fs f st.i st.e m.open_is st.within (not-past-end t ok m) in
-    let c0 : counters t (body_region (f ∷ fs)) (f ∷ fs) w 0 ≡ counterOf t (f ∷ fs) (value t f.region st.i + st.e) fe.0.region
-    = ap (counterOf t (f ∷ fs) w) (add-zero (body_region (f ∷ fs)) ∙ body_is t ok m ∙ sym fe.1.region_is) ∙ ap (λ y. counterOf t (f ∷ fs) y fe.0.region) st.holds in
+    let c0 : counters t (body_region (f ∷ fs)) (f ∷ fs) w 0 ≡ counter_of t (f ∷ fs) (value t f.region st.i + st.e) fe.0.region
+    = ap (counter_of t (f ∷ fs) w) (add-zero (body_region (f ∷ fs)) ∙ body_is t ok m ∙ sym fe.1.region_is) ∙ ap (λ y. counter_of t (f ∷ fs) y fe.0.region) st.holds in
     ne_eqb _ _ (λ x. bad (counters t (body_region (f ∷ fs)) (f ∷ fs) w 0) (value t (regions t (function_row t n)) (end_of t (function_row t n))) x (omega (arith, c0, np, ap (λ y. value t y (end_of t (function_row t n))) fe.1.region_is)))
   where
     bad : (a b : ℕ) → a ≡ b + 1 → a ≤ b → ⊥

@@ -110,21 +110,21 @@ pub record OpenedBy (t : Table) (g i : ℕ) : Type 0 where
 -- a row of this kind opens region r, or none
 data Opens (k : Kind) (j r : ℕ) (fs : List Open) : Type 0 where
   opens_one : Among r (open_after_lem (shape_of k) j r fs) → regions_after (shape_of k) r ≡ suc r → Opens k j r fs
-  opens-none : regions_after (shape_of k) r ≡ r → Opens k j r fs
+  opens_none : regions_after (shape_of k) r ≡ r → Opens k j r fs
 
 opens_by : (k : Kind) (j r : ℕ) (fs : List Open) → misplaced_in k fs ≡ false → Opens k j r fs
 unfolding misplaced_in
 opens_by Function j r fs p = opens_one (inl refl) refl
-opens_by Do j r fs p = opens-none refl
+opens_by Do j r fs p = opens_none refl
 opens_by If j r fs p = opens_one (inl refl) refl
 opens_by Else j r [] p = clash refl p
 opens_by Else j r (f ∷ fs) p = opens_one (inl refl) refl
 opens_by Loop j r fs p = opens_one (inl refl) refl
-opens_by End j r fs p = opens-none refl
-opens_by Break j r fs p = opens-none refl
-opens_by Continue j r fs p = opens-none refl
-opens_by Call j r fs p = opens-none refl
-opens_by Unknown j r fs p = opens-none refl
+opens_by End j r fs p = opens_none refl
+opens_by Break j r fs p = opens_none refl
+opens_by Continue j r fs p = opens_none refl
+opens_by Call j r fs p = opens_none refl
+opens_by Unknown j r fs p = opens_none refl
 
 pub opened-by : (t : Table) → Proper t → (g i : ℕ) → i ≤ length t → g < regions t i → OpenedBy t g i
 unfolding regions
@@ -140,7 +140,7 @@ opened-by t ok g (suc i) h l = by (dec_lt g (regions t i)) (λ m. opened-by t ok
           opens = subst (λ x. Among x (open_at t (suc i))) q (subst (Among (regions t i)) (sym (open_next t i refl refl)) a);
           number = q;
         }
-    here n (opens-none e) = absurd (n (omega arith))
+    here n (opens_none e) = absurd (n (omega arith))
 
     by : Dec (g < regions t i) → (g < regions t i → OpenedBy t g i) → OpenedBy t g (suc i)
     by (yes m) ih =

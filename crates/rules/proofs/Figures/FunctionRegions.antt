@@ -25,8 +25,8 @@ use Rattle.rules.proofs.Figures.Ended.{Among, Ended, ended, OpenedBy, opened-by}
 use Rattle.rules.proofs.Figures.Guarded.{has-by, has-none, count_is, row-off, Ending, ending, ending-line, row_on}
 
 -- the regions that the rows of function n open
-abbrev pub ownRegions : Table → (n : ℕ) → ℕ
-ownRegions t n = regions t (end_of t (function_row t n)) - regions t (function_row t n)
+abbrev pub own_regions : Table → (n : ℕ) → ℕ
+own_regions t n = regions t (end_of t (function_row t n)) - regions t (function_row t n)
 
 -- what line ph of a row of function n guards
 line-guards : (t : Table) {n i : ℕ} {f : Open} {fs : List Open} → InFunction t n i f fs → (ph : ℕ) → ph < line_count (kind_at t i) → (g : ℕ)
@@ -35,22 +35,22 @@ line-guards t {n} {i} m ph l g =
     ap (guards g) (line-at t i ph m.within l ∙ ap (λ gs. line_at (row_lines t i gs (kind_at t i)) ph) m.open_is)
 
 -- ---- no line of the function guards another region
-own_below : (t : Table) → Proper t → {n i : ℕ} {f : Open} {fs : List Open} → InFunction t n i f fs → own_region (f ∷ fs) < ownRegions t n
+own_below : (t : Table) → Proper t → {n i : ℕ} {f : Open} {fs : List Open} → InFunction t n i f fs → own_region (f ∷ fs) < own_regions t n
 own_below t ok {n} {i} {f} {fs} m =
     let c : Chain (regions t i) (f ∷ fs) = subst (Chain (regions t i)) m.open_is (chain t i) in
     omega
     (arith, c.0, body_is t ok m, body-least (regions t i) f fs c, regions-mono t {i = i} (end_of t (function_row t n)) (not-past-end t ok m))
 
-line-off : (t : Table) → Proper t → (n g k : ℕ) → ownRegions t n ≤ g → LineOf t n k → guards g (line_at (harden t) k) ≡ false
+line-off : (t : Table) → Proper t → (n g k : ℕ) → own_regions t n ≤ g → LineOf t n k → guards g (line_at (harden t) k) ≡ false
 line-off t ok n g k h s =
     let m = s.in_function in
     ap (λ x. guards g (line_at (harden t) x)) s.is ∙ line-guards t m s.ph s.ph_lt g
     ∙ row-off t s.row s.top s.others g (formed-here t ok m) (not-it (own_below t ok m)) (kind_at t s.row) s.ph s.ph_lt
   where
-    not-it : {x : ℕ} → x < ownRegions t n → x ≡ g → ⊥
+    not-it : {x : ℕ} → x < own_regions t n → x ≡ g → ⊥
     not-it a b = omega arith
 
-above : (t : Table) → Proper t → (n g : ℕ) → ownRegions t n ≤ g → has_region (harden t) n g (length (harden t)) ≡ false
+above : (t : Table) → Proper t → (n g : ℕ) → own_regions t n ≤ g → has_region (harden t) n g (length (harden t)) ≡ false
 above t ok n g h =
     has-none (harden t) n g (length (harden t))
     (λ k l e. let p = placed t ok k l in line-off t ok n g k h (subst (λ x. LineOf t x k) (sym p.counted ∙ e) p.line))
@@ -114,7 +114,7 @@ ender-by t ok n g i k b d =
       ends = ending (kind_at t d.row) d.closing;
     }
 
-ender : (t : Table) → Proper t → (n g : ℕ) → n < function_count t → g < ownRegions t n → Ender t n g
+ender : (t : Table) → Proper t → (n g : ℕ) → n < function_count t → g < own_regions t n → Ender t n g
 ender t ok n g k h = by (opened-by t ok (regions t (function_row t n) + g) (end_of t (function_row t n)) inside (omega arith))
   where
     inside : end_of t (function_row t n) ≤ length t
@@ -126,7 +126,7 @@ ender t ok n g k h = by (opened-by t ok (regions t (function_row t n) + g) (end_
         ender-by t ok n g (suc o.row) k (ap body_region s.in_function.open_is ∙ body_is t ok s.in_function)
         (ended t ok (regions t (function_row t n) + g) (suc o.row) (omega (arith, o.before, inside)) o.opens)
 
-below : (t : Table) → Proper t → (n g : ℕ) → n < function_count t → g < ownRegions t n → has_region (harden t) n g (length (harden t)) ≡ true
+below : (t : Table) → Proper t → (n g : ℕ) → n < function_count t → g < own_regions t n → has_region (harden t) n g (length (harden t)) ≡ true
 below t ok n g k h =
     let e = ender t ok n g k h in
     let m = e.in_function in
@@ -136,12 +136,12 @@ below t ok n g k h =
     (length (harden t)) (omega (arith, l, lines_all t, line-next t e.row (length t) m.within))
 
 -- ---- so they are as many
-own-few : (t : Table) → Proper t → (n : ℕ) → n < function_count t → ownRegions t n ≤ max_regions
+own-few : (t : Table) → Proper t → (n : ℕ) → n < function_count t → own_regions t n ≤ max_regions
 own-few t ok n k =
     let e = function-end t ok n k in
     omega (arith, e.1.region_is, regions-few t ok (end_of t (function_row t n)) (omega (arith, e.1.within)) e.1.open_is)
 
-pub regions-in : (t : Table) → Proper t → (n : ℕ) → n < function_count t → regions_in (harden t) n max_regions ≡ ownRegions t n
+pub regions-in : (t : Table) → Proper t → (n : ℕ) → n < function_count t → regions_in (harden t) n max_regions ≡ own_regions t n
 regions-in t ok n k =
     omega
-    (arith, count_is (harden t) n (ownRegions t n) (λ g h. below t ok n g k h) (λ g h. above t ok n g h) max_regions, own-few t ok n k)
+    (arith, count_is (harden t) n (own_regions t n) (λ g h. below t ok n g k h) (λ g h. above t ok n g h) max_regions, own-few t ok n k)

@@ -17,7 +17,7 @@ use Rattle.rules.specs.Figures.{lines_by}
 use Rattle.rules.proofs.Logic.{clash}
 use Rattle.rules.proofs.Accepted.{Proper}
 use Rattle.rules.proofs.Place.{lines_all}
-use Rattle.rules.proofs.Figures.Sums.{sumsAt, sums-start, sums_next}
+use Rattle.rules.proofs.Figures.Sums.{sums_at, sums-start, sums_next}
 
 lines_next : (i g : ℕ) (k : Kind) (fs : List Open) (x y : ℕ) → misplaced_in k fs ≡ false → x + length fs ≡ y
     → (x + line_count k) + length (open_after_lem (shape_of k) i g fs) ≡ y + lines_by k
@@ -35,12 +35,12 @@ lines_next i g Continue fs x y p e = omega arith
 lines_next i g Call fs x y p e = omega arith
 lines_next i g Unknown fs x y p e = omega arith
 
-lines-so-far : (t : Table) → Proper t → (i : ℕ) → i ≤ length t → line_of t i + length (open_at t i) ≡ (sumsAt t i).lines
+lines-so-far : (t : Table) → Proper t → (i : ℕ) → i ≤ length t → line_of t i + length (open_at t i) ≡ (sums_at t i).lines
 unfolding line_of open_at
 lines-so-far t ok zero h = ap (λ s. s.lines) (sym (sums-start t))
 lines-so-far t ok (suc i) h =
-    lines_next i (regions t i) (kind_at t i) (open_at t i) (line_of t i) (sumsAt t i).lines (ok.rows i h).placed (lines-so-far t ok i (omega arith))
+    lines_next i (regions t i) (kind_at t i) (open_at t i) (line_of t i) (sums_at t i).lines (ok.rows i h).placed (lines-so-far t ok i (omega arith))
     ∙ ap (λ s. s.lines) (sym (sums_next t i))
 
-pub line-sum : (t : Table) → Proper t → length (harden t) ≡ (sumsAt t (length t)).lines
+pub line-sum : (t : Table) → Proper t → length (harden t) ≡ (sums_at t (length t)).lines
 line-sum t ok = omega (arith, lines_all t, lines-so-far t ok (length t) (le_refl _), ap length ok.closed)

@@ -21,8 +21,8 @@ use Rattle.rules.proofs.Value.{Silent, a_function}
 use Rattle.rules.proofs.Function.{function-at, function-zero, functions-mono, some-function, opens-function, not-silent, is-function, function-end, after_it, somewhere}
 use Rattle.rules.proofs.Place.{lines_all, function-outside, functions-next, functions-home}
 use Rattle.rules.proofs.FunctionLine.{row-of-function}
-use Rattle.rules.proofs.Figures.Sums.{sumsAt, sums-start, sums_next, after_more, opened-more}
-use Rattle.rules.proofs.Figures.FunctionRegions.{ownRegions, regions-in}
+use Rattle.rules.proofs.Figures.Sums.{sums_at, sums-start, sums_next, after_more, opened-more}
+use Rattle.rules.proofs.Figures.FunctionRegions.{own_regions, regions-in}
 
 -- ---- the functions follow each other
 module _ (t : Table) (ok : Proper t) (n : ℕ) (known : n < function_count t) where
@@ -59,23 +59,23 @@ module _ (t : Table) (ok : Proper t) (n : ℕ) (known : n < function_count t) wh
 -- ---- the running count
 -- the count s inside a function: before it the most was m and g regions were opened, now r are
 record Running (m g r : ℕ) (s : Sums) : Type 0 where
-  opened-is : s.opened ≡ r - g
+  opened_is : s.opened ≡ r - g
   most_is : s.most ≡ max m (r - g)
 
 running-next : (m g r x : ℕ) (k : Kind) (s : Sums) → g ≤ r → is_function_lem k ≡ false → x ≡ regions_after (shape_of k) r → Running m g r s → Running m g x (counted k s)
 running-next m g r x k s h e q p =
     let o = opened-more k s.opened e in
-    let w : opened_by k s.opened ≡ x - g = omega (arith, o, q, p.opened-is, after_more (shape_of k) r) in
-    record { opened-is = w; most_is = omega (arith, w, p.most_is, q, after_more (shape_of k) r) }
+    let w : opened_by k s.opened ≡ x - g = omega (arith, o, q, p.opened_is, after_more (shape_of k) r) in
+    record { opened_is = w; most_is = omega (arith, w, p.most_is, q, after_more (shape_of k) r) }
 
 module _ (t : Table) (ok : Proper t) (n : ℕ) (known : n < function_count t) where
-  running-first : Running (sumsAt t (function_row t n)).most (regions t (function_row t n)) (regions t (suc (function_row t n))) (sumsAt t (suc (function_row t n)))
+  running-first : Running (sums_at t (function_row t n)).most (regions t (function_row t n)) (regions t (suc (function_row t n))) (sums_at t (suc (function_row t n)))
   running-first =
       let a = function-at t ok n known in
       let r : regions t (suc (function_row t n)) ≡ suc (regions t (function_row t n)) = regions-next t (function_row t n) a.kind_is in
-      subst (Running (sumsAt t (function_row t n)).most (regions t (function_row t n)) (regions t (suc (function_row t n))))
-      (sym (sums_next t (function_row t n) ∙ ap (λ k. counted k (sumsAt t (function_row t n))) a.kind_is))
-      (record { opened-is = omega (arith, r); most_is = omega (arith, r) })
+      subst (Running (sums_at t (function_row t n)).most (regions t (function_row t n)) (regions t (suc (function_row t n))))
+      (sym (sums_next t (function_row t n) ∙ ap (λ k. counted k (sums_at t (function_row t n))) a.kind_is))
+      (record { opened_is = omega (arith, r); most_is = omega (arith, r) })
 
   no_function : (j : ℕ) → suc (function_row t n) ≤ j → j ≤ end_of t (function_row t n) → is_function_lem (kind_at t j) ≡ false
   no_function j h l = by (is_function_lem (kind_at t j)) refl
@@ -87,43 +87,43 @@ module _ (t : Table) (ok : Proper t) (n : ℕ) (known : n < function_count t) wh
       by false e = refl
 
   running : (j : ℕ) → suc (function_row t n) ≤ j → j ≤ suc (end_of t (function_row t n))
-      → Running (sumsAt t (function_row t n)).most (regions t (function_row t n)) (regions t j) (sumsAt t j)
+      → Running (sums_at t (function_row t n)).most (regions t (function_row t n)) (regions t j) (sums_at t j)
   running j h =
-      le_ind (λ x. x ≤ suc (end_of t (function_row t n)) → Running (sumsAt t (function_row t n)).most (regions t (function_row t n)) (regions t x) (sumsAt t x))
+      le_ind (λ x. x ≤ suc (end_of t (function_row t n)) → Running (sums_at t (function_row t n)).most (regions t (function_row t n)) (regions t x) (sums_at t x))
       (λ b. running-first)
       (λ x l ih b.
-      subst (Running (sumsAt t (function_row t n)).most (regions t (function_row t n)) (regions t (suc x))) (sym (sums_next t x))
-      (running-next (sumsAt t (function_row t n)).most (regions t (function_row t n)) (regions t x) (regions t (suc x)) (kind_at t x) (sumsAt t x)
+      subst (Running (sums_at t (function_row t n)).most (regions t (function_row t n)) (regions t (suc x))) (sym (sums_next t x))
+      (running-next (sums_at t (function_row t n)).most (regions t (function_row t n)) (regions t x) (regions t (suc x)) (kind_at t x) (sums_at t x)
       (regions-mono t {i = function_row t n} x (omega arith)) (no_function x l (omega arith)) (regions-next t x refl) (ih (omega arith)))) j h
 
   -- past its end
-  most-past : (sumsAt t (suc (end_of t (function_row t n)))).most ≡ max (sumsAt t (function_row t n)).most (ownRegions t n)
+  most-past : (sums_at t (suc (end_of t (function_row t n)))).most ≡ max (sums_at t (function_row t n)).most (own_regions t n)
   most-past =
       omega
       (arith, (running (suc (end_of t (function_row t n))) (omega (arith, after_it t ok n known)) (le_refl _)).most_is, regions-next t (end_of t (function_row t n)) (function-end t ok n known).1.kind_is)
 
 -- ---- function by function
-most-more : (t : Table) → Proper t → (n : ℕ) → n < function_count t → (sumsAt t (function_row t n)).most ≡ most_in (harden t) n
-    → (sumsAt t (suc (end_of t (function_row t n)))).most ≡ most_in (harden t) (suc n)
+most-more : (t : Table) → Proper t → (n : ℕ) → n < function_count t → (sums_at t (function_row t n)).most ≡ most_in (harden t) n
+    → (sums_at t (suc (end_of t (function_row t n)))).most ≡ most_in (harden t) (suc n)
 unfolding most_in
 most-more t ok n k e = omega (arith, most-past t ok n k, regions-in t ok n k, e)
 
-most-before : (t : Table) → Proper t → (n : ℕ) → n < function_count t → (sumsAt t (function_row t n)).most ≡ most_in (harden t) n
+most-before : (t : Table) → Proper t → (n : ℕ) → n < function_count t → (sums_at t (function_row t n)).most ≡ most_in (harden t) n
 unfolding most_in
-most-before t ok zero k = ap (λ o. (sumsAt t o).most) (function-zero t ok) ∙ ap (λ s. s.most) (sums-start t)
+most-before t ok zero k = ap (λ o. (sums_at t o).most) (function-zero t ok) ∙ ap (λ s. s.most) (sums-start t)
 most-before t ok (suc n) k =
-    ap (λ o. (sumsAt t o).most) (next-function t ok n (omega arith) k) ∙ most-more t ok n (omega arith) (most-before t ok n (omega arith))
+    ap (λ o. (sums_at t o).most) (next-function t ok n (omega arith) k) ∙ most-more t ok n (omega arith) (most-before t ok n (omega arith))
 
-most-all : (t : Table) → Proper t → (c : ℕ) → function_count t ≡ c → most_in (harden t) c ≡ (sumsAt t (length t)).most
+most-all : (t : Table) → Proper t → (c : ℕ) → function_count t ≡ c → most_in (harden t) c ≡ (sums_at t (length t)).most
 most-all t ok zero e = absurd (none (some-function t ok))
   where
     none : 0 < function_count t → ⊥
     none h = omega arith
 most-all t ok (suc n) e =
     let k : n < function_count t = omega arith in
-    sym (most-more t ok n k (most-before t ok n k)) ∙ ap (λ o. (sumsAt t o).most) (sym (last-function t ok n k e))
+    sym (most-more t ok n k (most-before t ok n k)) ∙ ap (λ o. (sums_at t o).most) (sym (last-function t ok n k e))
 
-pub most-regions : (t : Table) → Proper t → most_regions (harden t) ≡ (sumsAt t (length t)).most
+pub most-regions : (t : Table) → Proper t → most_regions (harden t) ≡ (sums_at t (length t)).most
 most-regions t ok =
     ap (most_in (harden t)) (ap (function_at (harden t)) (lines_all t) ∙ function-outside t ok (length t) (le_refl _) ok.closed)
     ∙ most-all t ok (function_count t) refl

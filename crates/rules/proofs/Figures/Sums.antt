@@ -12,34 +12,34 @@ use Rattle.rules.specs.Scan.{Shape, pushes, turns, closes, stays, shape_of, regi
 use Rattle.rules.specs.Figures.{opened_by, no_sums, counted, sums_from, sums_of}
 
 -- the sums of the rows before row i, on top of s
-pub sumsTo : Table → Sums → (i : ℕ) → Sums
-sumsTo t s zero = s
-sumsTo t s (suc i) = counted (kind_at t i) (sumsTo t s i)
+pub sums_to : Table → Sums → (i : ℕ) → Sums
+sums_to t s zero = s
+sums_to t s (suc i) = counted (kind_at t i) (sums_to t s i)
 
-sums-behind : (r : Row) (t : Table) (s : Sums) (i : ℕ) → sumsTo (r ∷ t) s (suc i) ≡ sumsTo t (counted r.kind s) i
-unfolding sumsTo
+sums-behind : (r : Row) (t : Table) (s : Sums) (i : ℕ) → sums_to (r ∷ t) s (suc i) ≡ sums_to t (counted r.kind s) i
+unfolding sums_to
 sums-behind r t s zero = refl
 sums-behind r t s (suc i) = ap (counted (kind_at t i)) (sums-behind r t s i)
 
-sums-to : (t : Table) (s : Sums) → sums_from t s ≡ sumsTo t s (length t)
-unfolding sums_from sumsTo
+sums-to : (t : Table) (s : Sums) → sums_from t s ≡ sums_to t s (length t)
+unfolding sums_from sums_to
 sums-to [] s = refl
 sums-to (r ∷ t) s = sums-to t (counted r.kind s) ∙ sym (sums-behind r t s (length t))
 
 -- the sums so far
-pub sumsAt : Table → (i : ℕ) → Sums
-sumsAt t i = sumsTo t no_sums i
+pub sums_at : Table → (i : ℕ) → Sums
+sums_at t i = sums_to t no_sums i
 
-pub sums-start : (t : Table) → sumsAt t 0 ≡ no_sums
-unfolding sumsAt sumsTo
+pub sums-start : (t : Table) → sums_at t 0 ≡ no_sums
+unfolding sums_at sums_to
 sums-start t = refl
 
-pub sums_next : (t : Table) (i : ℕ) → sumsAt t (suc i) ≡ counted (kind_at t i) (sumsAt t i)
-unfolding sumsAt sumsTo
+pub sums_next : (t : Table) (i : ℕ) → sums_at t (suc i) ≡ counted (kind_at t i) (sums_at t i)
+unfolding sums_at sums_to
 sums_next t i = refl
 
-pub sums-all : (t : Table) → sums_of t ≡ sumsAt t (length t)
-unfolding sumsAt
+pub sums-all : (t : Table) → sums_of t ≡ sums_at t (length t)
+unfolding sums_at
 sums-all t = sums-to t no_sums
 
 -- ---- rows behind others

@@ -59,20 +59,20 @@ row-traced t i fs Call s = call-traced t i (operands_at t i).n s
 row-traced t i fs Unknown s = omega arith
 
 -- the dos of the first b steps, and what they add to the trace
-isDoAt : Table → (k : ℕ) → Source → Bool
-isDoAt t k s = is_do_lem (kind_at t s.running.at)
+is_do_at : Table → (k : ℕ) → Source → Bool
+is_do_at t k s = is_do_lem (kind_at t s.running.at)
 
 traced-by : (t : Table) (b k n d : ℕ) (u : Turn (Unit {0})) → Traced n d u
-    → ((s : Source) → length (run (λ k s. source_step t s) b (suc k) s).state.trace ≡ length s.trace + tally (isDoAt t) (λ k s. source_step t s) b (suc k) s)
+    → ((s : Source) → length (run (λ k s. source_step t s) b (suc k) s).state.trace ≡ length s.trace + tally (is_do_at t) (λ k s. source_step t s) b (suc k) s)
     → length (after k u (λ s. run (λ k s. source_step t s) b (suc k) s)).state.trace
-    ≡ n + if_done u (λ s. d + tally (isDoAt t) (λ k s. source_step t s) b (suc k) s)
+    ≡ n + if_done u (λ s. d + tally (is_do_at t) (λ k s. source_step t s) b (suc k) s)
 traced-by t b k n d (on s) p ih = omega (arith, p, ih s)
 traced-by t b k n d (ends o s) p ih = omega (arith, p)
 traced-by t b k n d (untaken o s) p ih = omega (arith, p)
 
 traced : (t : Table) (b k : ℕ) (s : Source)
-    → length (run (λ k s. source_step t s) b k s).state.trace ≡ length s.trace + tally (isDoAt t) (λ k s. source_step t s) b k s
-unfolding run tally source_step isDoAt
+    → length (run (λ k s. source_step t s) b k s).state.trace ≡ length s.trace + tally (is_do_at t) (λ k s. source_step t s) b k s
+unfolding run tally source_step is_do_at
 traced t zero k s = omega arith
 traced t (suc b) k s =
     let i = s.running.at in
@@ -80,5 +80,5 @@ traced t (suc b) k s =
     (λ s'. traced t b (suc k) s')
 
 pub dos-traced : (t : Table) (b : ℕ) (vs : List ℕ) → length (source_run t b vs).state.trace ≡ dos_in_lem t b vs
-unfolding dos_in_lem isDoAt
+unfolding dos_in_lem is_do_at
 dos-traced t b vs = traced t b 0 (source_start vs) ∙ omega arith

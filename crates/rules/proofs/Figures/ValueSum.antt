@@ -21,7 +21,7 @@ use Rattle.rules.proofs.Accepted.{Proper}
 use Rattle.rules.proofs.Scan.{Chain, chain, regions-mono}
 use Rattle.rules.proofs.Function.{Formed, formed, end-takes-none}
 use Rattle.rules.proofs.ValueBound.{sum, sum-add, none_below, base_sum}
-use Rattle.rules.proofs.Figures.Sums.{sumsAt, sums-start, sums_next}
+use Rattle.rules.proofs.Figures.Sums.{sums_at, sums-start, sums_next}
 
 -- ---- what a row takes in all regions together
 sum-none : (n : ℕ) → sum (λ g. 0) n ≡ 0
@@ -75,7 +75,7 @@ row-sum t i Unknown g (f ∷ fs) p w c n h = omega (arith, sum-own Unknown f fs 
 
 -- the rows before row i: what they take, the first value of each region that they open, and what is owed
 sum-so-far : (t : Table) → Proper t → (i : ℕ) → i ≤ length t → (n : ℕ) → regions t i ≤ n
-    → sum (λ g. taken t g i) n + regions t i + owed (open_at t i) ≡ (sumsAt t i).value
+    → sum (λ g. taken t g i) n + regions t i + owed (open_at t i) ≡ (sums_at t i).value
 unfolding taken regions open_at
 sum-so-far t ok zero h n l = omega (arith, sum-none n, ap (λ s. s.value) (sums-start t))
 sum-so-far t ok (suc i) h n l =
@@ -89,7 +89,7 @@ sum-so-far t ok (suc i) h n l =
     )
 
 -- ---- the base that a region after the last would have is one more than the sum over the rows
-pub base-top : (t : Table) → Proper t → base t (regions t (length t)) ≡ suc (sumsAt t (length t)).value
+pub base-top : (t : Table) → Proper t → base t (regions t (length t)) ≡ suc (sums_at t (length t)).value
 base-top t ok =
     omega
     (arith, base_sum t (regions t (length t)), sum-so-far t ok (length t) (le_refl _) (regions t (length t)) (le_refl _), ap owed ok.closed)

@@ -21,7 +21,7 @@ use Rattle.rules.proofs.Value.{takes-off, value-next}
 use Rattle.rules.proofs.Harden.{line-next, some_line, line-at}
 use Rattle.rules.proofs.Function.{not-silent, row_zero}
 use Rattle.rules.proofs.Place.{lines_all}
-use Rattle.rules.proofs.Figures.Sums.{sumsAt}
+use Rattle.rules.proofs.Figures.Sums.{sums_at}
 use Rattle.rules.proofs.Figures.Ended.{Ended, ended, opened-by}
 use Rattle.rules.proofs.Figures.ValueSum.{base-top}
 use Rattle.rules.proofs.Figures.ValueTop.{base-next, values-below}
@@ -118,5 +118,5 @@ top-named t ok = by (regions t (length t)) refl (some-region t ok)
         let d = ended t ok g (suc o.row) o.before o.opens in
         omega (arith, base-next t g, last-named t ok g (suc o.row) d)
 
-pub highest-value : (t : Table) → Proper t → highest_value (harden t) ≡ (sumsAt t (length t)).value
+pub highest-value : (t : Table) → Proper t → highest_value (harden t) ≡ (sums_at t (length t)).value
 highest-value t ok = omega (arith, base-top t ok, top-named t ok, values-below t ok)

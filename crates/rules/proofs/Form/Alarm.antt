@@ -31,9 +31,9 @@ use Rattle.rules.proofs.Harden.{line-at}
 use Rattle.rules.proofs.Function.{InFunction, formed-here}
 use Rattle.rules.proofs.Place.{start-finish, before_finish, line-of}
 use Rattle.rules.proofs.Form.Settles.{Settles}
-use Rattle.rules.proofs.Form.Relation.{Back, waiting, lineBacks, hard, Linked, Related, step-at}
+use Rattle.rules.proofs.Form.Relation.{Back, waiting, line_backs, hard, Linked, Related, step-at}
 use Rattle.rules.proofs.Guard.{Sort, a_do, a_guard, sort}
-use Rattle.rules.proofs.Form.Struck.{landedAt, Caught, at_once, one_later, overflowing}
+use Rattle.rules.proofs.Form.Struck.{landed_at, Caught, at_once, one_later, overflowing}
 use Rattle.rules.proofs.Form.Strict.{Strict}
 use Rattle.rules.proofs.Between.{Between, up, down, between}
 use Rattle.rules.proofs.Form.Where.{Stands, stands}
@@ -78,9 +78,9 @@ guard-fits (back_line r e a b) g s = refl
 guard-fits (Line.ret_line e a) g s = refl
 
 -- a guard between k and a do is also between k and the line after the do
-past-do : (ls : List Line) (k k' : ℕ) → is_guard (line_at ls k') ≡ false → Between ls k k' → Between ls k (suc k')
-past-do ls k k' d (up x a b g) = up x a (omega arith) g
-past-do ls k k' d (down x a b g) = by (eq-or-lt_of_le a)
+past_do : (ls : List Line) (k k' : ℕ) → is_guard (line_at ls k') ≡ false → Between ls k k' → Between ls k (suc k')
+past_do ls k k' d (up x a b g) = up x a (omega arith) g
+past_do ls k k' d (down x a b g) = by (eq-or-lt_of_le a)
   where
     by : (k' ≡ x) ⊎ (k' < x) → Between ls k (suc k')
     by (inl e) = clash g (ap (λ y. is_guard (line_at ls y)) (sym e) ∙ d)
@@ -104,28 +104,28 @@ module _ (t : Table) (ok : Proper t) {H : Type 0} {F : Form H} (S : Settles t F)
   abbrev at : ℕ
   at = start_of (harden t) n + p
 
-  caught-last : p ≡ last_place (harden t) n → (bs : List Back) → Linked t n bs → Caught F (harden t) p (from (lineBacks S bs))
+  caught-last : p ≡ last_place (harden t) n → (bs : List Back) → Linked t n bs → Caught F (harden t) p (from (line_backs S bs))
   unfolding alarm_step row_lines
-  caught-last e [] lk = at_once (fits_last [] e) (λ k. rw (eq-eqb p (last_place (harden t) n) e)) (landedAt (harden t) p (from []))
+  caught-last e [] lk = at_once (fits_last [] e) (λ k. rw (eq-eqb p (last_place (harden t) n) e)) (landed_at (harden t) p (from []))
       (step-finish F t n at cn [] l vs tr (omega (arith, start-finish t ok n st.in_function.known))
-      ∙ ap (λ x. must x (landedAt (harden t) p (from [])) (ends Finished (landedAt (harden t) p (from []))))
-      (R.not-host k w f fs (subst (λ x. Stands t x k w f fs) lk st)))
+      ∙ ap (λ x. must x (landed_at (harden t) p (from [])) (ends Finished (landed_at (harden t) p (from []))))
+      (R.not_host k w f fs (subst (λ x. Stands t x k w f fs) lk st)))
       (rw (done-last [] e) (record { vars_are = refl; trace_is = refl }))
   caught-last e (b ∷ bs) lk =
       let cl = lk.0 in
-      let h = hard b.function (suc (line_of t b.row)) (waiting S b.row) (lineBacks S bs) cn vs tr in
+      let h = hard b.function (suc (line_of t b.row)) (waiting S b.row) (line_backs S bs) cn vs tr in
       let ct : line_count (kind_at t b.row) ≡ 2 = ap line_count cl.calls in
       let back_is : line_at (harden t) (suc (line_of t b.row)) ≡ back_of t b.row (cl.top ∷ cl.others) n
       = ap (line_at (harden t)) (let z : suc (line_of t b.row) ≡ line_of t b.row + 1 = omega arith in z) ∙ line-at t b.row 1 cl.in_function.within (omega (arith, ct))
       ∙ ap (λ s. line_at (row_lines t b.row s (kind_at t b.row)) 1) cl.in_function.open_is ∙ ap (λ x. line_at (row_lines t b.row (cl.top ∷ cl.others) x) 1) cl.calls ∙ ap (back_of t b.row (cl.top ∷ cl.others)) cl.callee in
-      one_later (fits_last (lineBacks S (b ∷ bs)) e) (λ k. rw (eq-eqb p (last_place (harden t) n) e, ne_eqb (suc (suc (length (lineBacks S bs)))) 1 (λ x. bad x))) h h
-      (step-finish F t n at cn (lineBacks S (b ∷ bs)) l vs tr (omega (arith, start-finish t ok n st.in_function.known)))
+      one_later (fits_last (line_backs S (b ∷ bs)) e) (λ k. rw (eq-eqb p (last_place (harden t) n) e, ne_eqb (suc (suc (length (line_backs S bs)))) 1 (λ x. bad x))) h h
+      (step-finish F t n at cn (line_backs S (b ∷ bs)) l vs tr (omega (arith, start-finish t ok n st.in_function.known)))
       (omega (arith, before_finish t ok cl.in_function, ct))
       (step-at S b.function (suc (line_of t b.row)) _ (omega (arith, before_finish t ok cl.in_function, ct)) back_is _ _ cn vs tr
-      ∙ check-fails F (harden t) _ b.function (suc (line_of t b.row)) (waiting S b.row) (lineBacks S bs) cn vs tr refl (R.not_back n k w f fs st cl.in_function cl.calls cl.callee _))
-      (rw (done-last (lineBacks S (b ∷ bs)) e) (record { vars_are = refl; trace_is = refl })) (rw (done-last (lineBacks S (b ∷ bs)) e) (record { vars_are = refl; trace_is = refl }))
+      ∙ check-fails F (harden t) _ b.function (suc (line_of t b.row)) (waiting S b.row) (line_backs S bs) cn vs tr refl (R.not_back n k w f fs st cl.in_function cl.calls cl.callee _))
+      (rw (done-last (line_backs S (b ∷ bs)) e) (record { vars_are = refl; trace_is = refl })) (rw (done-last (line_backs S (b ∷ bs)) e) (record { vars_are = refl; trace_is = refl }))
     where
-      bad : suc (suc (length (lineBacks S bs))) ≡ 1 → ⊥
+      bad : suc (suc (length (line_backs S bs))) ≡ 1 → ⊥
       bad x = omega arith
 
   -- ---- a place before a line
@@ -135,21 +135,21 @@ module _ (t : Table) (ok : Proper t) {H : Type 0} {F : Form H} (S : Settles t F)
 
     caught-guard : (ℓ : Line) → line_at (harden t) at ≡ ℓ → is_guard ℓ ≡ true → Caught F (harden t) p (from rest)
     unfolding alarm_step done_at overflows_at
-    caught-guard ℓ q g = at_once (rw (not_last, q) (guard-fits ℓ g (from rest))) (λ k. rw (not_last, q, g)) (landedAt (harden t) p (from rest))
+    caught-guard ℓ q g = at_once (rw (not_last, q) (guard-fits ℓ g (from rest))) (λ k. rw (not_last, q, g)) (landed_at (harden t) p (from rest))
         (step-at S n at ℓ (omega arith) q cn rest l vs tr
         ∙ check-fails F (harden t) ℓ n at cn rest l vs tr g (subst (λ x. (F.guard at x).passes cn l ≡ false) q (R.refuses n k w f fs st at (omega arith) (omega arith) (ap is_guard q ∙ g) wide l)))
         (rw (not_last, q, guard-keeps ℓ g (from rest)) (record { vars_are = refl; trace_is = refl }))
 
     -- a do, by whether it overflows on the variables of the run
     does : (j : ℕ) → line_at (harden t) at ≡ do_line (operands_at t j) j → (y : Bool) → overflows (operands_at t j) vs ≡ y
-        → step_of F (harden t) (landedAt (harden t) p (from rest)) ≡ cond y (ends (Overflow j (variable vs (operands_at t j).p)) (landedAt (harden t) p (from rest))) (on (hard n (suc at) cn rest l (done_on (operands_at t j) vs) (tr ++ (j ∷ []))))
+        → step_of F (harden t) (landed_at (harden t) p (from rest)) ≡ cond y (ends (Overflow j (variable vs (operands_at t j).p)) (landed_at (harden t) p (from rest))) (on (hard n (suc at) cn rest l (done_on (operands_at t j) vs) (tr ++ (j ∷ []))))
     unfolding turn_by
     does j q true o = step-at S n at _ (omega arith) q cn rest l vs tr ∙ rw o
     does j q false o = step-at S n at _ (omega arith) q cn rest l vs tr ∙ rw o
 
     caught-overflow : (j : ℕ) → line_at (harden t) at ≡ do_line (operands_at t j) j → overflows (operands_at t j) vs ≡ true → Caught F (harden t) p (from rest)
     unfolding overflows_at
-    caught-overflow j q o = overflowing (rw (not_last, q) o) j (variable vs (operands_at t j).p) (landedAt (harden t) p (from rest)) (does j q true o) (record { vars_are = refl; trace_is = refl })
+    caught-overflow j q o = overflowing (rw (not_last, q) o) j (variable vs (operands_at t j).p) (landed_at (harden t) p (from rest)) (does j q true o) (record { vars_are = refl; trace_is = refl })
 
     caught-do : (j : ℕ) (h : Open) (hs : List Open) → InFunction t n j h hs → at ≡ line_of t j → kind_at t j ≡ Do → line_at (harden t) at ≡ do_line (operands_at t j) j → overflows (operands_at t j) vs ≡ false
         → Caught F (harden t) p (from rest)
@@ -166,7 +166,7 @@ module _ (t : Table) (ok : Proper t) {H : Type 0} {F : Form H} (S : Settles t F)
         late
         (step-at S n (suc at) _ late tick_is cn rest l _ _
         ∙ check-fails F (harden t) _ n (suc at) cn rest l _ _ refl
-        (subst (λ x. (F.guard (suc at) x).passes cn l ≡ false) tick_is (R.refuses n k w f fs st (suc at) (omega arith) late (ap is_guard tick_is) (past-do (harden t) k at (ap is_guard q) wide) l)))
+        (subst (λ x. (F.guard (suc at) x).passes cn l ≡ false) tick_is (R.refuses n k w f fs st (suc at) (omega arith) late (ap is_guard tick_is) (past_do (harden t) k at (ap is_guard q) wide) l)))
         (rw (not_last, q) (record { vars_are = refl; trace_is = refl })) (rw (not_last, q) (record { vars_are = refl; trace_is = refl }))
 
     caught-line : (j ph : ℕ) (h : Open) (hs : List Open) → InFunction t n j h hs → at ≡ line_of t j + ph → line_at (harden t) at ≡ line_at (row_lines t j (h ∷ hs) (kind_at t j)) ph
@@ -179,14 +179,14 @@ module _ (t : Table) (ok : Proper t) {H : Type 0} {F : Form H} (S : Settles t F)
         by false o = caught-do j h hs mj (omega arith) r (q ∙ x) o
 
   -- ---- any place across a guard
-  caught : (bs : List Back) → Linked t n bs → p ≤ last_place (harden t) n → Between (harden t) k at → Caught F (harden t) p (from (lineBacks S bs))
+  caught : (bs : List Back) → Linked t n bs → p ≤ last_place (harden t) n → Between (harden t) k at → Caught F (harden t) p (from (line_backs S bs))
   caught bs lk b wide = by (eq-or-lt_of_le b)
     where
-      by : (p ≡ last_place (harden t) n) ⊎ (p < last_place (harden t) n) → Caught F (harden t) p (from (lineBacks S bs))
+      by : (p ≡ last_place (harden t) n) ⊎ (p < last_place (harden t) n) → Caught F (harden t) p (from (line_backs S bs))
       by (inl e) = caught-last e bs lk
       by (inr x) =
           let pl = line-of t ok n at st.in_function.known (omega arith) (omega arith) in
-          caught-line (lineBacks S bs) x wide pl.row pl.ph pl.top pl.others pl.in_function pl.is
+          caught-line (line_backs S bs) x wide pl.row pl.ph pl.top pl.others pl.in_function pl.is
           (ap (line_at (harden t)) pl.is ∙ line-at t pl.row pl.ph pl.in_function.within pl.ph_lt ∙ ap (λ s. line_at (row_lines t pl.row s (kind_at t pl.row)) pl.ph) pl.in_function.open_is)
           (sort t pl.row pl.top pl.others (formed-here t ok pl.in_function) (kind_at t pl.row) refl pl.ph pl.ph_lt)
 
@@ -196,6 +196,6 @@ Catches t F p h =
     p ≤ last_place (harden t) h.running.function → guard_between (harden t) h.running.at (place_line (harden t) p h) ≡ true → Caught F (harden t) p h
 
 pub catches : (t : Table) → Proper t → {H : Type 0} {F : Form H} (S : Settles t F) → Strict S → (d : ℕ) (s : Source) (h : State H) → Related S d s h → (p : ℕ) → Catches t F p h
-catches t ok {F = F} S R d s h r p = subst (Catches t F p) (sym r.h-is)
+catches t ok {F = F} S R d s h r p = subst (Catches t F p) (sym r.h_is)
     (λ b w. caught t ok S R r.n r.k r.w r.f r.fs (stands t ok S r.n r.i r.j r.k r.w _ r.f r.fs r.in_function r.mode) r.l r.vs r.tr p
     r.rest r.linked b (between (harden t) r.k (start_of (harden t) r.n + p) w))

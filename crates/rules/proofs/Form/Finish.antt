@@ -19,16 +19,16 @@ use Rattle.rules.specs.Match.{is_do_lem, dos_in_lem, calls_in}
 use Rattle.rules.specs.Demands.{Finishing}
 use Rattle.rules.proofs.Accepted.{Proper}
 use Rattle.rules.proofs.Form.Settles.{Settles}
-use Rattle.rules.proofs.Form.Relation.{Related, finish, early, Both, both-on, both_end, extra}
-use Rattle.rules.proofs.Form.Simulate.{extraAt, Next, moves, waits, next, start}
-use Rattle.rules.proofs.Form.Unstruck.{sourceMachine, lineMachine}
+use Rattle.rules.proofs.Form.Relation.{Related, finish, early, Both, both_on, both_end, extra}
+use Rattle.rules.proofs.Form.Simulate.{extra_at, Next, moves, waits, next, start}
+use Rattle.rules.proofs.Form.Unstruck.{source_machine, line_machine}
 
 -- the dos and the calls of the first b steps
 abbrev dos : Table → (b k : ℕ) → Source → ℕ
-dos t b k s = tally (λ k s. is_do_lem (kind_at t s.running.at)) (sourceMachine t) b k s
+dos t b k s = tally (λ k s. is_do_lem (kind_at t s.running.at)) (source_machine t) b k s
 
 abbrev calls : Table → (b k : ℕ) → Source → ℕ
-calls t b k s = tally (λ k s. is_call (kind_at t s.running.at)) (sourceMachine t) b k s
+calls t b k s = tally (λ k s. is_call (kind_at t s.running.at)) (source_machine t) b k s
 
 -- a do and a call have one line more
 extra-is : (k : Kind) → extra k ≡ cond (is_do_lem k) 1 0 + cond (is_call k) 1 0
@@ -47,24 +47,24 @@ extra-is Unknown = refl
 -- n, its dos, its calls and what is owed, whatever budget x is left over.
 record Finishes {H : Type 0} {t : Table} {F : Form H} (S : Settles t F) (b k d j x : ℕ) (s : Source) (h : State H) : Type 0 where
   n : ℕ
-  takes-n : (run (sourceMachine t) b k s).steps ≡ k + n
-  finishes : outcome_of_lem (run (lineMachine S) (n + dos t b k s + calls t b k s + d + x) j h).step ≡ 1
-  in_steps : (run (lineMachine S) (n + dos t b k s + calls t b k s + d + x) j h).steps ≡ j + (n + dos t b k s + calls t b k s + d)
+  takes_n : (run (source_machine t) b k s).steps ≡ k + n
+  finishes : outcome_of_lem (run (line_machine S) (n + dos t b k s + calls t b k s + d + x) j h).step ≡ 1
+  in_steps : (run (line_machine S) (n + dos t b k s + calls t b k s + d + x) j h).steps ≡ j + (n + dos t b k s + calls t b k s + d)
 
 abbrev Goal : {H : Type 0} {t : Table} {F : Form H} → Settles t F → ℕ → Type 0
-Goal {H} {t} S b = (s : Source) (d k j x : ℕ) (h : State H) → Related S d s h → outcome_of_lem (run (sourceMachine t) b k s).step ≡ 1 → Finishes S b k d j x s h
+Goal {H} {t} S b = (s : Source) (d k j x : ℕ) (h : State H) → Related S d s h → outcome_of_lem (run (source_machine t) b k s).step ≡ 1 → Finishes S b k d j x s h
 
-both-step : {H : Type 0} {t : Table} {F : Form H} (S : Settles t F) (b d k j x : ℕ) (s : Source) (h : State H) → Goal S b → Both S (d + extraAt t s) s (step_of F (harden t) h)
-    → outcome_of_lem (run (sourceMachine t) (suc b) k s).step ≡ 1 → Finishes S (suc b) k d j x s h
+both-step : {H : Type 0} {t : Table} {F : Form H} (S : Settles t F) (b d k j x : ℕ) (s : Source) (h : State H) → Goal S b → Both S (d + extra_at t s) s (step_of F (harden t) h)
+    → outcome_of_lem (run (source_machine t) (suc b) k s).step ≡ 1 → Finishes S (suc b) k d j x s h
 unfolding run tally outcome_of_lem
-both-step {H} {t} {F} S b d k j x s h ih (both-on s' h' es eh a) o =
-    let f = ih s' (d + extraAt t s) (suc k) (suc j) x h' a.related (rw es at o) in
+both-step {H} {t} {F} S b d k j x s h ih (both_on s' h' es eh a) o =
+    let f = ih s' (d + extra_at t s) (suc k) (suc j) x h' a.related (rw es at o) in
     let kd = kind_at t s.running.at in
     let e : suc f.n + (cond (is_do_lem kd) 1 0 + dos t b (suc k) s') + (cond (is_call kd) 1 0 + calls t b (suc k) s') + d + x
-    ≡ suc (f.n + dos t b (suc k) s' + calls t b (suc k) s' + (d + extraAt t s) + x) = omega (arith, extra-is kd) in
+    ≡ suc (f.n + dos t b (suc k) s' + calls t b (suc k) s' + (d + extra_at t s) + x) = omega (arith, extra-is kd) in
     record {
       n = suc f.n;
-      takes-n = rw es (omega (arith, f.takes-n));
+      takes_n = rw es (omega (arith, f.takes_n));
       finishes = rw (es, e, eh) f.finishes;
       in_steps = rw (es, e, eh) (omega (arith, f.in_steps, extra-is kd));
     }
@@ -72,14 +72,14 @@ both-step {H} {t} {F} S b d k j x s h ih (both_end o' s' h' es eh sm (finish q z
     let e : 1 + 0 + 0 + d + x ≡ suc x = omega arith in
     record {
       n = 1;
-      takes-n = rw es (omega arith);
+      takes_n = rw es (omega arith);
       finishes = rw (es, e, eh) (ap outcome_of_lem q);
       in_steps = rw (es, e, eh) (omega arith);
     }
 both-step {H} {t} {F} S b d k j x s h ih (both_end o' s' h' es eh sm (early y z w)) o = absurd (z (rw es at o))
 
 -- first the ticks and backs that are due, then a step of both
-step_by : (t : Table) → Proper t → {H : Type 0} {F : Form H} (S : Settles t F) → (b : ℕ) → Goal S b → (d : ℕ) (s : Source) (k j x : ℕ) (h : State H) → Related S d s h → outcome_of_lem (run (sourceMachine t) (suc b) k s).step ≡ 1
+step_by : (t : Table) → Proper t → {H : Type 0} {F : Form H} (S : Settles t F) → (b : ℕ) → Goal S b → (d : ℕ) (s : Source) (k j x : ℕ) (h : State H) → Related S d s h → outcome_of_lem (run (source_machine t) (suc b) k s).step ≡ 1
     → Finishes S (suc b) k d j x s h
 unfolding run
 step_by t ok {H = H} S b ih zero s k j x h r o = by (next t ok S zero s h r)
@@ -97,7 +97,7 @@ step_by t ok {H = H} S b ih (suc d) s k j x h r o = by (next t ok S (suc d) s h 
         let e : f.n + dos t (suc b) k s + calls t (suc b) k s + suc d + x ≡ suc (f.n + dos t (suc b) k s + calls t (suc b) k s + d + x) = omega arith in
         record {
           n = f.n;
-          takes-n = f.takes-n;
+          takes_n = f.takes_n;
           finishes = rw (e, eh) f.finishes;
           in_steps = rw (e, eh) (omega (arith, f.in_steps));
         }
@@ -121,7 +121,7 @@ finishing t ok {H = H} {F = F} S vs b c = record { finishes = λ o l. (by o l).0
     by o l =
         let x = c - ((source_run t b vs).steps + dos_in_lem t b vs + calls_in t b vs) in
         let f = finishes-from t ok S b (source_start vs) 0 0 0 x (start_by F vs) (start t ok S vs) o in
-        let e : c ≡ f.n + dos_in_lem t b vs + calls_in t b vs + 0 + x = omega (arith, f.takes-n) in (
+        let e : c ≡ f.n + dos_in_lem t b vs + calls_in t b vs + 0 + x = omega (arith, f.takes_n) in (
           ap (λ y. outcome_of_lem (run_of F (harden t) None y vs).step) e ∙ f.finishes,
-          ap (λ y. (run_of F (harden t) None y vs).steps) e ∙ f.in_steps ∙ omega (arith, f.takes-n),
+          ap (λ y. (run_of F (harden t) None y vs).steps) e ∙ f.in_steps ∙ omega (arith, f.takes_n),
         )

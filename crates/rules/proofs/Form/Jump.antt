@@ -14,7 +14,7 @@ use Rattle.rules.specs.Form.{Form, start_by}
 use Rattle.rules.specs.Demands.{Jumped}
 use Rattle.rules.proofs.Accepted.{Proper}
 use Rattle.rules.proofs.Form.Settles.{Settles}
-use Rattle.rules.proofs.Form.Relation.{Related, SharedEnd, finish, early, both-on, both_end}
+use Rattle.rules.proofs.Form.Relation.{Related, SharedEnd, finish, early, both_on, both_end}
 use Rattle.rules.proofs.Form.Simulate.{Next, moves, waits, next, start}
 use Rattle.rules.proofs.Form.Struck as Whole
 use Rattle.rules.proofs.Form.Struck.{Onward, goes_on, stops}
@@ -36,7 +36,7 @@ pub onward : (t : Table) → Proper t → {H : Type 0} {F : Form H} (S : Settles
 onward t ok {H = H} {F = F} S h r = by (next t ok S r.owed r.source h r.related)
   where
     by : Next S r.owed r.source h → Onward F (harden t) (Goes S) h
-    by (moves q (both-on s' h' es eh a)) = goes_on h' eh (record { owed = _; source = s'; related = a.related })
+    by (moves q (both_on s' h' es eh a)) = goes_on h' eh (record { owed = _; source = s'; related = a.related })
     by (moves q (both_end z s' h' es eh sm which)) = stops z h' eh (end-not-zero _ z which)
     by (waits q h' d' eh r' de) = goes_on h' eh (record { owed = d'; source = r.source; related = r' })
 

@@ -28,20 +28,20 @@ use Rattle.rules.proofs.Harden.{line-at, some_line}
 use Rattle.rules.proofs.Function.{InFunction, not-silent}
 use Rattle.rules.proofs.Across.{parted}
 use Rattle.rules.proofs.Form.Settles.{Settles}
-use Rattle.rules.proofs.Form.Relation.{Back, lineBacks, src, hard, Linked, Mode, ready, ticking, backing, due, tickDue, Related}
+use Rattle.rules.proofs.Form.Relation.{Back, line_backs, src, hard, Linked, Mode, ready, ticking, backing, due, tick_due, Related}
 use Rattle.rules.proofs.Form.Where.{is_do}
-use Rattle.rules.proofs.Form.Struck.{landedAt}
+use Rattle.rules.proofs.Form.Struck.{landed_at}
 
 -- ---- what a small jump to place p does
 pub data Landed {H : Type 0} {t : Table} {F : Form H} (S : Settles t F) (p d : ℕ) (s : Source) (h : State H) (tick : Bool) (row : ℕ) : Type 0 where
   -- nothing
   same_place : place_line (harden t) p h ≡ h.running.at → Landed S p d s h tick row
   -- it leaves out the do that the source is about to do
-  past-do : place_line (harden t) p h ≡ suc h.running.at → kind_at t s.running.at ≡ Do → line_at (harden t) h.running.at ≡ do_line (operands_at t s.running.at) s.running.at
-      → Related S (suc d) (to_row (suc s.running.at) s) (landedAt (harden t) p h) → Landed S p d s h tick row
+  past_do : place_line (harden t) p h ≡ suc h.running.at → kind_at t s.running.at ≡ Do → line_at (harden t) h.running.at ≡ do_line (operands_at t s.running.at) s.running.at
+      → Related S (suc d) (to_row (suc s.running.at) s) (landed_at (harden t) p h) → Landed S p d s h tick row
   -- it goes back to the do of that row, whose tick is due
-  back-to-do : (d' : ℕ) → tick ≡ true → kind_at t row ≡ Do → h.running.at ≡ suc (place_line (harden t) p h) → line_at (harden t) (place_line (harden t) p h) ≡ do_line (operands_at t row) row
-      → Related S d' (to_row row s) (landedAt (harden t) p h) → Landed S p d s h tick row
+  back_to_do : (d' : ℕ) → tick ≡ true → kind_at t row ≡ Do → h.running.at ≡ suc (place_line (harden t) p h) → line_at (harden t) (place_line (harden t) p h) ≡ do_line (operands_at t row) row
+      → Related S d' (to_row row s) (landed_at (harden t) p h) → Landed S p d s h tick row
 
 -- ---- from the first line of a row that is no do, no place lies across a do
 test-alone : (t : Table) (i : ℕ) (fs : List Open) (b : Bool) (x : ℕ) → across_by (test_of t i fs b) x ≡ x
@@ -76,7 +76,7 @@ module _ (t : Table) (ok : Proper t) {H : Type 0} {F : Form H} (S : Settles t F)
   kept = S.at k (f ∷ fs) w
 
   abbrev Goal : Mode S i j k w (S.seen l) (value t f.region i) → Type 0
-  Goal x = Landed S p (length rest + due x) (src n j rest vs tr) (hard n k kept (lineBacks S rest) l vs tr) (tickDue x) i
+  Goal x = Landed S p (length rest + due x) (src n j rest vs tr) (hard n k kept (line_backs S rest) l vs tr) (tick_due x) i
 
   line_is : (x ph : ℕ) → x ≡ line_of t i + ph → ph < line_count (kind_at t i) → line_at (harden t) x ≡ line_at (row_lines t i (f ∷ fs) (kind_at t i)) ph
   line_is x ph e h = ap (line_at (harden t)) e ∙ line-at t i ph m.within h ∙ ap (λ s. line_at (row_lines t i s (kind_at t i)) ph) m.open_is
@@ -113,7 +113,7 @@ module _ (t : Table) (ok : Proper t) {H : Type 0} {F : Form H} (S : Settles t F)
       by true q =
           let d = is_do (kind_at t i) q in
           let y : there ≡ suc k = e ∙ past-line d k ea in
-          past-do y (ap (kind_at t) ej ∙ d) (ap (line_at (harden t)) ea ∙ do-line d ∙ ap (λ z. do_line (operands_at t z) z) (sym ej))
+          past_do y (ap (kind_at t) ej ∙ d) (ap (line_at (harden t)) ea ∙ do-line d ∙ ap (λ z. do_line (operands_at t z) z) (sym ej))
           (record {
             n = n;
             i = i;
@@ -126,8 +126,8 @@ module _ (t : Table) (ok : Proper t) {H : Type 0} {F : Form H} (S : Settles t F)
             tr = tr;
             f = f;
             fs = fs;
-            s-is = refl;
-            h-is = ap (λ c. hard n there c (lineBacks S rest) l vs tr) (ap (λ z. S.at z (f ∷ fs) w) ea ∙ S.over_do m d w ∙ ap (λ z. S.at z (f ∷ fs) w) (sym (y ∙ ap suc ea)));
+            s_is = refl;
+            h_is = ap (λ c. hard n there c (line_backs S rest) l vs tr) (ap (λ z. S.at z (f ∷ fs) w) ea ∙ S.over_do m d w ∙ ap (λ z. S.at z (f ∷ fs) w) (sym (y ∙ ap suc ea)));
             in_function = m;
             linked = lk;
             mode = ticking d (ap suc ej) (y ∙ ap suc ea) ew;
@@ -135,7 +135,7 @@ module _ (t : Table) (ok : Proper t) {H : Type 0} {F : Form H} (S : Settles t F)
           })
   crosses ne e (ticking d ej ea ew) =
       let y : there ≡ line_of t i = e ∙ from_tick d k ea in
-      back-to-do (length rest) refl d (ea ∙ ap suc (sym y)) (ap (line_at (harden t)) y ∙ do-line d)
+      back_to_do (length rest) refl d (ea ∙ ap suc (sym y)) (ap (line_at (harden t)) y ∙ do-line d)
       (record {
         n = n;
         i = i;
@@ -148,8 +148,8 @@ module _ (t : Table) (ok : Proper t) {H : Type 0} {F : Form H} (S : Settles t F)
         tr = tr;
         f = f;
         fs = fs;
-        s-is = refl;
-        h-is = ap (λ c. hard n there c (lineBacks S rest) l vs tr) (ap (λ z. S.at z (f ∷ fs) w) ea ∙ sym (S.over_do m d w) ∙ ap (λ z. S.at z (f ∷ fs) w) (sym y));
+        s_is = refl;
+        h_is = ap (λ c. hard n there c (line_backs S rest) l vs tr) (ap (λ z. S.at z (f ∷ fs) w) ea ∙ sym (S.over_do m d w) ∙ ap (λ z. S.at z (f ∷ fs) w) (sym y));
         in_function = m;
         linked = lk;
         mode = ready refl y ew;
@@ -167,8 +167,8 @@ module _ (t : Table) (ok : Proper t) {H : Type 0} {F : Form H} (S : Settles t F)
 
 -- ---- from related states
 pub lands : (t : Table) → Proper t → {H : Type 0} {F : Form H} (S : Settles t F) → (d : ℕ) (s : Source) (h : State H) (r : Related S d s h) → (p : ℕ)
-    → guard_between (harden t) h.running.at (place_line (harden t) p h) ≡ false → Landed S p d s h (tickDue r.mode) r.i
+    → guard_between (harden t) h.running.at (place_line (harden t) p h) ≡ false → Landed S p d s h (tick_due r.mode) r.i
 lands t ok S d s h r p g =
-    rw (r.owes, r.s-is, r.h-is)
+    rw (r.owes, r.s_is, r.h_is)
     (any_place t ok S r.n r.i r.j r.k r.w r.l r.rest r.vs r.tr r.f r.fs r.in_function r.linked p
-    (subst (λ y. guard_between (harden t) y.running.at (place_line (harden t) p y) ≡ false) r.h-is g) r.mode)
+    (subst (λ y. guard_between (harden t) y.running.at (place_line (harden t) p y) ≡ false) r.h_is g) r.mode)

@@ -21,10 +21,10 @@ use Rattle.rules.specs.Slip.{Slip, untouched, left_out, done_twice, slipping_ste
 use Rattle.rules.proofs.Logic.{clash}
 use Rattle.rules.proofs.Accepted.{Proper}
 use Rattle.rules.proofs.Form.Settles.{Settles}
-use Rattle.rules.proofs.Form.Relation.{Back, sourceBacks, Mode, ready, ticking, backing, due, tickDue, Related, Arrives, both-on, both_end}
+use Rattle.rules.proofs.Form.Relation.{Back, source_backs, Mode, ready, ticking, backing, due, tick_due, Related, Arrives, both_on, both_end}
 use Rattle.rules.proofs.Form.Simulate as Simulate
-use Rattle.rules.proofs.Form.Simulate.{extraAt, Next, moves, waits, start}
-use Rattle.rules.proofs.Form.Unstruck.{lineMachine}
+use Rattle.rules.proofs.Form.Simulate.{extra_at, Next, moves, waits, start}
+use Rattle.rules.proofs.Form.Unstruck.{line_machine}
 use Rattle.rules.proofs.Form.Jump.{end-not-zero}
 
 -- ---- the first k steps of a run all go on, and lead from s to s'
@@ -69,7 +69,7 @@ module _ {H : Type 0} {t : Table} {F : Form H} (S : Settles t F) where
   not-struck-yet k (Jump j p) h l = rw (ne_eqb j k (omega arith))
 
   -- ---- what is due
-  tick-is-due : {i j k w last u : ℕ} (x : Mode S i j k w last u) → tickDue x ≡ true → due x ≡ 1
+  tick-is-due : {i j k w last u : ℕ} (x : Mode S i j k w last u) → tick_due x ≡ true → due x ≡ 1
   tick-is-due (ready a b c) q = clash {b = false} q refl
   tick-is-due (ticking e a b c) q = refl
   tick-is-due (backing e a b c l) q = refl
@@ -81,9 +81,9 @@ module _ {H : Type 0} {t : Table} {F : Form H} (S : Settles t F) where
 
   -- a back for each caller, and what is due
   owed-is : (d : ℕ) (s : Source) (h : State H) (r : Related S d s h) → d ≡ length s.callers + due r.mode
-  owed-is d s h r = omega (arith, r.owes, ap (λ x. length x.callers) r.s-is, callers-are r.rest)
+  owed-is d s h r = omega (arith, r.owes, ap (λ x. length x.callers) r.s_is, callers-are r.rest)
     where
-      callers-are : (bs : List Back) → length (sourceBacks bs) ≡ length bs
+      callers-are : (bs : List Back) → length (source_backs bs) ≡ length bs
       callers-are [] = refl
       callers-are (b ∷ bs) = ap suc (callers-are bs)
 
@@ -92,9 +92,9 @@ module _ {H : Type 0} {t : Table} {F : Form H} (S : Settles t F) where
 pub record JustDid (t : Table) (vs : List ℕ) (m row : ℕ) (s : Source) : Type 0 where
   pub j : ℕ
   pub doing : Source
-  pub m-is : m ≡ suc j
+  pub m_is : m ≡ suc j
   pub reached : (x : Slip) → Unslipped j x → Leads (slipping_step t x) j (source_start vs) doing
-  pub did-it : source_step t doing ≡ on s
+  pub did_it : source_step t doing ≡ on s
   pub row_is : row ≡ doing.running.at
 
 -- the run stands at h and its source at s, after m steps of the source and so many ticks and backs
@@ -106,11 +106,11 @@ pub record Reaches {H : Type 0} {t : Table} {F : Form H} (S : Settles t F) (vs :
   pub m : ℕ
   pub quiet : ℕ
   pub counted : k ≡ m + quiet
-  pub line-goes : Leads (lineMachine S) k (start_by F vs) h
+  pub line_goes : Leads (line_machine S) k (start_by F vs) h
   pub quiets : (x : Strike) → NotBefore k x → (b : ℕ)
       → tally (quiet_step (harden t) x) (striking_step_of F (harden t) x) (k + b) 0 (start_by F vs) ≡ quiet + tally (quiet_step (harden t) x) (striking_step_of F (harden t) x) b k h
   pub source_goes : (x : Slip) → Unslipped m x → Leads (slipping_step t x) m (source_start vs) s
-  pub came : tickDue related.mode ≡ true → JustDid t vs m related.i s
+  pub came : tick_due related.mode ≡ true → JustDid t vs m related.i s
 
 module _ (t : Table) (ok : Proper t) {H : Type 0} {F : Form H} (S : Settles t F) (vs : List ℕ) where
   -- at the start nothing is done and no tick is due
@@ -124,7 +124,7 @@ module _ (t : Table) (ok : Proper t) {H : Type 0} {F : Form H} (S : Settles t F)
         m = 0;
         quiet = 0;
         counted = omega arith;
-        line-goes = leads-none (lineMachine S) (start_by F vs);
+        line_goes = leads-none (line_machine S) (start_by F vs);
         quiets = λ x l b. rw (zero-add b, zero-add (tally (quiet_step (harden t) x) (striking_step_of F (harden t) x) b 0 (start_by F vs)));
         source_goes = λ x l. leads-none (slipping_step t x) (source_start vs);
         came = λ q. absurd (let y : ⊥ = omega (arith, owed-is S 0 (source_start vs) (start_by F vs) (start t ok S vs), tick-is-due S (start t ok S vs).mode q) in y);
@@ -132,38 +132,38 @@ module _ (t : Table) (ok : Proper t) {H : Type 0} {F : Form H} (S : Settles t F)
 
   -- a step of the hardened run: so much for its own side
   module _ (k : ℕ) (a : Reaches S vs k) (h' : State H) (eh : step_of F (harden t) a.h ≡ on h') where
-    line_on : Leads (lineMachine S) (suc k) (start_by F vs) h'
-    line_on = leads-on (lineMachine S) k (start_by F vs) a.h h' a.line-goes eh
+    line_on : Leads (line_machine S) (suc k) (start_by F vs) h'
+    line_on = leads-on (line_machine S) k (start_by F vs) a.h h' a.line_goes eh
 
-    quiets-on : (q : Bool) → quiet_at_lem (harden t) a.h ≡ q → (x : Strike) → NotBefore (suc k) x → (b : ℕ)
+    quiets_on : (q : Bool) → quiet_at_lem (harden t) a.h ≡ q → (x : Strike) → NotBefore (suc k) x → (b : ℕ)
         → tally (quiet_step (harden t) x) (striking_step_of F (harden t) x) (suc k + b) 0 (start_by F vs)
         ≡ (a.quiet + cond q 1 0) + tally (quiet_step (harden t) x) (striking_step_of F (harden t) x) b (suc k) h'
     unfolding tally
-    quiets-on q e x l b =
+    quiets_on q e x l b =
         ap (λ y. tally (quiet_step (harden t) x) (striking_step_of F (harden t) x) y 0 (start_by F vs)) (let z : suc k + b ≡ k + suc b = omega arith in z) ∙ a.quiets x (not_before k x l) (suc b)
         ∙ rw (not-struck-yet S k x a.h l, eh, e) (omega arith)
 
   -- a step of both
-  both-move : (k : ℕ) (a : Reaches S vs k) (s' : Source) (h' : State H) → quiet_at_lem (harden t) a.h ≡ false → source_step t a.s ≡ on s' → step_of F (harden t) a.h ≡ on h'
-      → Arrives S (a.owed + extraAt t a.s) a.s.running.at s' h' → Reaches S vs (suc k)
-  both-move k a s' h' q es eh r =
+  both_move : (k : ℕ) (a : Reaches S vs k) (s' : Source) (h' : State H) → quiet_at_lem (harden t) a.h ≡ false → source_step t a.s ≡ on s' → step_of F (harden t) a.h ≡ on h'
+      → Arrives S (a.owed + extra_at t a.s) a.s.running.at s' h' → Reaches S vs (suc k)
+  both_move k a s' h' q es eh r =
       record {
         s = s';
         h = h';
-        owed = a.owed + extraAt t a.s;
+        owed = a.owed + extra_at t a.s;
         related = r.related;
         m = suc a.m;
         quiet = a.quiet + 0;
         counted = omega (arith, a.counted);
-        line-goes = line_on k a h' eh;
-        quiets = quiets-on k a h' eh false q;
+        line_goes = line_on k a h' eh;
+        quiets = quiets_on k a h' eh false q;
         source_goes = λ x l. leads-on (slipping_step t x) a.m (source_start vs) a.s s' (a.source_goes x (unslipped a.m x l)) (not-slipped-yet t a.m x a.s l ∙ es);
-        came = λ x. record { j = a.m; doing = a.s; m-is = refl; reached = a.source_goes; did-it = es; row_is = r.after_do x };
+        came = λ x. record { j = a.m; doing = a.s; m_is = refl; reached = a.source_goes; did_it = es; row_is = r.after_do x };
       }
 
   -- a tick or a back, after which none is due
-  line-moves : (k : ℕ) (a : Reaches S vs k) (h' : State H) (d' : ℕ) → quiet_at_lem (harden t) a.h ≡ true → step_of F (harden t) a.h ≡ on h' → Related S d' a.s h' → a.owed ≡ suc d' → Reaches S vs (suc k)
-  line-moves k a h' d' q eh r de =
+  line_moves : (k : ℕ) (a : Reaches S vs k) (h' : State H) (d' : ℕ) → quiet_at_lem (harden t) a.h ≡ true → step_of F (harden t) a.h ≡ on h' → Related S d' a.s h' → a.owed ≡ suc d' → Reaches S vs (suc k)
+  line_moves k a h' d' q eh r de =
       record {
         s = a.s;
         h = h';
@@ -172,26 +172,26 @@ module _ (t : Table) (ok : Proper t) {H : Type 0} {F : Form H} (S : Settles t F)
         m = a.m;
         quiet = a.quiet + 1;
         counted = omega (arith, a.counted);
-        line-goes = line_on k a h' eh;
-        quiets = quiets-on k a h' eh true q;
+        line_goes = line_on k a h' eh;
+        quiets = quiets_on k a h' eh true q;
         source_goes = a.source_goes;
         came = λ x. absurd (let y : ⊥ = omega (arith, de, owed-is S a.owed a.s a.h a.related, owed-is S d' a.s h' r, tick-is-due S r.mode x, at_most_one S a.related.mode) in y);
       }
 
   -- d steps more, if they do not end the run
-  further : (d k : ℕ) (a : Reaches S vs k) → outcome_of_lem (run (lineMachine S) d k a.h).step ≡ 0 → Reaches S vs (k + d)
-  unfolding run outcome_of_lem both-move line-moves
+  further : (d k : ℕ) (a : Reaches S vs k) → outcome_of_lem (run (line_machine S) d k a.h).step ≡ 0 → Reaches S vs (k + d)
+  unfolding run outcome_of_lem both_move line_moves
   further zero k a o = rw (add-zero k) a
   further (suc d) k a o = by (Simulate.next t ok S a.owed a.s a.h a.related) (λ a' o'. further d (suc k) a' o')
     where
       shift : suc k + d ≡ k + suc d
       shift = omega arith
 
-      by : Next S a.owed a.s a.h → ((a' : Reaches S vs (suc k)) → outcome_of_lem (run (lineMachine S) d (suc k) a'.h).step ≡ 0 → Reaches S vs (suc k + d)) → Reaches S vs (k + suc d)
-      by (moves q (both-on s' h' es eh r)) ih = subst (Reaches S vs) shift (ih (both-move k a s' h' q es eh r) (rw eh at o))
+      by : Next S a.owed a.s a.h → ((a' : Reaches S vs (suc k)) → outcome_of_lem (run (line_machine S) d (suc k) a'.h).step ≡ 0 → Reaches S vs (suc k + d)) → Reaches S vs (k + suc d)
+      by (moves q (both_on s' h' es eh r)) ih = subst (Reaches S vs) shift (ih (both_move k a s' h' q es eh r) (rw eh at o))
       by (moves q (both_end x s' h' es eh sm which)) ih = absurd (end-not-zero _ x which (rw eh at o))
-      by (waits q h' d' eh r de) ih = subst (Reaches S vs) shift (ih (line-moves k a h' d' q eh r de) (rw eh at o))
+      by (waits q h' d' eh r de) ih = subst (Reaches S vs) shift (ih (line_moves k a h' d' q eh r de) (rw eh at o))
 
-  pub reaches : (k : ℕ) → outcome_of_lem (run (lineMachine S) k 0 (start_by F vs)).step ≡ 0 → Reaches S vs k
+  pub reaches : (k : ℕ) → outcome_of_lem (run (line_machine S) k 0 (start_by F vs)).step ≡ 0 → Reaches S vs k
   unfolding at-start
   reaches k o = subst (Reaches S vs) (zero-add k) (further k 0 at-start o)

@@ -38,28 +38,28 @@ pub record Back : Type 0 where
 abbrev pub waiting : {H : Type 0} {t : Table} {F : Form H} → Settles t F → ℕ → H
 waiting {H} {t} S i = S.at (suc (line_of t i)) (open_at t i) (value_in t i (open_at t i) + 1)
 
-abbrev pub sourceBacks : List Back → List (Frame (Unit {0}))
-sourceBacks [] = []
-sourceBacks (b ∷ bs) = frame b.function (suc b.row) tt ∷ sourceBacks bs
+abbrev pub source_backs : List Back → List (Frame (Unit {0}))
+source_backs [] = []
+source_backs (b ∷ bs) = frame b.function (suc b.row) tt ∷ source_backs bs
 
-abbrev pub lineBacks : {H : Type 0} {t : Table} {F : Form H} → Settles t F → List Back → List (Frame H)
-lineBacks S [] = []
-lineBacks {H} {t} S (b ∷ bs) = frame b.function (suc (line_of t b.row)) (waiting S b.row) ∷ lineBacks S bs
+abbrev pub line_backs : {H : Type 0} {t : Table} {F : Form H} → Settles t F → List Back → List (Frame H)
+line_backs S [] = []
+line_backs {H} {t} S (b ∷ bs) = frame b.function (suc (line_of t b.row)) (waiting S b.row) ∷ line_backs S bs
 
-pub backs-length : {H : Type 0} {t : Table} {F : Form H} (S : Settles t F) (bs : List Back) → length (lineBacks S bs) ≡ length (sourceBacks bs)
+pub backs-length : {H : Type 0} {t : Table} {F : Form H} (S : Settles t F) (bs : List Back) → length (line_backs S bs) ≡ length (source_backs bs)
 backs-length S [] = refl
 backs-length S (b ∷ bs) = ap suc (backs-length S bs)
 
 -- ---- the states of the two runs
 abbrev pub src : (n i : ℕ) → List Back → (vs tr : List ℕ) → Source
-src n i rest vs tr = record { running = frame n i tt; callers = sourceBacks rest; last = tt; vars = vs; trace = tr }
+src n i rest vs tr = record { running = frame n i tt; callers = source_backs rest; last = tt; vars = vs; trace = tr }
 
 abbrev pub hard : {H : Type 0} → (n k : ℕ) → H → List (Frame H) → (last : H) → (vs tr : List ℕ) → State H
 hard n k c fs l vs tr = record { running = frame n k c; callers = fs; last = l; vars = vs; trace = tr }
 
 -- the hardened run before the first line of row i
 abbrev pub here : {H : Type 0} {t : Table} {F : Form H} → Settles t F → (n i : ℕ) (f : Open) (fs : List Open) (rest : List Back) (l : H) (vs tr : List ℕ) → (State H)
-here {H} {t} S n i f fs rest l vs tr = hard n (line_of t i) (S.at (line_of t i) (f ∷ fs) (value t f.region i)) (lineBacks S rest) l vs tr
+here {H} {t} S n i f fs rest l vs tr = hard n (line_of t i) (S.at (line_of t i) (f ∷ fs) (value t f.region i)) (line_backs S rest) l vs tr
 
 -- every caller waits at a call of the function above it, and the oldest is function 0
 pub record Caller (t : Table) (n : ℕ) (b : Back) : Type 0 where
@@ -87,10 +87,10 @@ due (ticking e a b c) = 1
 due (backing e a b c l) = 1
 
 -- the tick of row i is due
-abbrev pub tickDue : {H : Type 0} {t : Table} {F : Form H} {S : Settles t F} {i j k w last u : ℕ} → Mode S i j k w last u → Bool
-tickDue (ready a b c) = false
-tickDue (ticking e a b c) = true
-tickDue (backing e a b c l) = false
+abbrev pub tick_due : {H : Type 0} {t : Table} {F : Form H} {S : Settles t F} {i j k w last u : ℕ} → Mode S i j k w last u → Bool
+tick_due (ready a b c) = false
+tick_due (ticking e a b c) = true
+tick_due (backing e a b c l) = false
 
 -- d more ticks and backs are owed: the one that is due, and a back for each caller that waits
 pub record Related {H : Type 0} {t : Table} {F : Form H} (S : Settles t F) (d : ℕ) (s : Source) (h : State H) : Type 0 where
@@ -105,8 +105,8 @@ pub record Related {H : Type 0} {t : Table} {F : Form H} (S : Settles t F) (d : 
   pub tr : List ℕ
   pub f : Open
   pub fs : List Open
-  pub s-is : s ≡ src n j rest vs tr
-  pub h-is : h ≡ hard n k (S.at k (f ∷ fs) w) (lineBacks S rest) l vs tr
+  pub s_is : s ≡ src n j rest vs tr
+  pub h_is : h ≡ hard n k (S.at k (f ∷ fs) w) (line_backs S rest) l vs tr
   pub in_function : InFunction t n i f fs
   pub linked : Linked t n rest
   pub mode : Mode S i j k w (S.seen l) (value t f.region i)
@@ -115,7 +115,7 @@ pub record Related {H : Type 0} {t : Table} {F : Form H} (S : Settles t F) (d : 
 -- where a step of the source from row x leads: a tick is due only right after its do
 pub record Arrives {H : Type 0} {t : Table} {F : Form H} (S : Settles t F) (d x : ℕ) (s : Source) (h : State H) : Type 0 where
   pub related : Related S d s h
-  pub after_do : tickDue related.mode ≡ true → related.i ≡ x
+  pub after_do : tick_due related.mode ≡ true → related.i ≡ x
 
 -- an end leaves the same variables, the same trace and the same open functions
 pub record Same {H : Type 0} {t : Table} {F : Form H} (S : Settles t F) (s : Source) (h : State H) : Type 0 where
@@ -127,8 +127,8 @@ pub record Same {H : Type 0} {t : Table} {F : Form H} (S : Settles t F) (s : Sou
   pub c : H
   pub vs : List ℕ
   pub tr : List ℕ
-  pub s-is : s ≡ src n i rest vs tr
-  pub h-is : h ≡ hard n k c (lineBacks S rest) l vs tr
+  pub s_is : s ≡ src n i rest vs tr
+  pub h_is : h ≡ hard n k c (line_backs S rest) l vs tr
 
 -- an end that both runs share: the finish, where nothing is owed any more, or one before it that is no alarm
 pub data SharedEnd (d : ℕ) (o : Step) : Type 0 where
@@ -137,7 +137,7 @@ pub data SharedEnd (d : ℕ) (o : Step) : Type 0 where
 
 -- the step of the source from g, and a step b of the hardened run
 pub data Both {H : Type 0} {t : Table} {F : Form H} (S : Settles t F) (d : ℕ) (g : Source) (b : Turn H) : Type 0 where
-  both-on : (s : Source) (h : State H) → source_step t g ≡ on s → b ≡ on h → Arrives S d g.running.at s h → Both S d g b
+  both_on : (s : Source) (h : State H) → source_step t g ≡ on s → b ≡ on h → Arrives S d g.running.at s h → Both S d g b
   both_end : (o : Step) (s : Source) (h : State H) → source_step t g ≡ ends o s → b ≡ ends o h → Same S s h → SharedEnd d o → Both S d g b
 
 pub owing : {H : Type 0} {t : Table} {F : Form H} {S : Settles t F} {d e : ℕ} {g : Source} {b : Turn H} → d ≡ e → Both S d g b → Both S e g b
@@ -175,7 +175,7 @@ line_step t ok S {n} {i} {f} {fs} m k ph ℓ e h q c rest l vs tr =
 -- both runs before row j
 pub ready_at : {H : Type 0} {t : Table} {F : Form H} (S : Settles t F) {n j k w : ℕ} {g : Open} {gs : List Open} → InFunction t n j g gs → (rest : List Back) → Linked t n rest → k ≡ line_of t j → w ≡ value t g.region j
     → (l : H) (vs tr : List ℕ) → (c : H) → c ≡ S.at k (g ∷ gs) w
-    → Related S (length rest) (src n j rest vs tr) (hard n k c (lineBacks S rest) l vs tr)
+    → Related S (length rest) (src n j rest vs tr) (hard n k c (line_backs S rest) l vs tr)
 ready_at S {n} {j} {k} {w} {g} {gs} m rest lk a e l vs tr c p =
     record {
       n = n;
@@ -189,8 +189,8 @@ ready_at S {n} {j} {k} {w} {g} {gs} m rest lk a e l vs tr c p =
       tr = tr;
       f = g;
       fs = gs;
-      s-is = refl;
-      h-is = ap (λ x. hard n k x (lineBacks S rest) l vs tr) p;
+      s_is = refl;
+      h_is = ap (λ x. hard n k x (line_backs S rest) l vs tr) p;
       in_function = m;
       linked = lk;
       mode = ready refl a e;
@@ -200,7 +200,7 @@ ready_at S {n} {j} {k} {w} {g} {gs} m rest lk a e l vs tr c p =
 -- the same, after a step from row x
 pub ready-after : {H : Type 0} {t : Table} {F : Form H} (S : Settles t F) (x : ℕ) {n j k w : ℕ} {g : Open} {gs : List Open} → InFunction t n j g gs → (rest : List Back) → Linked t n rest → k ≡ line_of t j
     → w ≡ value t g.region j → (l : H) (vs tr : List ℕ) → (c : H) → c ≡ S.at k (g ∷ gs) w
-    → Arrives S (length rest) x (src n j rest vs tr) (hard n k c (lineBacks S rest) l vs tr)
+    → Arrives S (length rest) x (src n j rest vs tr) (hard n k c (line_backs S rest) l vs tr)
 unfolding ready_at
 ready-after S x m rest lk a e l vs tr c p = record { related = ready_at S m rest lk a e l vs tr c p; after_do = λ q. clash {b = false} q refl }
 

@@ -28,8 +28,8 @@ use Rattle.rules.proofs.Value.{Silent, a_function, fresh-value}
 use Rattle.rules.proofs.Harden.{line-at, some_line}
 use Rattle.rules.proofs.Function.{InFunction, entry, formed-here, placed-in, not-silent, not-unknown, function-zero, row_zero, some-function}
 use Rattle.rules.proofs.Place.{before_finish}
-use Rattle.rules.proofs.Form.Settles.{Settles, bodyPart}
-use Rattle.rules.proofs.Form.Relation.{Back, lineBacks, src, hard, here, Linked, Mode, ready, ticking, backing, due, Related, Both, owing, extra}
+use Rattle.rules.proofs.Form.Settles.{Settles, body_part}
+use Rattle.rules.proofs.Form.Relation.{Back, line_backs, src, hard, here, Linked, Mode, ready, ticking, backing, due, Related, Both, owing, extra}
 use Rattle.rules.proofs.Form.StepTest.{step-do, step-if, step_loop}
 use Rattle.rules.proofs.Form.StepLeave.{step-else, step_end}
 use Rattle.rules.proofs.Form.StepOut.{step-break, step-continue}
@@ -90,16 +90,16 @@ quiet_at t ok S {n} {i} {f} {fs} m k ph e h c rest l vs tr =
     bad x = omega (arith, before_finish t ok m)
 
 -- ---- the step from related states
-abbrev pub extraAt : Table → Source → ℕ
-extraAt t s = extra (kind_at t s.running.at)
+abbrev pub extra_at : Table → Source → ℕ
+extra_at t s = extra (kind_at t s.running.at)
 
 pub data Next {H : Type 0} {t : Table} {F : Form H} (S : Settles t F) (d : ℕ) (s : Source) (h : State H) : Type 0 where
-  moves : quiet_at_lem (harden t) h ≡ false → Both S (d + extraAt t s) s (step_of F (harden t) h) → Next S d s h
+  moves : quiet_at_lem (harden t) h ≡ false → Both S (d + extra_at t s) s (step_of F (harden t) h) → Next S d s h
   waits : quiet_at_lem (harden t) h ≡ true → (h' : State H) (d' : ℕ) → step_of F (harden t) h ≡ on h' → Related S d' s h' → d ≡ suc d' → Next S d s h
 
 next-by : (t : Table) → Proper t → {H : Type 0} {F : Form H} (S : Settles t F) → (n i j k w : ℕ) (l : H) (rest : List Back) (vs tr : List ℕ) (f : Open) (fs : List Open) → InFunction t n i f fs → Linked t n rest
     → (x : Mode S i j k w (S.seen l) (value t f.region i))
-    → Next S (length rest + due x) (src n j rest vs tr) (hard n k (S.at k (f ∷ fs) w) (lineBacks S rest) l vs tr)
+    → Next S (length rest + due x) (src n j rest vs tr) (hard n k (S.at k (f ∷ fs) w) (line_backs S rest) l vs tr)
 unfolding row_lines
 next-by t ok S n i j k w l rest vs tr f fs m lk (ready ej ea ew) =
     rw (ej, ea, ew, add-zero (length rest))
@@ -113,7 +113,7 @@ next-by t ok S n i j k w l rest vs tr f fs m lk (backing e ej ea ew el) =
     rw (ej, ea, ew) (waits (quiet_at t ok S m (suc (line_of t i)) 1 (omega arith) (rw e (omega arith)) _ _ l vs tr ∙ rw e) x.0 (length rest) x.1 x.2 (omega arith))
 
 pub next : (t : Table) → Proper t → {H : Type 0} {F : Form H} (S : Settles t F) → (d : ℕ) (s : Source) (h : State H) → Related S d s h → Next S d s h
-next t ok S d s h r = rw (r.owes, r.s-is, r.h-is)
+next t ok S d s h r = rw (r.owes, r.s_is, r.h_is)
     (next-by t ok S r.n r.i r.j r.k r.w r.l r.rest r.vs r.tr r.f r.fs r.in_function r.linked r.mode)
 
 -- ---- the start
@@ -131,10 +131,10 @@ start t ok {F = F} S vs =
       rest = [];
       vs = vs;
       tr = [];
-      f = bodyPart t 0;
+      f = body_part t 0;
       fs = [];
-      s-is = refl;
-      h-is = ap (λ x. hard 0 0 x [] F.nothing vs []) S.first_is;
+      s_is = refl;
+      h_is = ap (λ x. hard 0 0 x [] F.nothing vs []) S.first_is;
       in_function = entry t ok 0 (some-function t ok);
       linked = refl;
       mode = ready (ap suc (sym o)) (sym (ap (λ x. line_of t (suc x)) o ∙ ap (λ k. 0 + line_count k) (row_zero t ok))) (sym (fresh-value t (function_row t 0) ∙ ap (λ x. base t (regions t x)) o));

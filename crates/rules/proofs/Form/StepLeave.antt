@@ -25,7 +25,7 @@ use Rattle.rules.proofs.Function.{is_body_lem, part-takes, InFunction, move-to}
 use Rattle.rules.proofs.Words.{word_of, region-in}
 use Rattle.rules.proofs.Form.Settles.{Settles}
 use Rattle.rules.proofs.Parts.{holding}
-use Rattle.rules.proofs.Form.Relation.{Back, src, hard, here, Linked, Both, both-on, source-step, line_step, ready-after}
+use Rattle.rules.proofs.Form.Relation.{Back, src, hard, here, Linked, Both, both_on, source-step, line_step, ready-after}
 
 leave-line : {H : Type 0} (F : Form H) (ls : List Line) (n k : ℕ) (c : H) (rest : List (Frame H)) (l : H) (vs tr : List ℕ) (r s e a b go : ℕ) → (F.guard k (leave_line r s e a b go)).passes c l ≡ true
     → line_step_of F ls k (leave_line r s e a b go) (hard n k c rest l vs tr) ≡ on (hard n go ((F.guard k (leave_line r s e a b go)).moves true c) rest l vs tr)
@@ -54,10 +54,10 @@ module _ (t : Table) (ok : Proper t) {H : Type 0} {F : Form H} (S : Settles t F)
   leave-to k j a e jl q av one ln sr =
       let zh : body_region (h ∷ hs) ≤ h.region = body-least f.region h hs lower in
       let h-in : h.region ≤ length t = omega (arith, lower.0, region-in t m) in
-      both-on _ _ (source-step t n i rest vs tr e m.open_is ∙ sr)
+      both_on _ _ (source-step t n i rest vs tr e m.open_is ∙ sr)
       (line_step t ok S m (line_of t i) 0 _ (omega arith) (rw e (omega arith)) (ap (λ x. line_at (row_lines t i (f ∷ h ∷ hs) x) 0) e ∙ ln) _ _ l vs tr
-      ∙ leave-line F (harden t) n _ _ _ l vs tr _ _ _ _ _ _ (S.leave-passes _ f h hs _ _ _ _ zh lower))
-      (ready-after S i (move-to t ok m j jl q refl) rest lk refl av l vs tr _ (S.leave-moves _ f h hs _ a _ zh lower
+      ∙ leave-line F (harden t) n _ _ _ l vs tr _ _ _ _ _ _ (S.leave_passes _ f h hs _ _ _ _ zh lower))
+      (ready-after S i (move-to t ok m j jl q refl) rest lk refl av l vs tr _ (S.leave_moves _ f h hs _ a _ zh lower
       (omega (arith, word_of t ok h.region f.opener h-in (omega (arith, part.before, m.within)))) (omega (arith, av, word_of t ok h.region j h-in jl))))
 
   pub step-else : kind_at t i ≡ Else → Step

@@ -27,7 +27,7 @@ use Rattle.rules.proofs.Function.{held-takes, Formed, home, InFunction, move-to,
 use Rattle.rules.proofs.Words.{word_of, region-in}
 use Rattle.rules.proofs.Form.Settles.{Settles}
 use Rattle.rules.proofs.Parts.{loop-in, body_below}
-use Rattle.rules.proofs.Form.Relation.{Back, src, hard, here, Linked, Both, both-on, source-step, line_step, ready-after}
+use Rattle.rules.proofs.Form.Relation.{Back, src, hard, here, Linked, Both, both_on, source-step, line_step, ready-after}
 
 out_line_step : {H : Type 0} (F : Form H) (ls : List Line) (n k : ℕ) (c : H) (rest : List (Frame H)) (l : H) (vs tr : List ℕ) (r s t e a go : ℕ) → (F.guard k (out_line r s t e a go)).passes c l ≡ true
     → line_step_of F ls k (out_line r s t e a go) (hard n k c rest l vs tr) ≡ on (hard n go ((F.guard k (out_line r s t e a go)).moves true c) rest l vs tr)
@@ -37,13 +37,13 @@ out_line_step F ls n k c rest l vs tr r s t e a go h = rw h
 -- ---- the parts from the innermost loop body on keep what is known of all
 pub record Stack (t : Table) (j z o : ℕ) (fs : List Open) : Type 0 where
   pub all_held : AllHeld t j fs
-  pub well-formed : Formed t fs
+  pub well_formed : Formed t fs
   pub same_body : body_region fs ≡ z
   pub same_home : home fs ≡ o
 
 stack-under : (t : Table) (j z o : ℕ) (f h : Open) (hs : List Open) → Stack t j z o (f ∷ h ∷ hs) → Stack t j z o (h ∷ hs)
 stack-under t j z o f h hs p =
-    record { all_held = p.all_held.1; well-formed = p.well-formed.1; same_body = p.same_body; same_home = p.same_home }
+    record { all_held = p.all_held.1; well_formed = p.well_formed.1; same_body = p.same_body; same_home = p.same_home }
 
 pub loop-stack : (t : Table) (j z o : ℕ) (fs : List Open) (l : Open) (gs : List Open) → Stack t j z o fs → from_loop fs ≡ l ∷ gs → Stack t j z o (l ∷ gs) × (is_loop_body l.part ≡ true)
 loop-stack t j z o [] l gs p e = clash {b = true} refl cc
@@ -61,7 +61,7 @@ loop-stack t j z o (f ∷ h ∷ hs) l gs p e = by (is_loop_body f.part) refl e (
 
 pub whole-stack : (t : Table) → Proper t → {n i : ℕ} {f : Open} {fs : List Open} → InFunction t n i f fs → Stack t i (body_region (f ∷ fs)) (home (f ∷ fs)) (f ∷ fs)
 whole-stack t ok {n} {i} m =
-    record { all_held = subst (AllHeld t i) m.open_is (held t i); well-formed = formed-here t ok m; same_body = refl; same_home = refl }
+    record { all_held = subst (AllHeld t i) m.open_is (held t i); well_formed = formed-here t ok m; same_body = refl; same_home = refl }
 
 module _ (t : Table) (ok : Proper t) {H : Type 0} {F : Form H} (S : Settles t F) (n i : ℕ) (f : Open) (fs : List Open) (m : InFunction t n i f fs) (rest : List Back) (lk : Linked t n rest) (l : H) (vs tr : List ℕ) where
   abbrev Step : Type 0
@@ -76,11 +76,11 @@ module _ (t : Table) (ok : Proper t) {H : Type 0} {F : Form H} (S : Settles t F)
       let ch : Chain (suc f.region) (f ∷ fs) = (omega arith, (subst (Chain (regions t i)) m.open_is (chain t i)).1) in
       let il = loop-in (f ∷ fs) (suc f.region) lf (h ∷ hs) fl ch in
       let zh : body_region (f ∷ fs) ≤ h.region = rw p.same_body at (body-least lf.region h hs il.rest) in
-      both-on _ _ (source-step t n i rest vs tr e m.open_is ∙ sr)
+      both_on _ _ (source-step t n i rest vs tr e m.open_is ∙ sr)
       (line_step t ok S m (line_of t i) 0 _ (omega arith) (rw e (omega arith)) (ap (λ x. line_at (row_lines t i (f ∷ fs) x) 0) e ∙ ln) _ _ l vs tr
-      ∙ out_line_step F (harden t) n _ _ _ l vs tr _ _ _ _ _ _ (S.out-passes m out _ _ _ _ _ (body_below t m)))
+      ∙ out_line_step F (harden t) n _ _ _ l vs tr _ _ _ _ _ _ (S.out_passes m out _ _ _ _ _ (body_below t m)))
       (ready-after S i (move-to t ok m j jl q p.same_home) rest lk refl av l vs tr _
-      (S.out-moves m out lf h hs a _ fl ch zh p.same_body
+      (S.out_moves m out lf h hs a _ fl ch zh p.same_body
       (omega (arith, av, word_of t ok h.region j (omega (arith, il.low, il.rest.0, region-in t m)) jl))))
 
   -- a break or a continue stands in a loop, and the loop stands in a function
@@ -89,7 +89,7 @@ module _ (t : Table) (ok : Proper t) {H : Type 0} {F : Form H} (S : Settles t F)
   in-loop [] q x go = clash refl x
   in-loop (lf ∷ []) q x go =
       let p = loop-stack t i _ _ (f ∷ fs) lf [] (whole-stack t ok m) q in
-      clash p.1 (ap is_loop_body p.0.well-formed.0)
+      clash p.1 (ap is_loop_body p.0.well_formed.0)
   in-loop (lf ∷ h ∷ hs) q x go = go lf h hs q (loop-stack t i _ _ (f ∷ fs) lf (h ∷ hs) (whole-stack t ok m) q).0
 
   pub step-break : kind_at t i ≡ Break → Step
@@ -101,7 +101,7 @@ module _ (t : Table) (ok : Proper t) {H : Type 0} {F : Form H} (S : Settles t F)
           let hd = p.all_held.0 in
           let en = end_is t lf.opener (origin lf.part) ok (omega (arith, hd.before, m.within)) hd.by in
           let cl = closed_is t lf.opener (end_of t lf.opener) en.ends in
-          let tp : takes (kind_at t lf.opener) h.part ≡ past = held-takes t i lf (h ∷ hs) h.part hd p.well-formed.0 in
+          let tp : takes (kind_at t lf.opener) h.part ≡ past = held-takes t i lf (h ∷ hs) h.part hd p.well_formed.0 in
           out-to Break (inl e) lf h hs (suc (end_of t lf.opener)) (value t h.region lf.opener + past) e q p en.inside (cl.open_after ∙ hd.outer)
           (sym (cl.moved_on h hs hd.outer ∙ ap (λ x. value t h.region lf.opener + x) tp)) refl
           (ap (λ y. out_line (own_region (f ∷ fs)) (region_of (around y) - body_region (f ∷ fs)) (region_of y - body_region (f ∷ fs)) (value t f.region i) (opener_value t y + past) (line_of t (suc (end_of t (opener_of y))))) q)

@@ -29,7 +29,7 @@ use Rattle.rules.proofs.Function.{InFunction, move-to}
 use Rattle.rules.proofs.Words.{word-base, word_at}
 use Rattle.rules.proofs.Parts.{body_below}
 use Rattle.rules.proofs.Form.Settles.{Settles}
-use Rattle.rules.proofs.Form.Relation.{Back, lineBacks, src, hard, here, Linked, ticking, Arrives, SharedEnd, early, Both, both-on, both_end, source-step, line_step, ready-after}
+use Rattle.rules.proofs.Form.Relation.{Back, line_backs, src, hard, here, Linked, ticking, Arrives, SharedEnd, early, Both, both_on, both_end, source-step, line_step, ready-after}
 
 test-line : {H : Type 0} (F : Form H) (ls : List Line) (n k : ℕ) (c : H) (rest : List (Frame H)) (l : H) (vs tr : List ℕ) (o : Operands) (r s t e a b d go : ℕ) → (F.guard k (test_line o r s t e a b d go)).passes c l ≡ true
     → (y : Bool) → holds_on o vs ≡ y → line_step_of F ls k (test_line o r s t e a b d go) (hard n k c rest l vs tr)
@@ -59,14 +59,14 @@ module _ (t : Table) (ok : Proper t) {H : Type 0} {F : Form H} (S : Settles t F)
       row_is false q = source-step t n i rest vs tr e m.open_is ∙ rw q
 
       line_is : (y : Bool) → overflows (operands_at t i) vs ≡ y
-          → step_of F (harden t) (here S n i f fs rest l vs tr) ≡ cond y (ends (Overflow i held) (here S n i f fs rest l vs tr)) (on (hard n (suc (line_of t i)) (S.at (line_of t i) (f ∷ fs) (value t f.region i)) (lineBacks S rest) l (done_on (operands_at t i) vs) (tr ++ (i ∷ []))))
+          → step_of F (harden t) (here S n i f fs rest l vs tr) ≡ cond y (ends (Overflow i held) (here S n i f fs rest l vs tr)) (on (hard n (suc (line_of t i)) (S.at (line_of t i) (f ∷ fs) (value t f.region i)) (line_backs S rest) l (done_on (operands_at t i) vs) (tr ++ (i ∷ []))))
       line_is true q = line_step t ok S m (line_of t i) 0 (do_line (operands_at t i) i) (omega arith) (rw e (omega arith)) (rw e) _ _ l vs tr ∙ rw q
       line_is false q = line_step t ok S m (line_of t i) 0 (do_line (operands_at t i) i) (omega arith) (rw e (omega arith)) (rw e) _ _ l vs tr ∙ rw q
 
       by : (y : Bool) → overflows (operands_at t i) vs ≡ y → Step (length rest + 1)
       by true q = both_end (Overflow i held) _ _ (row_is true q) (line_is true q)
-          (record { n = n; i = i; k = line_of t i; l = l; rest = rest; c = S.at (line_of t i) (f ∷ fs) (value t f.region i); vs = vs; tr = tr; s-is = refl; h-is = refl }) (overflow-early i held)
-      by false q = both-on _ _ (row_is false q) (line_is false q)
+          (record { n = n; i = i; k = line_of t i; l = l; rest = rest; c = S.at (line_of t i) (f ∷ fs) (value t f.region i); vs = vs; tr = tr; s_is = refl; h_is = refl }) (overflow-early i held)
+      by false q = both_on _ _ (row_is false q) (line_is false q)
           (record {
             related = record {
               n = n;
@@ -80,8 +80,8 @@ module _ (t : Table) (ok : Proper t) {H : Type 0} {F : Form H} (S : Settles t F)
               tr = tr ++ (i ∷ []);
               f = f;
               fs = fs;
-              s-is = refl;
-              h-is = ap (λ x. hard n (suc (line_of t i)) x (lineBacks S rest) l (done_on (operands_at t i) vs) (tr ++ (i ∷ []))) (S.over_do m e (value t f.region i));
+              s_is = refl;
+              h_is = ap (λ x. hard n (suc (line_of t i)) x (line_backs S rest) l (done_on (operands_at t i) vs) (tr ++ (i ∷ []))) (S.over_do m e (value t f.region i));
               in_function = m;
               linked = lk;
               mode = ticking e refl refl refl;
@@ -100,7 +100,7 @@ module _ (t : Table) (ok : Proper t) {H : Type 0} {F : Form H} (S : Settles t F)
 
   -- true: a part opens at the next row
   test_true : (k : Kind) (p : Part) → kind_at t i ≡ k → shape_of k ≡ pushes p → line_count k ≡ 1 → (u c go : ℕ)
-      → Arrives S (length rest) i (src n (suc i) rest vs tr) (hard n (suc (line_of t i)) (tested true u c go) (lineBacks S rest) l vs tr)
+      → Arrives S (length rest) i (src n (suc i) rest vs tr) (hard n (suc (line_of t i)) (tested true u c go) (line_backs S rest) l vs tr)
   unfolding above
   test_true k p e sh one u c go =
       let q : open_at t (suc i) ≡ record { part = p; opener = i; region = regions t i } ∷ f ∷ fs = open_next t i e m.open_is ∙ ap (λ x. open_after_lem x i (regions t i) (f ∷ fs)) sh in
@@ -109,28 +109,28 @@ module _ (t : Table) (ok : Proper t) {H : Type 0} {F : Form H} (S : Settles t F)
       (omega (arith, word_at t ok m)) (omega (arith, word_at t ok m)) (word-base t ok i (omega (arith, m.within))))
 
   -- false: past the end of what this row opens
-  test-past : (k : Kind) (p : Part) → kind_at t i ≡ k → shape_of k ≡ pushes p → takes k f.part ≡ past
-      → Arrives S (length rest) i (src n (suc (end_of t i)) rest vs tr) (hard n (line_of t (suc (end_of t i))) (tested false (f.region - body_region (f ∷ fs)) (value t f.region i + past) (line_of t (suc (end_of t i)))) (lineBacks S rest) l vs tr)
-  test-past k p e sh tp =
+  test_past : (k : Kind) (p : Part) → kind_at t i ≡ k → shape_of k ≡ pushes p → takes k f.part ≡ past
+      → Arrives S (length rest) i (src n (suc (end_of t i)) rest vs tr) (hard n (line_of t (suc (end_of t i))) (tested false (f.region - body_region (f ∷ fs)) (value t f.region i + past) (line_of t (suc (end_of t i)))) (line_backs S rest) l vs tr)
+  test_past k p e sh tp =
       let en = end_is t i p ok m.within (ap shape_of e ∙ sh) in
       let cl = closed_is t i (end_of t i) en.ends in
       let v : value t f.region (suc (end_of t i)) ≡ value t f.region i + past
       = cl.moved_on f fs m.open_is ∙ ap (λ x. value t f.region i + takes x f.part) e ∙ ap (λ x. value t f.region i + x) tp in
       ready-after S i (move-to t ok m (suc (end_of t i)) en.inside (cl.open_after ∙ m.open_is) refl) rest lk refl (sym v) l vs tr _
-      (S.test-past (line_of t i) f fs _ _ _ _ _ _ _ (body_below t m) (omega (arith, word_at t ok m)) (omega (arith, word_at t ok m)))
+      (S.test_past (line_of t i) f fs _ _ _ _ _ _ _ (body_below t m) (omega (arith, word_at t ok m)) (omega (arith, word_at t ok m)))
 
   -- false: to the else part
-  test-else : has_else t i ≡ true
+  test_else : has_else t i ≡ true
       → Arrives S (length rest) i (src n (suc (else_of t i)) rest vs tr)
-      (hard n (line_of t (suc (else_of t i))) (tested false (regions t (else_of t i) - body_region (f ∷ fs)) (base t (regions t (else_of t i))) (line_of t (suc (else_of t i)))) (lineBacks S rest) l vs tr)
-  test-else x =
+      (hard n (line_of t (suc (else_of t i))) (tested false (regions t (else_of t i) - body_region (f ∷ fs)) (base t (regions t (else_of t i))) (line_of t (suc (else_of t i)))) (line_backs S rest) l vs tr)
+  test_else x =
       let tu = else_is t i m.within x in
       let lt = ltb-true (else_of t i) (length t) x in
       let q : open_at t (suc (else_of t i)) ≡ record { part = tu.part; opener = i; region = regions t (else_of t i) } ∷ f ∷ fs
       = tu.open_after ∙ ap (λ y. record { part = tu.part; opener = i; region = regions t (else_of t i) } ∷ y) m.open_is in
       let ch = subst (Chain (regions t (suc (else_of t i)))) q (chain t (suc (else_of t i))) in
       ready-after S i (move-to t ok m (suc (else_of t i)) lt q refl) rest lk refl (sym (fresh-value t (else_of t i))) l vs tr _
-      (S.test-else (line_of t i) f (record { part = tu.part; opener = i; region = regions t (else_of t i) }) fs _ _ _ _ _ _ _ (body_below t m) (omega (arith, ch.1.0, body_below t m)) refl (λ e. omega (arith, ch.1.0))
+      (S.test_else (line_of t i) f (record { part = tu.part; opener = i; region = regions t (else_of t i) }) fs _ _ _ _ _ _ _ (body_below t m) (omega (arith, ch.1.0, body_below t m)) refl (λ e. omega (arith, ch.1.0))
       (omega (arith, word_at t ok m)) (omega (arith, word_at t ok m)) (word-base t ok (else_of t i) (omega arith)))
 
   at_test : (k : Kind) (b : Bool) → kind_at t i ≡ k → line_count k ≡ 1 → line_at (row_lines t i (f ∷ fs) k) 0 ≡ test_of t i (f ∷ fs) b
@@ -149,27 +149,27 @@ module _ (t : Table) (ok : Proper t) {H : Type 0} {F : Form H} (S : Settles t F)
       line_is x y ex ey = at_test If x e refl (ap (test_of t i (f ∷ fs)) ex)
 
       by : (x : Bool) → has_else t i ≡ x → (y : Bool) → holds_on (operands_at t i) vs ≡ y → Step (length rest)
-      by true ex true ey = both-on _ _ (row_is true ey)
-          (line_is true true ex ey ∙ test-line F (harden t) n _ _ _ l vs tr _ _ _ _ _ _ _ _ _ (S.test-passes _ f fs _ _ _ _ _ _ _ _ _ (body_below t m)) true ey)
+      by true ex true ey = both_on _ _ (row_is true ey)
+          (line_is true true ex ey ∙ test-line F (harden t) n _ _ _ l vs tr _ _ _ _ _ _ _ _ _ (S.test_passes _ f fs _ _ _ _ _ _ _ _ _ (body_below t m)) true ey)
           (test_true If then_part e refl refl _ _ _)
-      by true ex false ey = both-on _ _ (row_is false ey ∙ ap (λ x. on (src n (cond x (suc (else_of t i)) (suc (end_of t i))) rest vs tr)) ex)
-          (line_is true false ex ey ∙ test-line F (harden t) n _ _ _ l vs tr _ _ _ _ _ _ _ _ _ (S.test-passes _ f fs _ _ _ _ _ _ _ _ _ (body_below t m)) false ey)
-          (test-else ex)
-      by false ex true ey = both-on _ _ (row_is true ey)
-          (line_is false true ex ey ∙ test-line F (harden t) n _ _ _ l vs tr _ _ _ _ _ _ _ _ _ (S.test-passes _ f fs _ _ _ _ _ _ _ _ _ (body_below t m)) true ey)
+      by true ex false ey = both_on _ _ (row_is false ey ∙ ap (λ x. on (src n (cond x (suc (else_of t i)) (suc (end_of t i))) rest vs tr)) ex)
+          (line_is true false ex ey ∙ test-line F (harden t) n _ _ _ l vs tr _ _ _ _ _ _ _ _ _ (S.test_passes _ f fs _ _ _ _ _ _ _ _ _ (body_below t m)) false ey)
+          (test_else ex)
+      by false ex true ey = both_on _ _ (row_is true ey)
+          (line_is false true ex ey ∙ test-line F (harden t) n _ _ _ l vs tr _ _ _ _ _ _ _ _ _ (S.test_passes _ f fs _ _ _ _ _ _ _ _ _ (body_below t m)) true ey)
           (test_true If then_part e refl refl _ _ _)
-      by false ex false ey = both-on _ _ (row_is false ey ∙ ap (λ x. on (src n (cond x (suc (else_of t i)) (suc (end_of t i))) rest vs tr)) ex)
-          (line_is false false ex ey ∙ test-line F (harden t) n _ _ _ l vs tr _ _ _ _ _ _ _ _ _ (S.test-passes _ f fs _ _ _ _ _ _ _ _ _ (body_below t m)) false ey)
-          (test-past If then_part e refl refl)
+      by false ex false ey = both_on _ _ (row_is false ey ∙ ap (λ x. on (src n (cond x (suc (else_of t i)) (suc (end_of t i))) rest vs tr)) ex)
+          (line_is false false ex ey ∙ test-line F (harden t) n _ _ _ l vs tr _ _ _ _ _ _ _ _ _ (S.test_passes _ f fs _ _ _ _ _ _ _ _ _ (body_below t m)) false ey)
+          (test_past If then_part e refl refl)
 
   pub step_loop : kind_at t i ≡ Loop → Step (length rest)
   unfolding row_step row_lines test_of
   step_loop e = by (holds_on (operands_at t i) vs) refl
     where
       by : (y : Bool) → holds_on (operands_at t i) vs ≡ y → Step (length rest)
-      by true ey = both-on _ _ (source-step t n i rest vs tr e m.open_is ∙ ap (λ y. on (src n (cond y (suc i) (suc (end_of t i))) rest vs tr)) ey)
-          (at_test Loop false e refl refl ∙ test-line F (harden t) n _ _ _ l vs tr _ _ _ _ _ _ _ _ _ (S.test-passes _ f fs _ _ _ _ _ _ _ _ _ (body_below t m)) true ey)
+      by true ey = both_on _ _ (source-step t n i rest vs tr e m.open_is ∙ ap (λ y. on (src n (cond y (suc i) (suc (end_of t i))) rest vs tr)) ey)
+          (at_test Loop false e refl refl ∙ test-line F (harden t) n _ _ _ l vs tr _ _ _ _ _ _ _ _ _ (S.test_passes _ f fs _ _ _ _ _ _ _ _ _ (body_below t m)) true ey)
           (test_true Loop loop_body e refl refl _ _ _)
-      by false ey = both-on _ _ (source-step t n i rest vs tr e m.open_is ∙ ap (λ y. on (src n (cond y (suc i) (suc (end_of t i))) rest vs tr)) ey)
-          (at_test Loop false e refl refl ∙ test-line F (harden t) n _ _ _ l vs tr _ _ _ _ _ _ _ _ _ (S.test-passes _ f fs _ _ _ _ _ _ _ _ _ (body_below t m)) false ey)
-          (test-past Loop loop_body e refl refl)
+      by false ey = both_on _ _ (source-step t n i rest vs tr e m.open_is ∙ ap (λ y. on (src n (cond y (suc i) (suc (end_of t i))) rest vs tr)) ey)
+          (at_test Loop false e refl refl ∙ test-line F (harden t) n _ _ _ l vs tr _ _ _ _ _ _ _ _ _ (S.test_passes _ f fs _ _ _ _ _ _ _ _ _ (body_below t m)) false ey)
+          (test_past Loop loop_body e refl refl)

@@ -25,4 +25,4 @@ pub record Strict {H : Type 0} {t : Table} {F : Form H} (S : Settles t F) : Type
   pub not_back : (n k w : ℕ) (f : Open) (fs : List Open) → Stands t n k w f fs → {m i : ℕ} {g : Open} {gs : List Open} → InFunction t m i g gs → kind_at t i ≡ Call → (operands_at t i).n ≡ n
       → (x : H) → (F.guard (suc (line_of t i)) (back_of t i (g ∷ gs) n)).passes x (S.at k (f ∷ fs) w) ≡ false
   -- the host, where function 0 did
-  pub not-host : (k w : ℕ) (f : Open) (fs : List Open) → Stands t 0 k w f fs → F.ended (S.at k (f ∷ fs) w) ≡ false
+  pub not_host : (k w : ℕ) (f : Open) (fs : List Open) → Stands t 0 k w f fs → F.ended (S.at k (f ∷ fs) w) ≡ false

@@ -33,8 +33,8 @@ pub record Keeps {H : Type 0} (h s : State H) : Type 0 where
   pub trace_is : h.trace ≡ s.trace
 
 -- the run at the place that it is struck to
-abbrev pub landedAt : {H : Type 0} → List Line → (p : ℕ) → State H → State H
-landedAt ls p s = go_to (place_line ls p s) s.running.own s
+abbrev pub landed_at : {H : Type 0} → List Line → (p : ℕ) → State H → State H
+landed_at ls p s = go_to (place_line ls p s) s.running.own s
 
 -- ---- a step of an unstruck run keeps to I, or ends the run
 pub data Onward {H : Type 0} (F : Form H) (ls : List Line) (I : State H → Type 0) (h : State H) : Type 0 where
@@ -43,10 +43,10 @@ pub data Onward {H : Type 0} (F : Form H) (ls : List Line) (I : State H → Type
 
 -- ---- the step that a jump strikes: the alarm comes at once, or one step later, or the do at the place overflows
 pub data Caught {H : Type 0} (F : Form H) (ls : List Line) (p : ℕ) (s : State H) : Type 0 where
-  at_once : overflows_at ls p s ≡ false → ((k : ℕ) → alarm_step ls p k s ≡ k) → (h : State H) → step_of F ls (landedAt ls p s) ≡ ends Alarm h → Keeps h (done_at ls p s) → Caught F ls p s
-  one_later : overflows_at ls p s ≡ false → ((k : ℕ) → alarm_step ls p k s ≡ suc k) → (h g : State H) → step_of F ls (landedAt ls p s) ≡ on h → h.running.at < finish_of ls h.running.function → step_of F ls h ≡ ends Alarm g
+  at_once : overflows_at ls p s ≡ false → ((k : ℕ) → alarm_step ls p k s ≡ k) → (h : State H) → step_of F ls (landed_at ls p s) ≡ ends Alarm h → Keeps h (done_at ls p s) → Caught F ls p s
+  one_later : overflows_at ls p s ≡ false → ((k : ℕ) → alarm_step ls p k s ≡ suc k) → (h g : State H) → step_of F ls (landed_at ls p s) ≡ on h → h.running.at < finish_of ls h.running.function → step_of F ls h ≡ ends Alarm g
       → Keeps h (done_at ls p s) → Keeps g (done_at ls p s) → Caught F ls p s
-  overflowing : overflows_at ls p s ≡ true → (row held : ℕ) (h : State H) → step_of F ls (landedAt ls p s) ≡ ends (Overflow row held) h → Keeps h s → Caught F ls p s
+  overflowing : overflows_at ls p s ≡ true → (row held : ℕ) (h : State H) → step_of F ls (landed_at ls p s) ≡ ends (Overflow row held) h → Keeps h s → Caught F ls p s
 
 pub after_same : {H : Type 0} (k : ℕ) (r : Turn H) (f g : State H → Answer H) → ((h : State H) → f h ≡ g h) → after k r f ≡ after k r g
 after_same k (on h) f g e = e h
@@ -104,7 +104,7 @@ module _ {H : Type 0} (F : Form H) (ls : List Line) where
   not_struck vs b k p e = not-struck-by vs b k p (eqb k no_step) (ltb k b) (eqb (outcome_of_lem (before F ls vs k).step) 0) refl refl refl e
 
   -- ---- the struck step, and the one after it
-  pub struck-on : (p k : ℕ) (h : State H) → p ≤ last_place ls h.running.function → struck ls (Jump k p) k h ≡ on (landedAt ls p h)
+  pub struck-on : (p k : ℕ) (h : State H) → p ≤ last_place ls h.running.function → struck ls (Jump k p) k h ≡ on (landed_at ls p h)
   struck-on p k h l = rw (eq-eqb k k refl, le-leb p (last_place ls h.running.function) l)
 
   struck-beyond : (p k : ℕ) (h : State H) → last_place ls h.running.function < p → struck ls (Jump k p) k h ≡ untaken (Beyond (last_place ls h.running.function)) h
@@ -133,10 +133,10 @@ module _ {H : Type 0} (F : Form H) (ls : List Line) where
 
   -- from the step struck on, the run goes unstruck from the place that it lands at
   strike-now : (p k b : ℕ) (h : State H) → p ≤ last_place ls h.running.function
-      → run (striking_step_of F ls (Jump k p)) (suc b) k h ≡ run (striking_step_of F ls None) (suc b) k (landedAt ls p h)
+      → run (striking_step_of F ls (Jump k p)) (suc b) k h ≡ run (striking_step_of F ls None) (suc b) k (landed_at ls p h)
   unfolding run
   strike-now p k b h l =
-      rw (struck-on p k h l) (after_same k (step_of F ls (landedAt ls p h)) _ _ (λ h'. over-same (Jump k p) k (not-now k p) b (suc k) h' (omega arith)))
+      rw (struck-on p k h l) (after_same k (step_of F ls (landed_at ls p h)) _ _ (λ h'. over-same (Jump k p) k (not-now k p) b (suc k) h' (omega arith)))
 
   -- ---- a jump that strikes is one, before a step that the budget holds, of a run that has not ended
   module _ (vs : List ℕ) (b k : ℕ) (e : strikes F ls vs b k ≡ true) where
@@ -189,42 +189,42 @@ module _ {H : Type 0} (F : Form H) (ls : List Line) where
         subst I (sym (ap (λ y. y.state) z.plainly)) z.holds
 
     module _ (vs : List ℕ) (start : I (start_by F vs)) (b k : ℕ) (e : strikes F ls vs b k ≡ true) where
-      there-by : (x : Strike) → Named F ls x k → Reached x k 0 (start_by F vs)
-      there-by x w = reach x k w k 0 (start_by F vs) (zero-add k) start (not-over vs b k e)
+      there_by : (x : Strike) → Named F ls x k → Reached x k 0 (start_by F vs)
+      there_by x w = reach x k w k 0 (start_by F vs) (zero-add k) start (not-over vs b k e)
 
-      state-is : (x : Strike) (w : Named F ls x k) → (before F ls vs k).state ≡ (there-by x w).there
-      state-is x w = ap (λ y. y.state) (there-by x w).plainly
+      state_is : (x : Strike) (w : Named F ls x k) → (before F ls vs k).state ≡ (there_by x w).there
+      state_is x w = ap (λ y. y.state) (there_by x w).plainly
 
       -- the run with the strike, from step k on
-      from_there : (x : Strike) (w : Named F ls x k) → run_of F ls x b vs ≡ run (striking_step_of F ls x) (suc (b - suc k)) k (there-by x w).there
+      from_there : (x : Strike) (w : Named F ls x k) → run_of F ls x b vs ≡ run (striking_step_of F ls x) (suc (b - suc k)) k (there_by x w).there
       from_there x w =
           let q : b ≡ k + suc (b - suc k) = omega (arith, in-budget vs b k e) in
-          ap (λ y. run_of F ls x y vs) q ∙ (there-by x w).likewise (suc (b - suc k)) ∙ ap (λ y. run (striking_step_of F ls x) (suc (b - suc k)) y (there-by x w).there) (zero-add k)
+          ap (λ y. run_of F ls x y vs) q ∙ (there_by x w).likewise (suc (b - suc k)) ∙ ap (λ y. run (striking_step_of F ls x) (suc (b - suc k)) y (there_by x w).there) (zero-add k)
 
       -- the run taken up at the step struck: as it goes on unstruck, and struck
       left_is : suc (b - suc k) ≡ b - k
       left_is = omega (arith, in-budget vs b k e)
 
-      pub goes-plainly : run_of F ls None b vs ≡ run (striking_step_of F ls None) (b - k) k (before F ls vs k).state
-      goes-plainly =
+      pub goes_plainly : run_of F ls None b vs ≡ run (striking_step_of F ls None) (b - k) k (before F ls vs k).state
+      goes_plainly =
           let w = none_named k in
-          from_there None w ∙ ap (λ y. run (striking_step_of F ls None) y k (there-by None w).there) left_is ∙ ap (run (striking_step_of F ls None) (b - k) k) (sym (state-is None w))
+          from_there None w ∙ ap (λ y. run (striking_step_of F ls None) y k (there_by None w).there) left_is ∙ ap (run (striking_step_of F ls None) (b - k) k) (sym (state_is None w))
 
-      pub goes-struck : (p : ℕ) → p ≤ last_place ls (before F ls vs k).state.running.function
-          → run_of F ls (strike_by_lem k p) b vs ≡ run (striking_step_of F ls None) (b - k) k (landedAt ls p (before F ls vs k).state)
-      goes-struck p l =
+      pub goes_struck : (p : ℕ) → p ≤ last_place ls (before F ls vs k).state.running.function
+          → run_of F ls (strike_by_lem k p) b vs ≡ run (striking_step_of F ls None) (b - k) k (landed_at ls p (before F ls vs k).state)
+      goes_struck p l =
           let w = not-now k p in
-          let x = (there-by (Jump k p) w).there in
-          let si = state-is (Jump k p) w in
+          let x = (there_by (Jump k p) w).there in
+          let si = state_is (Jump k p) w in
           ap (λ y. run_of F ls y b vs) (is-jump vs b k e p) ∙ from_there (Jump k p) w ∙ strike-now p k (b - suc k) x (subst (λ y. p ≤ last_place ls y.running.function) si l)
-          ∙ ap (λ y. run (striking_step_of F ls None) y k (landedAt ls p x)) left_is ∙ ap (λ y. run (striking_step_of F ls None) (b - k) k (landedAt ls p y)) (sym si)
+          ∙ ap (λ y. run (striking_step_of F ls None) y k (landed_at ls p x)) left_is ∙ ap (λ y. run (striking_step_of F ls None) (b - k) k (landed_at ls p y)) (sym si)
 
       beyond : (p : ℕ) → last_place ls (before F ls vs k).state.running.function < p
           → run_of F ls (strike_by_lem k p) b vs ≡ record { step = Beyond (last_place ls (before F ls vs k).state.running.function); steps = k; state = (before F ls vs k).state }
       beyond p l =
           let w = not-now k p in
           ap (λ y. run_of F ls y b vs) (is-jump vs b k e p) ∙ from_there (Jump k p) w
-          ∙ rw (state-is (Jump k p) w) (beyond-from p k (b - suc k) (there-by (Jump k p) w).there (subst (λ y. last_place ls y.running.function < p) (state-is (Jump k p) w) l))
+          ∙ rw (state_is (Jump k p) w) (beyond-from p k (b - suc k) (there_by (Jump k p) w).there (subst (λ y. last_place ls y.running.function < p) (state_is (Jump k p) w) l))
 
       caught : (p : ℕ) → ((s : State H) → I s → p ≤ last_place ls s.running.function → guard_between ls s.running.at (place_line ls p s) ≡ true → Caught F ls p s)
           → p ≤ last_place ls (before F ls vs k).state.running.function
@@ -232,12 +232,12 @@ module _ {H : Type 0} (F : Form H) (ls : List Line) where
           → struck_shown (run_of F ls (strike_by_lem k p) b vs) ≡ caught_from ls b k p (before F ls vs k).state
       caught p catches l w =
           let nm = not-now k p in
-          let x = (there-by (Jump k p) nm).there in
-          let si = state-is (Jump k p) nm in
+          let x = (there_by (Jump k p) nm).there in
+          let si = state_is (Jump k p) nm in
           let l' : p ≤ last_place ls x.running.function = subst (λ y. p ≤ last_place ls y.running.function) si l in
           let w' : guard_between ls x.running.at (place_line ls p x) ≡ true = subst (λ y. guard_between ls y.running.at (place_line ls p y) ≡ true) si w in
           let q : k + suc (b - suc k) ≡ b = omega (arith, in-budget vs b k e) in
-          ap (λ y. struck_shown (run_of F ls y b vs)) (is-jump vs b k e p) ∙ ap struck_shown (from_there (Jump k p) nm) ∙ caught-from p k (b - suc k) x l' (catches x (there-by (Jump k p) nm).holds l' w')
+          ap (λ y. struck_shown (run_of F ls y b vs)) (is-jump vs b k e p) ∙ ap struck_shown (from_there (Jump k p) nm) ∙ caught-from p k (b - suc k) x l' (catches x (there_by (Jump k p) nm).holds l' w')
           ∙ ap (λ y. caught_from ls y k p x) q ∙ ap (caught_from ls b k p) (sym si)
 
     -- ---- demand 3 of runs with a strike, of every form

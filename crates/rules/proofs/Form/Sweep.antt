@@ -32,7 +32,7 @@ use Rattle.rules.proofs.Across.{parted, stands-before}
 use Rattle.rules.proofs.Form.Settles.{Settles}
 use Rattle.rules.proofs.Form.Where as Where
 use Rattle.rules.proofs.Form.Strict.{Strict}
-use Rattle.rules.proofs.Form.Struck.{kept, goes-plainly, goes-struck}
+use Rattle.rules.proofs.Form.Struck.{kept, goes_plainly, goes_struck}
 use Rattle.rules.proofs.Form.Trace.{run-over}
 use Rattle.rules.proofs.Form.Jump.{Goes, onward, goes-start, jumped}
 
@@ -114,7 +114,7 @@ module _ (t : Table) (ok : Proper t) {H : Type 0} {F : Form H} (S : Settles t F)
   stands_at h g =
       let r = g.related in
       let w = Where.stands t ok S r.n r.i r.j r.k r.w (S.seen r.l) r.f r.fs r.in_function r.mode in
-      rw r.h-is
+      rw r.h_is
       (stands-before t ok r.n r.k r.in_function.known (omega (arith, w.line_is, (first-in t ok w.in_function).not_before)) w.in_lines)
 
   module _ (k : ℕ) (l : k < (unstruck_run F (harden t) vs b).steps) where
@@ -135,13 +135,13 @@ module _ (t : Table) (ok : Proper t) {H : Type 0} {F : Form H} (S : Settles t F)
       trace = (unstruck_run F (harden t) vs b).state.trace
 
       goes-on-there : run_of F (harden t) (strike_by_lem k p) b vs ≡ going_on_lem F (harden t) b k (place_line (harden t) p s) s
-      goes-on-there = goes-struck F (harden t) (Goes S) (onward t ok S) vs (goes-start t ok S vs) b k struck p in-places
+      goes-on-there = goes_struck F (harden t) (Goes S) (onward t ok S) vs (goes-start t ok S vs) b k struck p in-places
 
       -- its own place changes nothing
       own-place : place_line (harden t) p s ≡ s.running.at → struck_ending F (harden t) vs b k p ≡ Same
       own-place e =
           ap (ending_of trace)
-          (goes-on-there ∙ ap (λ y. going_on_lem F (harden t) b k y s) e ∙ sym (goes-plainly F (harden t) (Goes S) (onward t ok S) vs (goes-start t ok S vs) b k struck))
+          (goes-on-there ∙ ap (λ y. going_on_lem F (harden t) b k y s) e ∙ sym (goes_plainly F (harden t) (Goes S) (onward t ok S) vs (goes-start t ok S vs) b k struck))
           ∙ ending-own (unstruck_run F (harden t) vs b) fin
 
       -- a wide one is caught

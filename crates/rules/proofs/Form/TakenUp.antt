@@ -18,8 +18,8 @@ use Rattle.rules.specs.Form.{Form, strike_by_lem, step_of, striking_step_of, sta
 use Rattle.rules.specs.Match.{quiet_at_lem, quiet_step, quiet_done, matching_of, matching}
 use Rattle.rules.specs.Demands.{before, strikes}
 use Rattle.rules.proofs.Form.Settles.{Settles}
-use Rattle.rules.proofs.Form.Unstruck.{lineMachine}
-use Rattle.rules.proofs.Form.Struck.{landedAt, struck-on, in-budget, is-jump}
+use Rattle.rules.proofs.Form.Unstruck.{line_machine}
+use Rattle.rules.proofs.Form.Struck.{landed_at, struck-on, in-budget, is-jump}
 use Rattle.rules.proofs.Form.Progress.{Reaches}
 
 if-done-same : {C : Type 0} (r : Turn C) (f g : State C → ℕ) → ((h : State C) → f h ≡ g h) → if_done r f ≡ if_done r g
@@ -38,33 +38,33 @@ module _ {H : Type 0} (F : Form H) (ls : List Line) where
 
   -- from the step struck on
   quiet-now : (p k b : ℕ) (h : State H) → p ≤ last_place ls h.running.function
-      → tally (quiet_step ls (Jump k p)) (striking_step_of F ls (Jump k p)) (suc b) k h ≡ tally (quiet_step ls None) (striking_step_of F ls None) (suc b) k (landedAt ls p h)
+      → tally (quiet_step ls (Jump k p)) (striking_step_of F ls (Jump k p)) (suc b) k h ≡ tally (quiet_step ls None) (striking_step_of F ls None) (suc b) k (landed_at ls p h)
   unfolding tally
   quiet-now p k b h l =
       rw (struck-on F ls p k h l)
-      (if-done-same (step_of F ls (landedAt ls p h)) _ _ (λ h'. ap (λ y. cond (quiet_at_lem ls (landedAt ls p h)) 1 0 + y) (past-quiet k p b (suc k) h' (omega arith))))
+      (if-done-same (step_of F ls (landed_at ls p h)) _ _ (λ h'. ap (λ y. cond (quiet_at_lem ls (landed_at ls p h)) 1 0 + y) (past-quiet k p b (suc k) h' (omega arith))))
 
 -- ---- where a jump before step k finds the run
 module _ {t : Table} {H : Type 0} {F : Form H} (S : Settles t F) (vs : List ℕ) (k : ℕ) (a : Reaches S vs k) where
-  took-k : run (lineMachine S) k 0 (start_by F vs) ≡ run (lineMachine S) 0 k a.h
-  took-k = ap (λ y. run (lineMachine S) y 0 (start_by F vs)) (sym (add-zero k)) ∙ a.line-goes 0
+  took-k : run (line_machine S) k 0 (start_by F vs) ≡ run (line_machine S) 0 k a.h
+  took-k = ap (λ y. run (line_machine S) y 0 (start_by F vs)) (sym (add-zero k)) ∙ a.line_goes 0
 
-  pub state-is : (before F (harden t) vs k).state ≡ a.h
+  pub state_is : (before F (harden t) vs k).state ≡ a.h
   unfolding run
-  state-is = ap (λ y. y.state) took-k
+  state_is = ap (λ y. y.state) took-k
 
   -- the source has then taken as many steps as the matching step says
   pub matching-is : matching F (harden t) k vs ≡ a.m
   unfolding run matching_of quiet_done tally
   matching-is =
-      let z : tally (quiet_step (harden t) None) (lineMachine S) k 0 (start_by F vs) ≡ a.quiet + 0 =
-      ap (λ y. tally (quiet_step (harden t) None) (lineMachine S) y 0 (start_by F vs)) (sym (add-zero k)) ∙ a.quiets None tt 0 in
+      let z : tally (quiet_step (harden t) None) (line_machine S) k 0 (start_by F vs) ≡ a.quiet + 0 =
+      ap (λ y. tally (quiet_step (harden t) None) (line_machine S) y 0 (start_by F vs)) (sym (add-zero k)) ∙ a.quiets None tt 0 in
       omega (arith, ap (λ y. y.steps) took-k, z, a.counted)
 
   -- the ticks and backs of the struck run
   pub quiet_is : (b p : ℕ) → strikes F (harden t) vs b k ≡ true → p ≤ last_place (harden t) a.h.running.function
       → tally (quiet_step (harden t) (strike_by_lem k p)) (striking_step_of F (harden t) (strike_by_lem k p)) b 0 (start_by F vs)
-      ≡ a.quiet + tally (quiet_step (harden t) None) (lineMachine S) (b - k) k (landedAt (harden t) p a.h)
+      ≡ a.quiet + tally (quiet_step (harden t) None) (line_machine S) (b - k) k (landed_at (harden t) p a.h)
   quiet_is b p e l =
       let ib = in-budget F (harden t) vs b k e in
       let q : b ≡ k + suc (b - suc k) = omega (arith, ib) in
@@ -73,4 +73,4 @@ module _ {t : Table} {H : Type 0} {F : Form H} (S : Settles t F) (vs : List ℕ)
       ∙ ap (λ y. tally (quiet_step (harden t) (Jump k p)) (striking_step_of F (harden t) (Jump k p)) y 0 (start_by F vs)) q
       ∙ a.quiets (Jump k p) (omega arith) (suc (b - suc k))
       ∙ ap (λ y. a.quiet + y)
-      (quiet-now F (harden t) p k (b - suc k) a.h l ∙ ap (λ z. tally (quiet_step (harden t) None) (lineMachine S) z k (landedAt (harden t) p a.h)) left)
+      (quiet-now F (harden t) p k (b - suc k) a.h l ∙ ap (λ z. tally (quiet_step (harden t) None) (line_machine S) z k (landed_at (harden t) p a.h)) left)

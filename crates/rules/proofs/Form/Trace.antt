@@ -26,10 +26,10 @@ use Rattle.rules.proofs.Logic.{append-nil, cond_either}
 abbrev pub ahead : {H : Type 0} → List ℕ → State H → State H
 ahead tr s = retraced (tr ++ s.trace) s
 
-abbrev pub turnAhead : {H : Type 0} → List ℕ → Turn H → Turn H
-turnAhead tr (on s) = on (ahead tr s)
-turnAhead tr (ends o s) = ends o (ahead tr s)
-turnAhead tr (untaken o s) = untaken o (ahead tr s)
+abbrev pub turn_ahead : {H : Type 0} → List ℕ → Turn H → Turn H
+turn_ahead tr (on s) = on (ahead tr s)
+turn_ahead tr (ends o s) = ends o (ahead tr s)
+turn_ahead tr (untaken o s) = untaken o (ahead tr s)
 
 -- ---- a step that ends the run is taken, and its outcome is not 0
 abbrev Sound : {H : Type 0} → Turn H → Type 0
@@ -53,15 +53,15 @@ do-sound k true e v s d = omega arith
 do-sound k false e v s d = tt
 
 do-ahead : {H : Type 0} (tr : List ℕ) (k : ℕ) (y : Bool) (e v : ℕ) (s d x : State H) → d ≡ ahead tr x
-    → next (cond y (ends (Overflow e v) (ahead tr s)) (on d)) (λ z. moved (suc k) (λ c. c) z) ≡ turnAhead tr (next (cond y (ends (Overflow e v) s) (on x)) (λ z. moved (suc k) (λ c. c) z))
+    → next (cond y (ends (Overflow e v) (ahead tr s)) (on d)) (λ z. moved (suc k) (λ c. c) z) ≡ turn_ahead tr (next (cond y (ends (Overflow e v) s) (on x)) (λ z. moved (suc k) (λ c. c) z))
 do-ahead tr k true e v s d x q = refl
 do-ahead tr k false e v s d x q = ap (λ z. moved (suc k) (λ c. c) z) q
 
-must-ahead : {H : Type 0} (tr : List ℕ) (b : Bool) (s : State H) (x y : Turn H) → x ≡ turnAhead tr y → must b (ahead tr s) x ≡ turnAhead tr (must b s y)
+must-ahead : {H : Type 0} (tr : List ℕ) (b : Bool) (s : State H) (x y : Turn H) → x ≡ turn_ahead tr y → must b (ahead tr s) x ≡ turn_ahead tr (must b s y)
 must-ahead tr true s x y e = e
 must-ahead tr false s x y e = refl
 
-cond-ahead : {H : Type 0} (tr : List ℕ) (b : Bool) (x y z w : Turn H) → x ≡ turnAhead tr z → y ≡ turnAhead tr w → cond b x y ≡ turnAhead tr (cond b z w)
+cond-ahead : {H : Type 0} (tr : List ℕ) (b : Bool) (x y z w : Turn H) → x ≡ turn_ahead tr z → y ≡ turn_ahead tr w → cond b x y ≡ turn_ahead tr (cond b z w)
 cond-ahead tr true x y z w p q = p
 cond-ahead tr false x y z w p q = q
 
@@ -127,11 +127,11 @@ module _ {H : Type 0} (F : Form H) (ls : List Line) where
   never-untaken s o g e = subst Sound e (step-sound s)
 
   -- ---- a step with more before the trace
-  leaves-ahead : (tr : List ℕ) (s : State H) (fs : List (Frame H)) → leaves_of F (ahead tr s) fs ≡ turnAhead tr (leaves_of F s fs)
+  leaves-ahead : (tr : List ℕ) (s : State H) (fs : List (Frame H)) → leaves_of F (ahead tr s) fs ≡ turn_ahead tr (leaves_of F s fs)
   leaves-ahead tr s [] = must-ahead tr (F.ended s.running.own) s (ends Finished (ahead tr s)) (ends Finished s) refl
   leaves-ahead tr s (f ∷ fs) = refl
 
-  passed-ahead : (tr : List ℕ) (k : ℕ) (l : Line) (g : Guard H) (now : State H) → passed F ls k l g (ahead tr now) ≡ turnAhead tr (passed F ls k l g now)
+  passed-ahead : (tr : List ℕ) (k : ℕ) (l : Line) (g : Guard H) (now : State H) → passed F ls k l g (ahead tr now) ≡ turn_ahead tr (passed F ls k l g now)
   passed-ahead tr k (do_line o e) g now =
       do-ahead tr k (overflows o now.vars) e (variable now.vars o.p) now (did o e (ahead tr now)) (did o e now) (ap (λ y. retraced y (did o e now)) (append_assoc tr now.trace (e ∷ [])))
   passed-ahead tr k (tick_line r e a) g now = refl
@@ -144,11 +144,11 @@ module _ {H : Type 0} (F : Form H) (ls : List Line) where
   passed-ahead tr k (back_line r e a b) g now = refl
   passed-ahead tr k (ret_line e a) g now = leaves-ahead tr (go_to k (g.moves true now.running.own) now) now.callers
 
-  line-ahead : (tr : List ℕ) (k : ℕ) (l : Line) (g : Guard H) (now : State H) → turn_by F ls k l g (ahead tr now) ≡ turnAhead tr (turn_by F ls k l g now)
+  line-ahead : (tr : List ℕ) (k : ℕ) (l : Line) (g : Guard H) (now : State H) → turn_by F ls k l g (ahead tr now) ≡ turn_ahead tr (turn_by F ls k l g now)
   line-ahead tr k l g now =
-      turn_is k l g (ahead tr now) ∙ must-ahead tr (allowed l g now) now (passed F ls k l g (ahead tr now)) (passed F ls k l g now) (passed-ahead tr k l g now) ∙ ap (turnAhead tr) (sym (turn_is k l g now))
+      turn_is k l g (ahead tr now) ∙ must-ahead tr (allowed l g now) now (passed F ls k l g (ahead tr now)) (passed F ls k l g now) (passed-ahead tr k l g now) ∙ ap (turn_ahead tr) (sym (turn_is k l g now))
 
-  pub step-ahead : (tr : List ℕ) (s : State H) → step_of F ls (ahead tr s) ≡ turnAhead tr (step_of F ls s)
+  pub step-ahead : (tr : List ℕ) (s : State H) → step_of F ls (ahead tr s) ≡ turn_ahead tr (step_of F ls s)
   unfolding step_of
   step-ahead tr s =
       let k = s.running.at in
@@ -159,14 +159,14 @@ module _ {H : Type 0} (F : Form H) (ls : List Line) where
   ahead-of-none : (tr : List ℕ) (s : State H) → retraced tr s ≡ ahead tr (retraced [] s)
   ahead-of-none tr s = ap (λ y. retraced y s) (sym (append-nil tr))
 
-  pub step-retraced : (tr : List ℕ) (s : State H) → step_of F ls (retraced tr s) ≡ turnAhead tr (step_of F ls (retraced [] s))
+  pub step-retraced : (tr : List ℕ) (s : State H) → step_of F ls (retraced tr s) ≡ turn_ahead tr (step_of F ls (retraced [] s))
   step-retraced tr s = ap (step_of F ls) (ahead-of-none tr s) ∙ step-ahead tr (retraced [] s)
 
 -- ---- a run with more before the trace: where it starts after k steps instead of j, it takes that many more
 pub record Retraced {H : Type 0} (tr : List ℕ) (k j : ℕ) (x y : Answer H) : Type 0 where
   pub step_is : x.step ≡ y.step
   pub steps_are : x.steps + j ≡ y.steps + k
-  pub state-is : x.state ≡ ahead tr y.state
+  pub state_is : x.state ≡ ahead tr y.state
 
 -- ---- the test of two traces that begin alike
 pub same-append : (tr x y : List ℕ) → same (tr ++ x) (tr ++ y) ≡ same x y
@@ -189,28 +189,28 @@ run-over {C} m (suc d) b k s o = rw (suc-add d b) (by (m k s) o (λ s' o'. run-o
 module _ {H : Type 0} (F : Form H) (ls : List Line) where
   run-ahead : (tr : List ℕ) (b k j : ℕ) (s : State H) → Retraced tr k j (run (striking_step_of F ls None) b k (ahead tr s)) (run (striking_step_of F ls None) b j s)
   unfolding run
-  run-ahead tr zero k j s = record { step_is = refl; steps_are = omega arith; state-is = refl }
+  run-ahead tr zero k j s = record { step_is = refl; steps_are = omega arith; state_is = refl }
   run-ahead tr (suc b) k j s = rw (step-ahead F ls tr s) (by (step_of F ls s) (λ s'. run-ahead tr b (suc k) (suc j) s'))
     where
       by : (r : Turn H) → ((s' : State H) → Retraced tr (suc k) (suc j) (run (striking_step_of F ls None) b (suc k) (ahead tr s')) (run (striking_step_of F ls None) b (suc j) s'))
-          → Retraced tr k j (after k (turnAhead tr r) (λ s'. run (striking_step_of F ls None) b (suc k) s')) (after j r (λ s'. run (striking_step_of F ls None) b (suc j) s'))
+          → Retraced tr k j (after k (turn_ahead tr r) (λ s'. run (striking_step_of F ls None) b (suc k) s')) (after j r (λ s'. run (striking_step_of F ls None) b (suc j) s'))
       by (on s') ih =
           let x = ih s' in
-          record { step_is = x.step_is; steps_are = omega (arith, x.steps_are); state-is = x.state-is }
-      by (ends o s') ih = record { step_is = refl; steps_are = omega arith; state-is = refl }
-      by (untaken o s') ih = record { step_is = refl; steps_are = omega arith; state-is = refl }
+          record { step_is = x.step_is; steps_are = omega (arith, x.steps_are); state_is = x.state_is }
+      by (ends o s') ih = record { step_is = refl; steps_are = omega arith; state_is = refl }
+      by (untaken o s') ih = record { step_is = refl; steps_are = omega arith; state_is = refl }
 
-  pub run-retraced : (tr : List ℕ) (b k j : ℕ) (s : State H) → Retraced tr k j (run (striking_step_of F ls None) b k (retraced tr s)) (run (striking_step_of F ls None) b j (retraced [] s))
-  run-retraced tr b k j s =
+  pub run_retraced : (tr : List ℕ) (b k j : ℕ) (s : State H) → Retraced tr k j (run (striking_step_of F ls None) b k (retraced tr s)) (run (striking_step_of F ls None) b j (retraced [] s))
+  run_retraced tr b k j s =
       subst (λ y. Retraced tr k j (run (striking_step_of F ls None) b k y) (run (striking_step_of F ls None) b j (retraced [] s))) (sym (ahead-of-none F ls tr s)) (run-ahead tr b k j (retraced [] s))
 
-  pub ending-retraced : (tr rest : List ℕ) (b k j : ℕ) (s : State H)
+  pub ending_retraced : (tr rest : List ℕ) (b k j : ℕ) (s : State H)
       → ending_of (tr ++ rest) (run (striking_step_of F ls None) b k (retraced tr s)) ≡ ending_of rest (run (striking_step_of F ls None) b j (retraced [] s))
   unfolding ending_of
-  ending-retraced tr rest b k j s =
-      let x = run-retraced tr b k j s in
+  ending_retraced tr rest b k j s =
+      let x = run_retraced tr b k j s in
       let y = run (striking_step_of F ls None) b j (retraced [] s) in
-      rw (x.step_is, ap (λ z. same z.trace (tr ++ rest)) x.state-is ∙ same-append tr y.state.trace rest)
+      rw (x.step_is, ap (λ z. same z.trace (tr ++ rest)) x.state_is ∙ same-append tr y.state.trace rest)
 
   -- ---- a run in pieces: d steps that do not end it, then b more
   pub record Pieces (d b k : ℕ) (s : State H) : Type 0 where
@@ -239,5 +239,5 @@ module _ {H : Type 0} (F : Form H) (ls : List Line) where
       → run (striking_step_of F ls None) (d + b) k s ≡ run (striking_step_of F ls None) b (k + d) (run (striking_step_of F ls None) d k s).state
   run_on d b k s i e = (pieces d b k s (went_on _ i e)).goes_on
 
-  pub run-on-steps : (d k : ℕ) (s : State H) (i : ℕ) → (run (striking_step_of F ls None) d k s).step ≡ Went i → (run (striking_step_of F ls None) d k s).steps ≡ k + d
-  run-on-steps d k s i e = (pieces d 0 k s (went_on _ i e)).taken
+  pub run_on_steps : (d k : ℕ) (s : State H) (i : ℕ) → (run (striking_step_of F ls None) d k s).step ≡ Went i → (run (striking_step_of F ls None) d k s).steps ≡ k + d
+  run_on_steps d k s i e = (pieces d 0 k s (went_on _ i e)).taken

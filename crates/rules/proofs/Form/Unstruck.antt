@@ -17,39 +17,39 @@ use Rattle.rules.specs.Match.{Shown, shown, quiet_step, quiet_done, matching_of,
 use Rattle.rules.specs.Demands.{Unstruck}
 use Rattle.rules.proofs.Accepted.{Proper}
 use Rattle.rules.proofs.Form.Settles.{Settles}
-use Rattle.rules.proofs.Form.Relation.{Back, sourceBacks, lineBacks, Related, Same, SharedEnd, finish, early, both-on, both_end}
+use Rattle.rules.proofs.Form.Relation.{Back, source_backs, line_backs, Related, Same, SharedEnd, finish, early, both_on, both_end}
 use Rattle.rules.proofs.Form.Simulate.{Next, moves, waits, next, start}
 
 -- ---- the two machines, as a run takes them
-abbrev pub sourceMachine : Table → ℕ → Source → Turn (Unit {0})
-sourceMachine t k s = source_step t s
+abbrev pub source_machine : Table → ℕ → Source → Turn (Unit {0})
+source_machine t k s = source_step t s
 
-abbrev pub lineMachine : {H : Type 0} {t : Table} {F : Form H} → Settles t F → ℕ → State H → Turn H
-lineMachine {H} {t} {F} S = striking_step_of F (harden t) None
+abbrev pub line_machine : {H : Type 0} {t : Table} {F : Form H} → Settles t F → ℕ → State H → Turn H
+line_machine {H} {t} {F} S = striking_step_of F (harden t) None
 
 -- ---- what an end and a spent budget show
-backs-numbers : {H : Type 0} {t : Table} {F : Form H} (S : Settles t F) (bs : List Back) → numbers_of (lineBacks S bs) ≡ numbers_of (sourceBacks bs)
+backs-numbers : {H : Type 0} {t : Table} {F : Form H} (S : Settles t F) (bs : List Back) → numbers_of (line_backs S bs) ≡ numbers_of (source_backs bs)
 backs-numbers S [] = refl
 backs-numbers S (b ∷ bs) = ap (λ x. x ++ (b.function ∷ [])) (backs-numbers S bs)
 
 pub related_same : {H : Type 0} {t : Table} {F : Form H} (S : Settles t F) (d : ℕ) (s : Source) (h : State H) → Related S d s h → Same S s h
 related_same S d s h r =
-    record { n = r.n; i = r.j; k = r.k; l = r.l; rest = r.rest; c = _; vs = r.vs; tr = r.tr; s-is = r.s-is; h-is = r.h-is }
+    record { n = r.n; i = r.j; k = r.k; l = r.l; rest = r.rest; c = _; vs = r.vs; tr = r.tr; s_is = r.s_is; h_is = r.h_is }
 
 abbrev showing : {C : Type 0} → ℕ → State C → Shown
 showing o s = record { outcome = o; trace = s.trace; variables = s.vars; functions = open_functions s }
 
 same-shown : {H : Type 0} {t : Table} {F : Form H} (S : Settles t F) (o : ℕ) (s : Source) (h : State H) → Same S s h → showing o h ≡ showing o s
-same-shown S o s h m = rw (m.s-is, m.h-is)
+same-shown S o s h m = rw (m.s_is, m.h_is)
     (ap (λ x. record { outcome = o; trace = m.tr; variables = m.vs; functions = x ++ (m.n ∷ []) }) (backs-numbers S m.rest))
 
 -- ---- whole runs from related states: the hardened run of b steps is the source's of m
 pub record Simulates {H : Type 0} {t : Table} {F : Form H} (S : Settles t F) (b k j : ℕ) (s : Source) (h : State H) : Type 0 where
   pub m : ℕ
-  pub counted : (run (lineMachine S) b k h).steps ≡ k + m + tally (quiet_step (harden t) None) (lineMachine S) b k h
-  pub took : (run (sourceMachine t) m j s).steps ≡ j + m
-  pub alike : shown (run (lineMachine S) b k h) ≡ shown (run (sourceMachine t) m j s)
-  pub no_alarm : outcome_of_lem (run (lineMachine S) b k h).step ≢ 2
+  pub counted : (run (line_machine S) b k h).steps ≡ k + m + tally (quiet_step (harden t) None) (line_machine S) b k h
+  pub took : (run (source_machine t) m j s).steps ≡ j + m
+  pub alike : shown (run (line_machine S) b k h) ≡ shown (run (source_machine t) m j s)
+  pub no_alarm : outcome_of_lem (run (line_machine S) b k h).step ≢ 2
 
 end-not-alarm : (d : ℕ) (o : Step) → SharedEnd d o → outcome_of_lem o ≢ 2
 unfolding outcome_of_lem
@@ -65,7 +65,7 @@ simulates t ok {H = H} S (suc b) k j d s h r =
   where
     by : Next S d s h → ((d' : ℕ) (s' : Source) (h' : State H) → Related S d' s' h' → Simulates S b (suc k) (suc j) s' h')
         → ((d' : ℕ) (h' : State H) → Related S d' s h' → Simulates S b (suc k) j s h') → Simulates S (suc b) k j s h
-    by (moves q (both-on s' h' es eh a)) both_go line-goes =
+    by (moves q (both_on s' h' es eh a)) both_go line_goes =
         let x = both_go _ s' h' a.related in
         record {
           m = suc x.m;
@@ -74,7 +74,7 @@ simulates t ok {H = H} S (suc b) k j d s h r =
           alike = rw (eh, es) x.alike;
           no_alarm = rw eh x.no_alarm;
         }
-    by (moves q (both_end o s' h' es eh same which)) both_go line-goes =
+    by (moves q (both_end o s' h' es eh same which)) both_go line_goes =
         record {
           m = 1;
           counted = rw eh (omega arith);
@@ -82,8 +82,8 @@ simulates t ok {H = H} S (suc b) k j d s h r =
           alike = rw (eh, es) (same-shown S (outcome_of_lem o) s' h' same);
           no_alarm = rw eh (end-not-alarm _ o which);
         }
-    by (waits q h' d' eh r' de) both_go line-goes =
-        let x = line-goes d' h' r' in
+    by (waits q h' d' eh r' de) both_go line_goes =
+        let x = line_goes d' h' r' in
         record {
           m = x.m;
           counted = rw (eh, q) (omega (arith, x.counted));

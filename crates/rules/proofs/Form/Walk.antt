@@ -18,7 +18,7 @@ use Rattle.rules.specs.Demands.{before}
 use Rattle.rules.specs.RunPromise.{state_at}
 use Rattle.rules.specs.Sweep.{ending_of, unstruck_run}
 use Rattle.rules.specs.Settled.{going_on_lem}
-use Rattle.rules.proofs.Form.Trace.{Retraced, never-untaken, run-over, run-retraced, ending-retraced, pieces, went_on}
+use Rattle.rules.proofs.Form.Trace.{Retraced, never-untaken, run-over, run_retraced, ending_retraced, pieces, went_on}
 use Rattle.rules.proofs.Form.Sweep.{run-bound, reached}
 
 -- ---- a run that ends has taken a step
@@ -71,7 +71,7 @@ module _ {H : Type 0} (F : Form H) (ls : List Line) where
           let tr = (state_at F ls vs k).trace in
           let rest = (run (striking_step_of F ls None) (b - k) 0 (retraced [] (state_at F ls vs k))).state.trace in
           let e : (unstruck_run F ls vs b).state.trace ≡ tr ++ rest =
-          ap (λ y. y.state.trace) from-here ∙ ap (λ y. y.trace) (run-retraced F ls tr (b - k) k 0 (state_at F ls vs k)).state-is in
+          ap (λ y. y.state.trace) from-here ∙ ap (λ y. y.trace) (run_retraced F ls tr (b - k) k 0 (state_at F ls vs k)).state_is in
           e ∙ ap (λ y. tr ++ y) (sym (drop-append_seam tr rest) ∙ ap (drop (length tr)) (sym e))
 
       pub narrow_rest : (y : ℕ)
@@ -81,13 +81,13 @@ module _ {H : Type 0} (F : Form H) (ls : List Line) where
       narrow_rest y =
           let s = state_at F ls vs k in
           ap (λ z. ending_of z (going_on_lem F ls b k y s)) known-trace
-          ∙ ending-retraced F ls s.trace (drop (length s.trace) (unstruck_run F ls vs b).state.trace) (b - k) k 0 (go_to y s.running.own s)
+          ∙ ending_retraced F ls s.trace (drop (length s.trace) (unstruck_run F ls vs b).state.trace) (b - k) k 0 (go_to y s.running.own s)
 
       -- ---- the one step, made from the state without its trace
       made : Retraced (state_at F ls vs k).trace k 0 (before F ls vs (suc k)) (run (striking_step_of F ls None) 1 0 (retraced [] (state_at F ls vs k)))
       made =
           subst (λ y. Retraced (state_at F ls vs k).trace k 0 y (run (striking_step_of F ls None) 1 0 (retraced [] (state_at F ls vs k)))) (sym one_more)
-          (run-retraced F ls (state_at F ls vs k).trace 1 k 0 (state_at F ls vs k))
+          (run_retraced F ls (state_at F ls vs k).trace 1 k 0 (state_at F ls vs k))
 
       pub walk-over : outcome_of_lem (run (striking_step_of F ls None) 1 0 (retraced [] (state_at F ls vs k))).step ≢ 0 → (unstruck_run F ls vs b).steps ≡ suc k
       walk-over o =
@@ -98,7 +98,7 @@ module _ {H : Type 0} (F : Form H) (ls : List Line) where
       -- it goes on
       pub record WalksOn : Type 0 where
         pub later : suc k < (unstruck_run F ls vs b).steps
-        pub state-is : retraced [] (run (striking_step_of F ls None) 1 0 (retraced [] (state_at F ls vs k))).state ≡ retraced [] (state_at F ls vs (suc k))
+        pub state_is : retraced [] (run (striking_step_of F ls None) 1 0 (retraced [] (state_at F ls vs k))).state ≡ retraced [] (state_at F ls vs (suc k))
         pub traced_is : length (state_at F ls vs (suc k)).trace
             ≡ length (state_at F ls vs k).trace + length (run (striking_step_of F ls None) 1 0 (retraced [] (state_at F ls vs k))).state.trace
 
@@ -110,6 +110,6 @@ module _ {H : Type 0} (F : Form H) (ls : List Line) where
             later =
                 subst (λ y. suc k < y.steps) (sym c)
                 (ended-later (b - suc k) (suc k) (state_at F ls vs (suc k)) (λ z. omega (arith, z, fin, ap (λ y. outcome_of_lem y.step) c)));
-            state-is = sym (ap (retraced []) made.state-is);
-            traced_is = ap (λ y. length y.trace) made.state-is ∙ length-append (state_at F ls vs k).trace x.state.trace;
+            state_is = sym (ap (retraced []) made.state_is);
+            traced_is = ap (λ y. length y.trace) made.state_is ∙ length-append (state_at F ls vs k).trace x.state.trace;
           }

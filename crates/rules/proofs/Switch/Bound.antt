@@ -149,8 +149,8 @@ few-cases g i h e =
     few-under (things_at g i) (rooted g (chain_of g) i e)
     (omega (arith, open-depth g (length g) i h, few-open (chain_of g) (length (chain_to g i)) (rows-accepted g (chain_of g) i e)))
 
-pub few-chained : FewChained
-few-chained rows e = (sound rows e).few-chained
+pub few_chained : FewChained
+few_chained rows e = (sound rows e).few_chained
 
 -- ---- the numbers of the chain's rows are words
 abbrev Words : Table → Type 0

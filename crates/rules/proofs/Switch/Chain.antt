@@ -127,17 +127,17 @@ depth [] = 0
 depth (construct ∷ ts) = suc (depth ts)
 depth (switch s ∷ ts) = length s.used + depth ts
 
-abbrev depthBy : Shape → ℕ → ℕ
-depthBy (pushes p) d = suc d
-depthBy turns d = d
-depthBy closes d = d - 1
-depthBy stays d = d
+abbrev depth_by : Shape → ℕ → ℕ
+depth_by (pushes p) d = suc d
+depth_by turns d = d
+depth_by closes d = d - 1
+depth_by stays d = d
 
-abbrev depthOver : Table → ℕ → ℕ
-depthOver [] d = d
-depthOver (r ∷ rs) d = depthOver rs (depthBy (shape_of r.kind) d)
+abbrev depth_over : Table → ℕ → ℕ
+depth_over [] d = d
+depth_over (r ∷ rs) d = depth_over rs (depth_by (shape_of r.kind) d)
 
-open_by : (s : Shape) (i g : ℕ) (fs : List Open) → length (open_after_lem s i g fs) ≡ depthBy s (length fs)
+open_by : (s : Shape) (i g : ℕ) (fs : List Open) → length (open_after_lem s i g fs) ≡ depth_by s (length fs)
 open_by (pushes p) i g fs = refl
 open_by turns i g [] = refl
 open_by turns i g (f ∷ fs) = refl
@@ -146,7 +146,7 @@ open_by closes i g (f ∷ fs) = omega arith
 open_by stays i g fs = refl
 
 open-over : (c : Table) (j : ℕ) (rs : Table) → ((k : ℕ) → k < length rs → row_at c (j + k) ≡ row_at rs k)
-    → length (open_at c (j + length rs)) ≡ depthOver rs (length (open_at c j))
+    → length (open_at c (j + length rs)) ≡ depth_over rs (length (open_at c j))
 unfolding open_at
 open-over c j [] h = ap (λ x. length (open_at c x)) (add-zero j)
 open-over c j (r ∷ rs) h =
@@ -154,21 +154,21 @@ open-over c j (r ∷ rs) h =
     let here : kind_at c j ≡ r.kind = ap (kind_at c) (sym (add-zero j)) ∙ ap (λ x. x.kind) (h 0 (omega arith)) in
     ap (λ x. length (open_at c x)) q
     ∙ open-over c (suc j) rs (λ k l. let m : suc j + k ≡ j + suc k = omega arith in ap (row_at c) m ∙ h (suc k) (omega arith))
-    ∙ ap (depthOver rs) (open_by (shape_of (kind_at c j)) j (regions c j) (open_at c j) ∙ ap (λ k. depthBy (shape_of k) (length (open_at c j))) here)
+    ∙ ap (depth_over rs) (open_by (shape_of (kind_at c j)) j (regions c j) (open_at c j) ∙ ap (λ k. depth_by (shape_of k) (length (open_at c j))) here)
 
-ends-depth : (n d : ℕ) → d ≡ depthOver (replicate n (bare_row End)) (n + d)
+ends-depth : (n d : ℕ) → d ≡ depth_over (replicate n (bare_row End)) (n + d)
 ends-depth zero d = omega arith
 ends-depth (suc n) d =
     let q : n + d ≡ suc n + d - 1 = omega arith in
-    ends-depth n d ∙ ap (depthOver (replicate n (bare_row End))) q
+    ends-depth n d ∙ ap (depth_over (replicate n (bare_row End))) q
 
-shape-outside : (s : Shape) → depth (things_by s []) ≡ depthBy s 0
+shape-outside : (s : Shape) → depth (things_by s []) ≡ depth_by s 0
 shape-outside (pushes p) = refl
 shape-outside turns = refl
 shape-outside closes = refl
 shape-outside stays = refl
 
-shape-inside : (s : Shape) (ts : List Thing) → depth (things_by s (construct ∷ ts)) ≡ depthBy s (suc (depth ts))
+shape-inside : (s : Shape) (ts : List Thing) → depth (things_by s (construct ∷ ts)) ≡ depth_by s (suc (depth ts))
 shape-inside (pushes p) ts = refl
 shape-inside turns ts = refl
 shape-inside closes ts = omega arith
@@ -176,7 +176,7 @@ shape-inside stays ts = refl
 
 kind-inside : (k : Kind) (o : Operands) (s : Switch) (ts : List Thing)
     → depth (things_by (shape_of k) (switch s ∷ ts))
-    ≡ depthOver (cond (is_end_lem k) (replicate (length s.used) (bare_row End)) (record { kind = k; operands = o } ∷ [])) (length s.used + depth ts)
+    ≡ depth_over (cond (is_end_lem k) (replicate (length s.used) (bare_row End)) (record { kind = k; operands = o } ∷ [])) (length s.used + depth ts)
 kind-inside Function o s ts = refl
 kind-inside Do o s ts = refl
 kind-inside If o s ts = refl
@@ -188,15 +188,15 @@ kind-inside Continue o s ts = refl
 kind-inside Call o s ts = refl
 kind-inside Unknown o s ts = refl
 
-case-depth : (used : List ℕ) (p n d : ℕ) → suc (length used) + d ≡ depthOver (else_after used ++ (if_row p n ∷ [])) (length used + d)
+case-depth : (used : List ℕ) (p n d : ℕ) → suc (length used) + d ≡ depth_over (else_after used ++ (if_row p n ∷ [])) (length used + d)
 case-depth [] p n d = omega arith
 case-depth (m ∷ ms) p n d = omega arith
 
-default-depth : (used : List ℕ) (d : ℕ) → length used + d ≡ depthOver (else_after used) (length used + d)
+default-depth : (used : List ℕ) (d : ℕ) → length used + d ≡ depth_over (else_after used) (length used + d)
 default-depth [] d = refl
 default-depth (m ∷ ms) d = refl
 
-depth-after : (r : GivenRow) (ts : List Thing) → depth (things_after r ts) ≡ depthOver (chain_rows r ts) (depth ts)
+depth-after : (r : GivenRow) (ts : List Thing) → depth (things_after r ts) ≡ depth_over (chain_rows r ts) (depth ts)
 depth-after (as_is r) [] = shape-outside (shape_of r.kind)
 depth-after (as_is r) (construct ∷ ts) = shape-inside (shape_of r.kind) ts
 depth-after (as_is r) (switch s ∷ ts) = kind-inside r.kind r.operands s ts
@@ -215,7 +215,7 @@ open-depth g n (suc i) h =
     let rs = chain_rows (given_at g i) (things_at g i) in
     ap (λ x. length (open_at (chain_to g n) x)) (chain-grows g i)
     ∙ open-over (chain_to g n) (length (chain_to g i)) rs (λ k l. (in-chain g i k n h l).row_is)
-    ∙ ap (depthOver rs) (open-depth g n i (omega arith)) ∙ sym (depth-after (given_at g i) (things_at g i))
+    ∙ ap (depth_over rs) (open-depth g n i (omega arith)) ∙ sym (depth-after (given_at g i) (things_at g i))
 
 -- ---- nothing is left open in the chain
 none_open : (ts : List Thing) → is_any ts ≡ false → depth ts ≡ 0
@@ -274,7 +274,7 @@ pub record Sound (bs : List ℕ) : Type 0 where
   pub few : too_many_rows bs ≡ false
   pub rows : given_rows_verdict (given_of bs) (chain_of (given_of bs)) (length (given_of bs)) ≡ Accepted
   pub closed : is_any (things_at (given_of bs) (length (given_of bs))) ≡ false
-  pub few-chained : length (chain_of (given_of bs)) ≤ max_rows
+  pub few_chained : length (chain_of (given_of bs)) ≤ max_rows
   pub calls : calls_verdict (chain_of (given_of bs)) (length (chain_of (given_of bs))) ≡ Accepted
 
 all-causes : (a b : Bool) (rows : Verdict) (c d : Bool) (calls : Verdict)
@@ -300,7 +300,7 @@ sound bs e =
       few = q.1;
       rows = q.2;
       closed = q.3;
-      few-chained = ltb-false max_rows (length c) q.4;
+      few_chained = ltb-false max_rows (length c) q.4;
       calls = q.5;
     }
 
@@ -334,5 +334,5 @@ chain-accepted bs e =
     let g = given_of bs in
     let c = chain_of g in
     let h : 0 < length g = omega (arith, given-length bs, (whole-rows bs s.whole).0) in
-    bytes-accepted c (chain-some g c h s.rows) s.few-chained
+    bytes-accepted c (chain-some g c h s.rows) s.few_chained
     (table-accepted c (rows-accepted g c (length g) s.rows) (chain-closed g s.closed) s.calls)

@@ -34,19 +34,19 @@ abbrev pub parts_of : List Open → List Part
 parts_of [] = []
 parts_of (f ∷ fs) = f.part ∷ parts_of fs
 
-abbrev pub partsBy : Shape → List Part → List Part
-partsBy (pushes p) ps = p ∷ ps
-partsBy turns [] = []
-partsBy turns (p ∷ ps) = turned p ∷ ps
-partsBy closes [] = []
-partsBy closes (p ∷ ps) = ps
-partsBy stays ps = ps
+abbrev pub parts_by : Shape → List Part → List Part
+parts_by (pushes p) ps = p ∷ ps
+parts_by turns [] = []
+parts_by turns (p ∷ ps) = turned p ∷ ps
+parts_by closes [] = []
+parts_by closes (p ∷ ps) = ps
+parts_by stays ps = ps
 
-abbrev pub partsOver : Table → List Part → List Part
-partsOver [] ps = ps
-partsOver (r ∷ rs) ps = partsOver rs (partsBy (shape_of r.kind) ps)
+abbrev pub parts_over : Table → List Part → List Part
+parts_over [] ps = ps
+parts_over (r ∷ rs) ps = parts_over rs (parts_by (shape_of r.kind) ps)
 
-parts-by : (s : Shape) (i g : ℕ) (fs : List Open) → parts_of (open_after_lem s i g fs) ≡ partsBy s (parts_of fs)
+parts-by : (s : Shape) (i g : ℕ) (fs : List Open) → parts_of (open_after_lem s i g fs) ≡ parts_by s (parts_of fs)
 parts-by (pushes p) i g fs = refl
 parts-by turns i g [] = refl
 parts-by turns i g (f ∷ fs) = refl
@@ -54,23 +54,23 @@ parts-by closes i g [] = refl
 parts-by closes i g (f ∷ fs) = refl
 parts-by stays i g fs = refl
 
-pub parts_next : (c : Table) (j : ℕ) (r : Row) → row_at c j ≡ r → parts_of (open_at c (suc j)) ≡ partsBy (shape_of r.kind) (parts_of (open_at c j))
+pub parts_next : (c : Table) (j : ℕ) (r : Row) → row_at c j ≡ r → parts_of (open_at c (suc j)) ≡ parts_by (shape_of r.kind) (parts_of (open_at c j))
 unfolding open_at
 parts_next c j r e =
-    parts-by (shape_of (kind_at c j)) j (regions c j) (open_at c j) ∙ ap (λ x. partsBy (shape_of x.kind) (parts_of (open_at c j))) e
+    parts-by (shape_of (kind_at c j)) j (regions c j) (open_at c j) ∙ ap (λ x. parts_by (shape_of x.kind) (parts_of (open_at c j))) e
 
 pub parts-over : (c : Table) (j : ℕ) (rs : Table) → ((k : ℕ) → k < length rs → row_at c (j + k) ≡ row_at rs k)
-    → parts_of (open_at c (j + length rs)) ≡ partsOver rs (parts_of (open_at c j))
+    → parts_of (open_at c (j + length rs)) ≡ parts_over rs (parts_of (open_at c j))
 parts-over c j [] h = ap (λ x. parts_of (open_at c x)) (add-zero j)
 parts-over c j (r ∷ rs) h =
     let q : j + suc (length rs) ≡ suc j + length rs = omega arith in
     ap (λ x. parts_of (open_at c x)) q
     ∙ parts-over c (suc j) rs (λ k l. let m : suc j + k ≡ j + suc k = omega arith in ap (row_at c) m ∙ h (suc k) (omega arith))
-    ∙ ap (partsOver rs) (parts_next c j r (ap (row_at c) (sym (add-zero j)) ∙ h 0 (omega arith)))
+    ∙ ap (parts_over rs) (parts_next c j r (ap (row_at c) (sym (add-zero j)) ∙ h 0 (omega arith)))
 
 -- ---- what the open things stand for: a case a then part, in the else part of the case before it; a default an else part
-abbrev lastPart : (in_default : Bool) → Part
-lastPart d = cond d else_part then_part
+abbrev last_part : (in_default : Bool) → Part
+last_part d = cond d else_part then_part
 
 abbrev CaseParts : Part → (used : List ℕ) → List Part → Type 0
 CaseParts p [] ps = Unit {0}
@@ -81,20 +81,20 @@ abbrev pub Matches : List Thing → List Part → Type 0
 Matches [] ps = Unit {0}
 Matches (construct ∷ ts) [] = ⊥
 Matches (construct ∷ ts) (p ∷ ps) = Matches ts ps
-Matches (switch s ∷ ts) ps = CaseParts (lastPart s.in_default) s.used ps × Matches ts (drop (length s.used) ps)
+Matches (switch s ∷ ts) ps = CaseParts (last_part s.in_default) s.used ps × Matches ts (drop (length s.used) ps)
 
-ends-drop : (n : ℕ) (ps : List Part) → partsOver (replicate n (bare_row End)) ps ≡ drop n ps
+ends-drop : (n : ℕ) (ps : List Part) → parts_over (replicate n (bare_row End)) ps ≡ drop n ps
 ends-drop zero ps = refl
 ends-drop (suc n) [] = ends-drop n [] ∙ drop-nil n
 ends-drop (suc n) (p ∷ ps) = ends-drop n ps
 
-matches-outside : (s : Shape) (ps : List Part) → Matches (things_by s []) (partsBy s ps)
+matches-outside : (s : Shape) (ps : List Part) → Matches (things_by s []) (parts_by s ps)
 matches-outside (pushes p) ps = tt
 matches-outside turns ps = tt
 matches-outside closes ps = tt
 matches-outside stays ps = tt
 
-matches-inside : (s : Shape) (ts : List Thing) (p : Part) (ps : List Part) → Matches ts ps → Matches (things_by s (construct ∷ ts)) (partsBy s (p ∷ ps))
+matches-inside : (s : Shape) (ts : List Thing) (p : Part) (ps : List Part) → Matches ts ps → Matches (things_by s (construct ∷ ts)) (parts_by s (p ∷ ps))
 matches-inside (pushes q) ts p ps h = h
 matches-inside turns ts p ps h = h
 matches-inside closes ts p ps h = h
@@ -102,7 +102,7 @@ matches-inside stays ts p ps h = h
 
 matches-kind : (k : Kind) (o : Operands) (s : Switch) (ts : List Thing) (ps : List Part) → is_else k || (no_part s && not (is_end_lem k)) ≡ false → Matches (switch s ∷ ts) ps
     → Matches (things_by (shape_of k) (switch s ∷ ts))
-    (partsOver (cond (is_end_lem k) (replicate (length s.used) (bare_row End)) (record { kind = k; operands = o } ∷ [])) ps)
+    (parts_over (cond (is_end_lem k) (replicate (length s.used) (bare_row End)) (record { kind = k; operands = o } ∷ [])) ps)
 matches-kind Function o s ts ps e h = h
 matches-kind Do o s ts ps e h = h
 matches-kind If o s ts ps e h = h
@@ -115,22 +115,22 @@ matches-kind Call o s ts ps e h = h
 matches-kind Unknown o s ts ps e h = h
 
 matches-case : (d : Bool) (used : List ℕ) (p n : ℕ) (ts : List Thing) (ps : List Part) → d ≡ false
-    → CaseParts (lastPart d) used ps × Matches ts (drop (length used) ps)
-    → Matches (switch (record { p = p; used = n ∷ used; in_default = d }) ∷ ts) (partsOver (else_after used ++ (if_row p n ∷ [])) ps)
+    → CaseParts (last_part d) used ps × Matches ts (drop (length used) ps)
+    → Matches (switch (record { p = p; used = n ∷ used; in_default = d }) ∷ ts) (parts_over (else_after used ++ (if_row p n ∷ [])) ps)
 matches-case true used p n ts ps e h = clash refl e
 matches-case false [] p n ts ps e h = ((refl, tt), h.1)
 matches-case false (m ∷ ms) p n ts [] e h = absurd h.0
 matches-case false (m ∷ ms) p n ts (q ∷ ps) e h = ((refl, (ap turned h.0.0, h.0.1)), h.1)
 
 matches-default : (d : Bool) (used : List ℕ) (p : ℕ) (ts : List Thing) (ps : List Part) → d ≡ false
-    → CaseParts (lastPart d) used ps × Matches ts (drop (length used) ps)
-    → Matches (switch (record { p = p; used = used; in_default = true }) ∷ ts) (partsOver (else_after used) ps)
+    → CaseParts (last_part d) used ps × Matches ts (drop (length used) ps)
+    → Matches (switch (record { p = p; used = used; in_default = true }) ∷ ts) (parts_over (else_after used) ps)
 matches-default true used p ts ps e h = clash refl e
 matches-default false [] p ts ps e h = (tt, h.1)
 matches-default false (m ∷ ms) p ts [] e h = absurd h.0
 matches-default false (m ∷ ms) p ts (q ∷ ps) e h = ((ap turned h.0.0, h.0.1), h.1)
 
-matches-after : (r : GivenRow) (ts : List Thing) (ps : List Part) → strays r ts ≡ false → Matches ts ps → Matches (things_after r ts) (partsOver (chain_rows r ts) ps)
+matches-after : (r : GivenRow) (ts : List Thing) (ps : List Part) → strays r ts ≡ false → Matches ts ps → Matches (things_after r ts) (parts_over (chain_rows r ts) ps)
 unfolding strays
 matches-after (as_is r) [] ps e h = matches-outside (shape_of r.kind) ps
 matches-after (as_is r) (construct ∷ ts) [] e h = absurd h
@@ -242,7 +242,7 @@ module _ (c : Table) where
   ends-six j p (n ∷ ns) (q ∷ ps) o h r =
       let e : row_at c j ≡ bare_row End = ap (row_at c) (sym (add-zero j)) ∙ r 0 (omega arith) in
       six-then (six-row c j End _ e refl (not-outside (open_at c j) q ps o) refl)
-      (ends-six (suc j) else_part ns ps (parts_next c j (bare_row End) e ∙ ap (partsBy closes) o) h.1
+      (ends-six (suc j) else_part ns ps (parts_next c j (bare_row End) e ∙ ap (parts_by closes) o) h.1
       (λ k l. let m : suc j + k ≡ j + suc k = omega arith in ap (row_at c) m ∙ r (suc k) (omega arith)))
 
   close-six : (j : ℕ) (b : Bool) (r : Row) (p : Part) (used : List ℕ) → b ≡ true → CaseParts p used (parts_of (open_at c j))
@@ -266,7 +266,7 @@ module _ (c : Table) where
       let one : suc j ≡ j + 1 = omega arith in
       six-then (else-six j x ps e o q.0)
       (six-then (if-six (suc j) p n (ap (row_at c) one ∙ r 1 (omega arith)) h
-      (not-outside (open_at c (suc j)) (turned x) ps (parts_next c j (bare_row Else) e ∙ ap (partsBy turns) o))) (none refl))
+      (not-outside (open_at c (suc j)) (turned x) ps (parts_next c j (bare_row Else) e ∙ ap (parts_by turns) o))) (none refl))
 
   default-six : (j : ℕ) (used : List ℕ) (ps : List Part) → parts_of (open_at c j) ≡ ps → CaseParts then_part used ps
       → ((k : ℕ) → k < length (else_after used) → row_at c (j + k) ≡ row_at (else_after used) k) → Six (span_verdict c j (length (else_after used)))
@@ -283,16 +283,16 @@ module _ (c : Table) where
   unfolding strays span_verdict
   own-six (as_is r) [] j e w m v o q = clash w refl
   own-six (as_is r) (construct ∷ ts) j e w m v o q = clash w refl
-  own-six (as_is r) (switch s ∷ ts) j e w m v o q = close-six j (is_end_lem r.kind) r (lastPart s.in_default) s.used w m.0 q
+  own-six (as_is r) (switch s ∷ ts) j e w m v o q = close-six j (is_end_lem r.kind) r (last_part s.in_default) s.used w m.0 q
   own-six (switch_row o) ts j e w m v x q = none refl
   own-six (case_row o) [] j e w m v x q = clash refl e
   own-six (case_row o) (construct ∷ ts) j e w m v x q = clash refl e
   own-six (case_row o) (switch s ∷ ts) j e w m v x q =
-      case-six j s.p o.n s.used (parts_of (open_at c j)) refl x v.0 (subst (λ d. CaseParts (lastPart d) s.used (parts_of (open_at c j))) e m.0) q
+      case-six j s.p o.n s.used (parts_of (open_at c j)) refl x v.0 (subst (λ d. CaseParts (last_part d) s.used (parts_of (open_at c j))) e m.0) q
   own-six (default_row o) [] j e w m v x q = clash refl e
   own-six (default_row o) (construct ∷ ts) j e w m v x q = clash refl e
   own-six (default_row o) (switch s ∷ ts) j e w m v x q =
-      default-six j s.used (parts_of (open_at c j)) refl (subst (λ d. CaseParts (lastPart d) s.used (parts_of (open_at c j))) e m.0) q
+      default-six j s.used (parts_of (open_at c j)) refl (subst (λ d. CaseParts (last_part d) s.used (parts_of (open_at c j))) e m.0) q
 
 outside-any : (fs : List Open) (ts : List Thing) → Rooted ts → length fs ≡ depth ts → is_outside fs ≡ not (is_any ts)
 outside-any [] [] r e = refl

@@ -70,58 +70,58 @@ faulty-first g c i e l f =
     (λ m a b. ap (λ v. not (is_accepted v)) (row_before g c i e m b))
 
 -- the causes that a row can have
-pub isRowCause : Refusal → Bool
-isRowCause NoWholeRows = false
-isRowCause TooManyRows = false
-isRowCause WrongField = true
-isRowCause Misplaced = true
-isRowCause TooManyFunctions = true
-isRowCause TooManyParts = true
-isRowCause NoSuchFunction = false
-isRowCause ShortOutput = false
-isRowCause ShortRoom = false
-isRowCause NotHardened = false
-isRowCause RepeatedCase = true
-isRowCause NotFinished = false
+pub is_row_cause : Refusal → Bool
+is_row_cause NoWholeRows = false
+is_row_cause TooManyRows = false
+is_row_cause WrongField = true
+is_row_cause Misplaced = true
+is_row_cause TooManyFunctions = true
+is_row_cause TooManyParts = true
+is_row_cause NoSuchFunction = false
+is_row_cause ShortOutput = false
+is_row_cause ShortRoom = false
+is_row_cause NotHardened = false
+is_row_cause RepeatedCase = true
+is_row_cause NotFinished = false
 
-byRow : Verdict → Bool
-byRow Accepted = true
-byRow (Refused r) = isRowCause r
+by_row_lem : Verdict → Bool
+by_row_lem Accepted = true
+by_row_lem (Refused r) = is_row_cause r
 
-by-then : (u v : Verdict) → byRow u ≡ true → byRow v ≡ true → byRow (and_then u v) ≡ true
-unfolding byRow
+by-then : (u v : Verdict) → by_row_lem u ≡ true → by_row_lem v ≡ true → by_row_lem (and_then u v) ≡ true
+unfolding by_row_lem
 by-then Accepted v p q = q
 by-then (Refused r) v p q = p
 
-by_if : (b : Bool) (r : Refusal) → isRowCause r ≡ true → byRow (refuse_if_lem b r) ≡ true
-unfolding byRow
+by_if : (b : Bool) (r : Refusal) → is_row_cause r ≡ true → by_row_lem (refuse_if_lem b r) ≡ true
+unfolding by_row_lem
 by_if true r e = e
 by_if false r e = refl
 
-by_row : (c : Table) (j : ℕ) → byRow (row_verdict c j) ≡ true
-unfolding row_verdict isRowCause
+by_row : (c : Table) (j : ℕ) → by_row_lem (row_verdict c j) ≡ true
+unfolding row_verdict is_row_cause
 by_row c j =
     by-then _ _ (by_if (wrong_field c j) WrongField refl)
     (by-then _ _ (by_if (misplaced c j) Misplaced refl)
     (by-then _ _ (by_if (too_many_functions c j) TooManyFunctions refl) (by_if (too_many_parts c j) TooManyParts refl)))
 
-by_span : (c : Table) (j n : ℕ) → byRow (span_verdict c j n) ≡ true
-unfolding span_verdict byRow
+by_span : (c : Table) (j n : ℕ) → by_row_lem (span_verdict c j n) ≡ true
+unfolding span_verdict by_row_lem
 by_span c j zero = refl
 by_span c j (suc n) = by-then (row_verdict c j) (span_verdict c (suc j) n) (by_row c j) (by_span c (suc j) n)
 
-pub row-cause : (g : GivenTable) (c : Table) (i : ℕ) {r : Refusal} → given_row_verdict g c i ≡ Refused r → isRowCause r ≡ true
-unfolding given_row_verdict byRow isRowCause
+pub row-cause : (g : GivenTable) (c : Table) (i : ℕ) {r : Refusal} → given_row_verdict g c i ≡ Refused r → is_row_cause r ≡ true
+unfolding given_row_verdict by_row_lem is_row_cause
 row-cause g c i e =
     let r = given_at g i in
     let ts = things_at g i in
-    sym (ap byRow e)
+    sym (ap by_row_lem e)
     ∙ by-then (refuse_if_lem (not (given_fits r)) WrongField) _ (by_if (not (given_fits r)) WrongField refl)
     (by-then (refuse_if_lem (strays r ts) Misplaced) _ (by_if (strays r ts) Misplaced refl)
     (by-then (refuse_if_lem (repeats r ts) RepeatedCase) _ (by_if (repeats r ts) RepeatedCase refl) (by_span c (length (chain_to g i)) (length (chain_rows r ts)))))
 
-pub row-of-cause : (r : Refusal) → isRowCause r ≡ true → (bs : List ℕ) → fault_row r bs ≡ faulty_row (given_of bs) (chain_of (given_of bs))
-unfolding isRowCause fault_row
+pub row-of-cause : (r : Refusal) → is_row_cause r ≡ true → (bs : List ℕ) → fault_row r bs ≡ faulty_row (given_of bs) (chain_of (given_of bs))
+unfolding is_row_cause fault_row
 row-of-cause NoWholeRows e bs = clash e refl
 row-of-cause TooManyRows e bs = clash e refl
 row-of-cause WrongField e bs = refl
