@@ -1,7 +1,7 @@
 -- What is found of a source table that is to be hardened or run: why it is refused, or its chain and the chain's links. Assumes nothing:
 -- these are definitions.
 use Rattle.std.specs.Prelude.{ℕ, ◌≤◌, ◌≡◌, List, length, take}
-use Rattle.rules.specs.declared.refusal.Verdict.TheVariants.{Accepted, Refused}
+use Rattle.rules.specs.Verdict.{Accepted, Refused}
 use Rattle.rules.specs.Row.{table_of}
 use Rattle.rules.specs.Check.{verdict_of}
 use Rattle.rules.specs.Given.{given_verdict}

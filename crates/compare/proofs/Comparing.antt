@@ -12,7 +12,7 @@ use borrow.Author.Tests.{ltb-true, ltb-false}
 use Rattle.rules.specs.declared.ending.Ending.{Ending}
 use Rattle.rules.specs.declared.ending.Ending.TheVariants.{Unfinished}
 use Rattle.rules.specs.declared.step.Step.TheVariants.{Went}
-use Rattle.rules.specs.declared.strike.Strike.TheVariants.{None}
+use Rattle.rules.specs.Strike.{None}
 use Rattle.rules.specs.Bytes.{same}
 use Rattle.rules.specs.Line.{Line, lines_in}
 use Rattle.rules.specs.State.{retraced}

@@ -10,7 +10,7 @@ use lib.Seq.{take-length, take-suc, take-set-le, get_or-set_same}
 use borrow.Author.Tests.{eq-eqb, ne_eqb}
 use Rattle.rules.specs.declared.ending.Ending.{Ending}
 use Rattle.rules.specs.declared.ending.Ending.TheVariants.{Same}
-use Rattle.rules.specs.declared.strike.Strike.TheVariants.{None}
+use Rattle.rules.specs.Strike.{None}
 use Rattle.rules.specs.Line.{Line}
 use Rattle.rules.specs.State.{go_to, retraced}
 use Rattle.rules.specs.Run.{run}

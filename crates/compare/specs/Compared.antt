@@ -2,7 +2,7 @@
 use Rattle.std.specs.Prelude.{ℕ, ◌+◌, ◌≡◌, Bool, true, false, cond, ◌&&◌, List, [], ◌∷◌, eqb, ltb, leb, length, drop}
 use Rattle.rules.specs.declared.ending.Ending.{Ending}
 use Rattle.rules.specs.declared.ending.Ending.TheVariants.{Alarmed, Same, Other, Unfinished}
-use Rattle.rules.specs.declared.strike.Strike.TheVariants.{None}
+use Rattle.rules.specs.Strike.{None}
 use Rattle.rules.specs.Line.{Line}
 use Rattle.rules.specs.State.{go_to, retraced}
 use Rattle.rules.specs.Run.{run}

@@ -1,7 +1,7 @@
 // How a run ends, beside a trace that is known. It is made in pieces by the loop of every other run, which records the dos of each piece in a
 // small buffer: so no trace is kept, and no test is added to that loop.
 ghost use Rattle.std.specs.Prelude.{◌≡◌, ◌&&◌, [], ◌≤◌, length};
-ghost use Rattle.rules.specs.declared.strike.Strike.TheVariants.{None};
+ghost use Rattle.rules.specs.Strike.{None};
 ghost use Rattle.rules.specs.Line.{lines_in};
 ghost use Rattle.rules.specs.State.{retraced};
 ghost use Rattle.rules.specs.Run.{run, outcome_of_lem};

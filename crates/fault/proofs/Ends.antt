@@ -10,7 +10,7 @@ use lib.ListN.{length, get_or, take, drop}
 use borrow.Author.Tests.{eq-eqb, ne_eqb, eqb-true, eqb-false, ltb-true, ltb-false, lt-ltb, le-ltb}
 use Rattle.rules.specs.declared.refusal.Refusal.{Refusal}
 use Rattle.rules.specs.declared.refusal.Refusal.TheVariants.{NoWholeRows, TooManyRows, Misplaced, NoSuchFunction}
-use Rattle.rules.specs.declared.refusal.Verdict.TheVariants.{Accepted, Refused}
+use Rattle.rules.specs.Verdict.{Accepted, Refused}
 use Rattle.rules.specs.Limits.{max_rows, max_constructs}
 use Rattle.rules.specs.Row.{Row, row_width, row_in, kind_of, table_bytes}
 use Rattle.rules.specs.Scan.{open_at, regions, functions, function_count}

@@ -2,7 +2,7 @@
 use Rattle.std.specs.Prelude.{ℕ, ◌<◌, ◌≡◌, false, cond, List, eqb, ltb, length}
 use Rattle.rules.specs.declared.refusal.Refusal.{Refusal}
 use Rattle.rules.specs.declared.refusal.Refusal.TheVariants.{TooManyRows, Misplaced, NoSuchFunction}
-use Rattle.rules.specs.declared.refusal.Verdict.TheVariants.{Accepted, Refused}
+use Rattle.rules.specs.Verdict.{Accepted, Refused}
 use Rattle.rules.specs.Limits.{max_rows}
 use Rattle.rules.specs.Scan.{function_count}
 use Rattle.rules.specs.Switch.{given_of, things_at, chain_of}

@@ -11,7 +11,7 @@ use borrow.Author.Tests.{ne_eqb}
 use Rattle.rules.specs.declared.kind.Kind.TheVariants.{Do}
 use Rattle.rules.specs.declared.refusal.Refusal.{Refusal}
 use Rattle.rules.specs.declared.refusal.Refusal.TheVariants.{WrongField, Misplaced}
-use Rattle.rules.specs.declared.refusal.Verdict.TheVariants.{Accepted, Refused}
+use Rattle.rules.specs.Verdict.{Accepted, Refused}
 use Rattle.rules.specs.Bytes.{AreBytes, word_at}
 use Rattle.rules.specs.Row.{row_width, kind_of, row_in, fields_fit_lem}
 use Rattle.rules.specs.Scan.{shape_of}

@@ -11,8 +11,7 @@ use Rattle.rules.specs.declared.kind.Kind.{Kind}
 use Rattle.rules.specs.declared.kind.Kind.TheVariants.{Unknown}
 use Rattle.rules.specs.declared.refusal.Refusal.{Refusal}
 use Rattle.rules.specs.declared.refusal.Refusal.TheVariants.{WrongField, Misplaced, RepeatedCase}
-use Rattle.rules.specs.declared.refusal.Verdict.{Verdict}
-use Rattle.rules.specs.declared.refusal.Verdict.TheVariants.{Accepted, Refused}
+use Rattle.rules.specs.Verdict.{Verdict, Accepted, Refused}
 use Rattle.rules.specs.Bytes.{AreBytes, word_at}
 use Rattle.rules.specs.Limits.{max_constructs}
 use Rattle.rules.specs.Row.{Row, row_width, row_in, row_bytes, fields_fit_lem}

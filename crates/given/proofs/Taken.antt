@@ -10,8 +10,7 @@ use borrow.Author.Tests.{lt-ltb, ltb-true, ltb-false}
 use Rattle.rules.specs.declared.kind.Kind.TheVariants.{Else, End, Unknown}
 use Rattle.rules.specs.declared.refusal.Refusal.{Refusal}
 use Rattle.rules.specs.declared.refusal.Refusal.TheVariants.{WrongField, Misplaced, RepeatedCase}
-use Rattle.rules.specs.declared.refusal.Verdict.{Verdict}
-use Rattle.rules.specs.declared.refusal.Verdict.TheVariants.{Accepted, Refused}
+use Rattle.rules.specs.Verdict.{Verdict, Accepted, Refused}
 use Rattle.rules.specs.Bytes.{AreBytes}
 use Rattle.rules.specs.Limits.{max_rows, max_constructs}
 use Rattle.rules.specs.Row.{Row, row_width, row_in, row_at, kind_at, table_of, row_bytes}

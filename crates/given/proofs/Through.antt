@@ -11,7 +11,7 @@ use lib.Seq.{sets, sets-eq, take_at, length-sets}
 use borrow.Author.Tests.{ltb-true, ltb-false}
 use Rattle.rules.specs.declared.kind.Kind.{Kind}
 use Rattle.rules.specs.declared.refusal.Refusal.{Refusal}
-use Rattle.rules.specs.declared.refusal.Verdict.TheVariants.{Accepted}
+use Rattle.rules.specs.Verdict.{Accepted}
 use Rattle.rules.specs.Row.{Row, Table, row_width, table_of, kind_at, row_bytes, table_bytes}
 use Rattle.rules.specs.Check.{row_verdict, rows_verdict}
 use Rattle.rules.specs.Refusal.{and_then}

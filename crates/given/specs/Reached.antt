@@ -1,7 +1,7 @@
 -- Where a pass over the rows as given stands: what is open there and what the chain is so far, as numbers, bytes and words. Assumes
 -- nothing: these are definitions.
 use Rattle.std.specs.Prelude.{ℕ, suc, ◌+◌, ◌*◌, ◌≤◌, ◌<◌, ◌≡◌, cond, List, length, get_or, drop}
-use Rattle.rules.specs.declared.refusal.Verdict.TheVariants.{Accepted, Refused}
+use Rattle.rules.specs.Verdict.{Accepted, Refused}
 use Rattle.rules.specs.Bytes.{word_at}
 use Rattle.rules.specs.Limits.{max_rows, max_constructs}
 use Rattle.rules.specs.Row.{row_width}

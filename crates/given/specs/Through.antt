@@ -4,7 +4,7 @@ use Rattle.std.specs.Prelude.{ℕ, ◌+◌, ◌*◌, ◌≤◌, ◌<◌, ◌/◌
 use Rattle.std.proofs.lemmas.List.Edits.{sets}
 use Rattle.rules.specs.declared.kind.Kind.{Kind}
 use Rattle.rules.specs.declared.kind.Kind.TheVariants.{End}
-use Rattle.rules.specs.declared.refusal.Verdict.TheVariants.{Refused}
+use Rattle.rules.specs.Verdict.{Refused}
 use Rattle.rules.specs.Row.{Row, Table, row_width, table_of, kind_at, row_bytes, table_bytes}
 use Rattle.rules.specs.Switch.{bare_row}
 use Rattle.rules.specs.Given.{span_verdict}

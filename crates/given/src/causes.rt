@@ -9,23 +9,23 @@ use crate::sort::Sort;
 use crate::things::{among, cases_of};
 use rules::kind::Kind;
 use rules::limits::CONSTRUCTS;
-use rules::refusal::{Refusal, Verdict};
+use rules::refusal::Refusal;
 
-fn refuse_if(holds: bool, r: Refusal) -> Verdict
+fn refuse_if(holds: bool, r: Refusal) -> Result<(), Refusal>
     ensures { result ≡ refuse_if_lem holds r }
 {
     if holds {
-        return Verdict::Refused(r);
+        return Err(r);
     }
-    Verdict::Accepted
+    Ok(())
 }
 
 // The first of two causes that holds.
-fn refuse_first(one: bool, r: Refusal, other: bool, s: Refusal) -> Verdict
+fn refuse_first(one: bool, r: Refusal, other: bool, s: Refusal) -> Result<(), Refusal>
     ensures { result ≡ and_then (refuse_if_lem one r) (refuse_if_lem other s) }
 {
     if one {
-        return Verdict::Refused(r);
+        return Err(r);
     }
     refuse_if(other, s)
 }
@@ -66,7 +66,7 @@ fn switch_stray(top: u8, count: usize) -> bool
     top == 1
 }
 
-pub fn case_cause(number: u16, top: u8, cases: usize, used: &[u16; CONSTRUCTS + 1]) -> Verdict
+pub fn case_cause(number: u16, top: u8, cases: usize, used: &[u16; CONSTRUCTS + 1]) -> Result<(), Refusal>
     requires { (cases ≤ max_constructs) × (marked_cases top ≤ cases) }
     ensures { result ≡ cause_of Sort.Case number top 0 cases used.now }
 {
@@ -87,12 +87,12 @@ pub fn cause(
     count: usize,
     cases: usize,
     used: &[u16; CONSTRUCTS + 1],
-) -> Verdict
+) -> Result<(), Refusal>
     requires { (cases ≤ max_constructs) × (marked_cases top ≤ cases) }
     ensures { result ≡ cause_of sort number top count cases used.now }
 {
     match sort {
-        Sort::Wrong => Verdict::Refused(Refusal::WrongField),
+        Sort::Wrong => Err(Refusal::WrongField),
         Sort::Plain(kind) => refuse_if(plain_stray(kind, top), Refusal::Misplaced),
         Sort::Switch => refuse_if(switch_stray(top, count), Refusal::Misplaced),
         Sort::Case => case_cause(number, top, cases, used),

@@ -17,7 +17,7 @@ use rows::row::Row;
 use rules::bytes::word;
 use rules::kind::Kind;
 use rules::limits::{CONSTRUCTS, ROWS};
-use rules::refusal::{Refusal, Verdict};
+use rules::refusal::Refusal;
 use scan::open::{Next, Standing, plain};
 
 #[derive(Drop)]
@@ -131,8 +131,8 @@ fn other_row(
     let top = innermost(marks, t.count);
     let number = word(rows, from + 4);
     match cause(sort, number, top, t.count, t.cases, used) {
-        Verdict::Refused(r) => After::Faulty(r),
-        Verdict::Accepted => take(
+        Err(r) => After::Faulty(r),
+        Ok(()) => take(
             rows, at, sort, top, number, s, t, parts, marks, vars, used, chain,
         ),
     }
@@ -243,8 +243,8 @@ fn case_row(
     let top = innermost(marks, t.count);
     let number = word(rows, from + 4);
     match case_cause(number, top, t.cases, used) {
-        Verdict::Refused(r) => After::Faulty(r),
-        Verdict::Accepted => take_case(
+        Err(r) => After::Faulty(r),
+        Ok(()) => take_case(
             rows, at, top, number, s, t, parts, marks, vars, used, chain,
         ),
     }

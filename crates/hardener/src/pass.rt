@@ -1,7 +1,7 @@
 // One pass over an accepted table for two uses: its lines are kept, one behind the other, or some rows at a time are made in a scratch and
 // compared with given bytes. One function for both, so that its words are in one frame, which begins after the table is checked.
 ghost use Rattle.std.specs.Prelude.{◌≡◌, true, ◌<◌, length};
-ghost use Rattle.rules.specs.declared.refusal.Verdict.TheVariants.{Accepted};
+ghost use Rattle.rules.specs.Verdict.{Accepted};
 ghost use Rattle.rules.specs.Row.{table_of};
 ghost use Rattle.rules.specs.Check.{verdict_of};
 ghost use Rattle.rules.specs.Links.{Links};

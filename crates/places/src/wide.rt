@@ -7,7 +7,7 @@ ghost use Rattle.places.specs.Places.{late, wide_do, wide_at, wide_last, DosIn};
 
 use line::kind::LineKind;
 use line::read;
-use rules::computed::Computed;
+use rules::computed::Assigned;
 use rules::ending::Ending;
 use rules::limits::VARIABLES;
 use state::variables::compute;
@@ -30,8 +30,8 @@ fn before_do(lines: &[u8], line: u16, variables: &[u16; VARIABLES], left: u16) -
     let l = read::line_at(lines, line);
     let c = compute(l.operands, variables);
     match c {
-        Computed::Fits(_, _) => alarm_late(left),
-        Computed::Overflows => Ending::Unfinished,
+        Some(_) => alarm_late(left),
+        None => Ending::Unfinished,
     }
 }
 

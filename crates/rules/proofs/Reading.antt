@@ -11,7 +11,7 @@ use borrow.Author.Tests.{eqb-true, ltb-true}
 use Rattle.rules.specs.declared.operands.Operands.{Operands}
 use Rattle.rules.specs.declared.kind.Kind.{Kind}
 use Rattle.rules.specs.declared.kind.Kind.TheVariants.{Function, Do, If, Else, Loop, End, Break, Continue, Call, Unknown}
-use Rattle.rules.specs.declared.refusal.Verdict.TheVariants.{Accepted}
+use Rattle.rules.specs.Verdict.{Accepted}
 use Rattle.rules.specs.Bytes.{AreBytes, word_at, same}
 use Rattle.rules.specs.Row.{Row, Table, kind_byte, row_bytes, table_bytes, table_of, kind_at, operands_at, is_variable, uses_none_lem, uses_number_lem, uses_variable_lem, uses_function_lem, fields_fit_lem}
 use Rattle.rules.specs.Scan.{Open, open_at, has_else, is_function_lem, functions}

@@ -2,7 +2,7 @@
 ghost use Rattle.std.specs.Prelude.{◌≡◌};
 ghost use Rattle.rules.specs.Refusal.{refusal_number, number_of};
 
-use crate::refusal::{Refusal, Verdict};
+use crate::refusal::Refusal;
 
 pub fn of_refusal(r: Refusal) -> u8
     ensures { result ≡ refusal_number r }
@@ -23,11 +23,11 @@ pub fn of_refusal(r: Refusal) -> u8
     }
 }
 
-pub fn of_verdict(v: Verdict) -> u8
+pub fn of_verdict(v: Result<(), Refusal>) -> u8
     ensures { result ≡ number_of v }
 {
     match v {
-        Verdict::Accepted => 0,
-        Verdict::Refused(r) => of_refusal(r),
+        Ok(()) => 0,
+        Err(r) => of_refusal(r),
     }
 }

@@ -14,9 +14,3 @@ pub enum Refusal {
     RepeatedCase,
     NotFinished,
 }
-
-#[derive(Clone, Copy)]
-pub enum Verdict {
-    Accepted,
-    Refused(Refusal),
-}

@@ -3,7 +3,7 @@
 use Rattle.std.specs.Prelude.{ℕ, suc, ◌+◌, ◌*◌, ◌<◌, ◌≡◌, List, length, drop}
 use Rattle.rules.specs.declared.kind.Kind.{Kind}
 use Rattle.rules.specs.declared.kind.Kind.TheVariants.{Do, If, Loop, Break, Continue, Call}
-use Rattle.rules.specs.declared.refusal.Verdict.TheVariants.{Refused}
+use Rattle.rules.specs.Verdict.{Refused}
 use Rattle.rules.specs.Row.{row_width, table_of}
 use Rattle.rules.specs.Scan.{then_part, loop_body}
 use Rattle.rules.specs.Check.{row_verdict}

@@ -15,7 +15,7 @@ use guard::counters;
 use machine::{map, run};
 use rules::limits::{COUNTERS, FUNCTIONS, LINES, VARIABLES};
 use rules::step::Step;
-use rules::strike::Strike;
+use rules::strike::Jump;
 use state::machine::{Machine, Stopped, begun};
 use strike::struck::land;
 
@@ -27,7 +27,7 @@ fn turn(
     owners: &[u8; LINES + 1],
     home: u16,
     machine: Machine,
-    strike: Strike,
+    strike: Option<Jump>,
     counters: &mut [u16],
     trace: &mut [u16],
     at: &mut usize,
@@ -56,7 +56,7 @@ fn walk(
     home: u16,
     start: Machine,
     budget: u16,
-    strike: Strike,
+    strike: Option<Jump>,
     counters: &mut [u16],
     trace: &mut [u16],
     at: &mut usize,
@@ -99,7 +99,7 @@ fn list_accepted(
     lines: &[u8],
     variables: [u16; VARIABLES],
     budget: u16,
-    strike: Strike,
+    strike: Option<Jump>,
     trace: &mut [u16],
     text: &mut [u8; 65536],
 ) -> usize
@@ -137,7 +137,7 @@ pub fn list(
     lines: &[u8],
     variables: [u16; VARIABLES],
     budget: u16,
-    strike: Strike,
+    strike: Option<Jump>,
     trace: &mut [u16],
     text: &mut [u8; 65536],
 ) -> usize

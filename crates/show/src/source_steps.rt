@@ -1,7 +1,7 @@
 // A source run made step by step: its calls are counted, and where that is asked each step is listed before it is made. It comes to what
 // the run comes to.
 ghost use Rattle.std.specs.Prelude.{◌≡◌, ◌+◌, ◌≤◌, ◌<◌, length};
-ghost use Rattle.rules.specs.declared.refusal.Verdict.TheVariants.{Accepted};
+ghost use Rattle.rules.specs.Verdict.{Accepted};
 ghost use Rattle.rules.specs.Row.{table_of};
 ghost use Rattle.rules.specs.Check.{verdict_of};
 ghost use Rattle.rules.specs.Links.{Links};
@@ -16,7 +16,6 @@ use chain::{Linked, SIZE, link};
 use layout::row;
 use rows::kind::is_call;
 use rules::limits::{FUNCTIONS, ROWS, VARIABLES};
-use rules::refusal::Verdict;
 use rules::step::Step;
 use source::{goes, run};
 use state::machine::{Machine, Registers, Stopped, begun};
@@ -207,10 +206,10 @@ pub fn tell(
     let mut elses = [0u16; ROWS];
     let mut heads = [0u16; FUNCTIONS];
     match table::check::check(rows, &mut ends, &mut elses, &mut heads) {
-        Verdict::Refused(_) => tell_switched(
+        Err(_) => tell_switched(
             rt, rows, &mut ends, &mut elses, &mut heads, variables, budget, show, trace, text,
         ),
-        Verdict::Accepted => tell_accepted(
+        Ok(()) => tell_accepted(
             rt, rows, &ends, &elses, &heads, variables, budget, show, trace, text,
         ),
     }

@@ -6,7 +6,6 @@ ghost use Rattle.state.specs.Machine.{HasSlot, moved, done, put_of, did_of};
 
 use crate::machine::{Moved, Registers, standing, stay};
 use crate::variables;
-use rules::computed::Computed;
 use rules::limits::VARIABLES;
 use rules::operands::Operands;
 use rules::step::Step;
@@ -62,8 +61,8 @@ pub fn act(
 {
     let c = variables::compute(o, variables);
     match c {
-        Computed::Fits(p, x) => put(p, x, row, h, variables, trace),
-        Computed::Overflows => {
+        Some((p, x)) => put(p, x, row, h, variables, trace),
+        None => {
             let held = variables[o.p as usize];
             over(row, held, h)
         }

@@ -9,7 +9,7 @@ ghost use Rattle.strike.specs.Struck.{land_of, jump_of, struck_of};
 use machine::run::run_lines;
 use rules::limits::{FUNCTIONS, LINES};
 use rules::step::Step;
-use rules::strike::Strike;
+use rules::strike::Jump;
 use state::machine::{Machine, Stopped, at_line};
 
 // The running function goes to a place of its own, and the run goes on from there; a place beyond its last ends the run.
@@ -77,7 +77,7 @@ pub fn strike(
     home: u16,
     start: Machine,
     budget: u16,
-    strike: Strike,
+    strike: Option<Jump>,
     counters: &mut [u16],
     trace: &mut [u16],
 ) -> Stopped
@@ -85,8 +85,8 @@ pub fn strike(
     ensures { stopped_with result counters.new trace.new ≡ struck_of lines.now (map_of starts.now owners.now home) budget strike (parts_in start counters.old trace.old) }
 {
     match strike {
-        Strike::None => run_lines(lines, starts, owners, home, start, budget, counters, trace),
-        Strike::Jump(step, place) => jump(
+        None => run_lines(lines, starts, owners, home, start, budget, counters, trace),
+        Some((step, place)) => jump(
             lines, starts, owners, home, start, budget, step, place, counters, trace,
         ),
     }

@@ -3,7 +3,7 @@ ghost use Rattle.std.specs.Prelude.{◌≡◌, true, ◌≤◌, length};
 ghost use Rattle.rules.specs.ReadBack.{is_hardened_lem};
 ghost use Rattle.rules.specs.Limits.{counter_words};
 ghost use Rattle.rules.specs.Calls.{zeros, counters_after};
-ghost use Rattle.rules.specs.declared.refusal.Verdict.TheVariants.{Accepted};
+ghost use Rattle.rules.specs.Verdict.{Accepted};
 ghost use Rattle.machine.specs.Step.{map_of};
 ghost use Rattle.machine.specs.Stands.{Ready};
 ghost use Rattle.strike.specs.Struck.{ran_with, accepted_run};
@@ -13,7 +13,7 @@ use guard::counters;
 use machine::map;
 use rules::answer::Ran;
 use rules::limits::{COUNTERS, FUNCTIONS, LINES, VARIABLES};
-use rules::strike::Strike;
+use rules::strike::Jump;
 use state::answer::answer;
 use state::machine::begun;
 
@@ -25,7 +25,7 @@ fn run_mapped(
     home: u16,
     variables: [u16; VARIABLES],
     budget: u16,
-    strike: Strike,
+    strike: Option<Jump>,
     trace: &mut [u16],
     words: &mut [u16],
 ) -> Ran
@@ -46,7 +46,7 @@ pub fn run_table(
     lines: &[u8],
     variables: [u16; VARIABLES],
     budget: u16,
-    strike: Strike,
+    strike: Option<Jump>,
     trace: &mut [u16],
     counters: &mut [u16],
 ) -> Ran

@@ -10,7 +10,7 @@ use lib.Seq.{take-length}
 use lib.Dec.{eqb}
 use Rattle.rules.specs.declared.ending.Ending.TheVariants.{Same}
 use Rattle.rules.specs.declared.step.Step.TheVariants.{Went}
-use Rattle.rules.specs.declared.strike.Strike.TheVariants.{None}
+use Rattle.rules.specs.Strike.{None}
 use Rattle.rules.specs.Line.{lines_in}
 use Rattle.rules.specs.State.{retraced}
 use Rattle.rules.specs.Run.{Answer, run, outcome_of_lem}

@@ -11,8 +11,7 @@ use borrow.Author.Tests.{ne_eqb, lt-ltb, le-ltb}
 use Rattle.rules.specs.declared.kind.Kind.TheVariants.{If}
 use Rattle.rules.specs.declared.refusal.Refusal.{Refusal}
 use Rattle.rules.specs.declared.refusal.Refusal.TheVariants.{NoWholeRows, TooManyRows}
-use Rattle.rules.specs.declared.refusal.Verdict.{Verdict}
-use Rattle.rules.specs.declared.refusal.Verdict.TheVariants.{Accepted, Refused}
+use Rattle.rules.specs.Verdict.{Verdict, Accepted, Refused}
 use Rattle.rules.specs.Row.{Table, table_of, kind_at}
 use Rattle.rules.specs.Scan.{is_else_of, else_of, end_of, function_count}
 use Rattle.rules.specs.Check.{table_verdict, calls_verdict, verdict_of}

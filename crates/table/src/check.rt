@@ -14,7 +14,7 @@ use rows::kind::is_function;
 use rows::{LAST, WIDTH};
 use rules::kind::Kind;
 use rules::limits::{FUNCTIONS, ROWS};
-use rules::refusal::{Refusal, Verdict};
+use rules::refusal::Refusal;
 use walk::answer::Seq;
 use walk::link::link;
 use walk::parts::sequence;
@@ -122,7 +122,7 @@ fn functions(rows: &[u8], ends: &mut [u16], elses: &mut [u16], heads: &mut [u16]
 }
 
 // The calls of a table with `count` functions.
-fn calls(rows: &[u8], count: usize) -> Verdict
+fn calls(rows: &[u8], count: usize) -> Result<(), Refusal>
     requires { count ≡ function_count (table_of rows.now) }
     ensures { result ≡ calls_verdict (table_of rows.now) (length (table_of rows.now)) }
 {
@@ -130,11 +130,11 @@ fn calls(rows: &[u8], count: usize) -> Verdict
     while WIDTH * at + LAST < rows.len() {
         let from = WIDTH * at;
         if calls_beyond(&rows[from..], count) {
-            return Verdict::Refused(Refusal::NoSuchFunction);
+            return Err(Refusal::NoSuchFunction);
         }
         at = at + 1;
     }
-    Verdict::Accepted
+    Ok(())
 }
 
 // A word for each row, for its links.
@@ -157,20 +157,20 @@ pub fn check(
     ends: &mut [u16; ROWS],
     elses: &mut [u16; ROWS],
     heads: &mut [u16; FUNCTIONS],
-) -> Verdict
+) -> Result<(), Refusal>
     ensures { Checked rows.now result ends.new elses.new heads.new }
 {
     if rows.len() == 0 {
-        return Verdict::Refused(Refusal::NoWholeRows);
+        return Err(Refusal::NoWholeRows);
     }
     if rows.len() % WIDTH != 0 {
-        return Verdict::Refused(Refusal::NoWholeRows);
+        return Err(Refusal::NoWholeRows);
     }
     if rows.len() / WIDTH > ROWS {
-        return Verdict::Refused(Refusal::TooManyRows);
+        return Err(Refusal::TooManyRows);
     }
     match functions(rows, ends, elses, heads) {
-        All::Rejected(r) => Verdict::Refused(r),
+        All::Rejected(r) => Err(r),
         All::Counted(n) => calls(rows, n),
     }
 }

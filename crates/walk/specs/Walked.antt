@@ -5,7 +5,7 @@ use Rattle.rules.specs.declared.kind.Kind.{Kind}
 use Rattle.rules.specs.declared.kind.Kind.TheVariants.{Else, End}
 use Rattle.rules.specs.declared.refusal.Refusal.{Refusal}
 use Rattle.rules.specs.declared.refusal.Refusal.TheVariants.{Misplaced}
-use Rattle.rules.specs.declared.refusal.Verdict.TheVariants.{Refused}
+use Rattle.rules.specs.Verdict.{Refused}
 use Rattle.rules.specs.Row.{row_width, table_of}
 use Rattle.rules.specs.Scan.{Open, then_part}
 use Rattle.rules.specs.Check.{table_verdict}

@@ -9,7 +9,7 @@ use native.Mathlib.Omega.{arith}
 use lib.Dec.{eqb, ltb}
 use borrow.Author.Tests.{eq-eqb, ne_eqb, eqb-true, eqb-false, lt-ltb}
 use Rattle.rules.specs.declared.ending.Ending.TheVariants.{Alarmed, Same, Unfinished}
-use Rattle.rules.specs.declared.strike.Strike.TheVariants.{None}
+use Rattle.rules.specs.Strike.{None}
 use Rattle.rules.specs.Limits.{no_step}
 use Rattle.rules.specs.Row.{Table}
 use Rattle.rules.specs.Line.{Line}

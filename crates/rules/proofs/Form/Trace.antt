@@ -10,7 +10,7 @@ use lib.Dec.{eqb, ltb}
 use borrow.Author.Tests.{eq-eqb}
 use Rattle.rules.specs.declared.step.Step.{Step}
 use Rattle.rules.specs.declared.step.Step.TheVariants.{Went, Finished, TooManyOpen, Overflow}
-use Rattle.rules.specs.declared.strike.Strike.TheVariants.{None}
+use Rattle.rules.specs.Strike.{None}
 use Rattle.rules.specs.Bytes.{same}
 use Rattle.rules.specs.Limits.{max_open}
 use Rattle.rules.specs.Variables.{variable, holds_on, overflows}

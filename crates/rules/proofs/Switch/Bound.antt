@@ -11,7 +11,7 @@ use borrow.Author.Tests.{leb-false}
 use Rattle.rules.specs.declared.operands.Operands.{Operands}
 use Rattle.rules.specs.declared.kind.Kind.{Kind}
 use Rattle.rules.specs.declared.kind.Kind.TheVariants.{Function, Do, If, Else, Loop, End, Break, Continue, Call, Unknown}
-use Rattle.rules.specs.declared.refusal.Verdict.TheVariants.{Accepted}
+use Rattle.rules.specs.Verdict.{Accepted}
 use Rattle.rules.specs.Bytes.{AreBytes}
 use Rattle.rules.specs.Limits.{max_constructs}
 use Rattle.rules.specs.Row.{Row, Table, row_in, row_width, kind_at, operands_at}

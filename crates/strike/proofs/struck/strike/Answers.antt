@@ -1,8 +1,7 @@
 use mathlib.Core.Path.{◌≡◌, sym, ap, ◌∙◌}
 use mathlib.Core.List.{List}
 use Prim.Native.Nat.{ℕ}
-use Rattle.rules.specs.declared.strike.Strike.{Strike}
-use Rattle.rules.specs.declared.strike.Strike.TheVariants.{None, Jump}
+use Rattle.rules.specs.Strike.{Strike, None, Jump}
 use Rattle.machine.specs.Step.{Map, Parts}
 use Rattle.machine.specs.Run.{run_of}
 use Rattle.strike.specs.Struck.{jump_of, struck_of}
