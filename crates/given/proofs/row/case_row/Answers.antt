@@ -10,8 +10,8 @@ returns-then-not-fits c = case-wrong c.requires.here c.requires.at_value c.fits.
 pub case_cause-requires : goal.case_cause-requires
 case_cause-requires c = (omega arith, top-few c.requires.reached c.innermost-top.ensures)
 
-pub returns-in-Refused : goal.returns-in-Refused
-returns-in-Refused c = row-refused c.requires.reached c.requires.here (case-named c.requires.here c.requires.at_value c.fits.ensures (ap not c.if-not-fits.false)) c.innermost-top.ensures c.word-number.ensures c.case_cause.ensures c.in-Refused.is
+pub returns-in-Err : goal.returns-in-Err
+returns-in-Err c = row-refused c.requires.reached c.requires.here (case-named c.requires.here c.requires.at_value c.fits.ensures (ap not c.if-not-fits.false)) c.innermost-top.ensures c.word-number.ensures c.case_cause.ensures c.in-Err.is
 
 pub take_case-requires-clause-sound : goal.take_case-requires-clause-sound
-take_case-requires-clause-sound c = row_sound c.requires.reached c.requires.here (case-named c.requires.here c.requires.at_value c.fits.ensures (ap not c.if-not-fits.false)) c.innermost-top.ensures c.word-number.ensures c.case_cause.ensures c.in-Accepted.is
+take_case-requires-clause-sound c = row_sound c.requires.reached c.requires.here (case-named c.requires.here c.requires.at_value c.fits.ensures (ap not c.if-not-fits.false)) c.innermost-top.ensures c.word-number.ensures c.case_cause.ensures c.in-Ok.is

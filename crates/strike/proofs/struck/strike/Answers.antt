@@ -18,5 +18,5 @@ by_jump bs m b k place p j e = ap (λ x. struck_of bs m b x p) (sym e)
 pub returns-in-None : goal.returns-in-None
 returns-in-None c = c.run_lines.ensures ∙ by-none _ _ _ _ _ c.in-None.is
 
-pub returns-in-Jump : goal.returns-in-Jump
-returns-in-Jump c = c.jump.ensures ∙ by_jump _ _ _ _ _ _ _ c.in-Jump.is
+pub returns-in-Some : goal.returns-in-Some
+returns-in-Some c = c.jump.ensures ∙ by_jump _ _ _ _ _ _ _ c.in-Some.is
