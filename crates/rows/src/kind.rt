@@ -33,6 +33,7 @@ pub const CASE: u8 = 0x0b;
 pub const DEFAULT: u8 = 0x0c;
 
 // The kind that a row's first byte says.
+#[tactic(auto, unfolding(rules::specs::Row::kind_of))]
 pub fn kind_of(byte: u8) -> Kind
     ensures { result ≡ kind_of byte }
 {
