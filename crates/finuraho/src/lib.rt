@@ -138,7 +138,7 @@ fn give(answer: &[u8], out: &mut [u8]) -> Wrote
     if out.len() < answer.len() {
         return refused(Refusal::ShortOutput);
     }
-    line::bytes::copy(answer, out, 0);
+    out[..answer.len()].copy_from_slice(answer);
     Wrote {
         number: 0,
         length: answer.len(),

@@ -4,7 +4,7 @@ ghost use Rattle.rules.specs.declared.kind.Kind.{Kind};
 ghost use Rattle.rows.specs.First.{first_kind_lem};
 ghost use Rattle.rows.specs.Dos.{is_do_lem, DosAre};
 
-use crate::first::word;
+use crate::first::operands;
 use crate::fits::do_uses;
 use crate::kind::DO;
 use crate::{LAST, WIDTH};
@@ -14,10 +14,8 @@ fn is_do(rows: &[u8]) -> bool
     requires { 5 < length rows.now }
     ensures { result ≡ is_do_lem (first_kind_lem rows.now) }
 {
-    if rows[0] != DO {
-        return false;
-    }
-    do_uses(rows[1], rows[2], rows[3], word(rows[4], rows[5]))
+    let o = operands(rows);
+    rows[0] == DO && do_uses(o)
 }
 
 // The dos that the bytes begin with, where they begin with one.

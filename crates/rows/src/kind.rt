@@ -53,33 +53,11 @@ pub fn kind_of(byte: u8) -> Kind
 pub fn is_function(kind: Kind) -> bool
     ensures { result ≡ is_function_lem kind }
 {
-    match kind {
-        Kind::Function => true,
-        Kind::Do => false,
-        Kind::If => false,
-        Kind::Else => false,
-        Kind::Loop => false,
-        Kind::End => false,
-        Kind::Break => false,
-        Kind::Continue => false,
-        Kind::Call => false,
-        Kind::Unknown => false,
-    }
+    matches!(kind, Kind::Function)
 }
 
 pub fn is_call(kind: Kind) -> bool
     ensures { result ≡ is_call kind }
 {
-    match kind {
-        Kind::Function => false,
-        Kind::Do => false,
-        Kind::If => false,
-        Kind::Else => false,
-        Kind::Loop => false,
-        Kind::End => false,
-        Kind::Break => false,
-        Kind::Continue => false,
-        Kind::Call => true,
-        Kind::Unknown => false,
-    }
+    matches!(kind, Kind::Call)
 }

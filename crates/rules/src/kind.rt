@@ -1,5 +1,5 @@
 // What the kind byte of a row says (01, "The source table").
-#[derive(Clone, Copy)]
+#[derive(Clone, Copy, PartialEq, Eq)]
 pub enum Kind {
     Function,
     Do,
