@@ -132,8 +132,8 @@ plain-rows-verdict t (suc n) h =
 -- ---- and at the end
 any_open : (ts : List Thing) (fs : List Open) → length fs ≡ length ts → is_any ts ≡ not (is_outside fs)
 any_open [] [] e = refl
-any_open [] (f ∷ fs) e = absurd (let z : ⊥ = omega arith in z)
-any_open (t ∷ ts) [] e = absurd (let z : ⊥ = omega arith in z)
+any_open [] (f ∷ fs) e = absurd (omega arith)
+any_open (t ∷ ts) [] e = absurd (omega arith)
 any_open (t ∷ ts) (f ∷ fs) e = refl
 
 plain-left : (t : Table) → is_any (things_at (plain t) (length (plain t))) ≡ left_open_lem t
@@ -198,7 +198,7 @@ plain-chain-rows bs s = ap chain_of (given-plain bs s) ∙ plain-chain (table_of
 -- ---- what 01 accepts has no switch
 row_from : (bs : List ℕ) (i n j : ℕ) → j < n → row_at (rows_from bs i n) j ≡ row_in bs (row_width * (i + j))
 unfolding rows_from
-row_from bs i zero j h = absurd (let z : ⊥ = omega arith in z)
+row_from bs i zero j h = absurd (omega arith)
 row_from bs i (suc n) zero h = ap (λ k. row_in bs (row_width * k)) (sym (add-zero i))
 row_from bs i (suc n) (suc j) h =
     let q : suc i + j ≡ i + suc j = omega arith in
