@@ -42,12 +42,9 @@ counter-off : (t : Table) (fs : List Open) (v x : ℕ) → NotIn x fs → counte
 counter-off t [] v x n = refl
 counter-off t (f ∷ fs) v x n = counter-under t f fs v x (λ e. n.0 (sym e)) ∙ counter-off t fs _ x n.1
 
-twice : {A : Type 0} (b : Bool) (w v y : A) → cond b w (cond b v y) ≡ cond b w y
-twice b w v y = grind arith
-
 -- ---- the innermost region gets w
 pub put-top : (t : Table) (z : ℕ) (f : Open) (fs : List Open) (v w : ℕ) → z ≤ f.region → put (f.region - z) w (counters t z (f ∷ fs) v) ≡ counters t z (f ∷ fs) w
-put-top t z f fs v w h = fun_ext (λ x. rw (shift z f.region x h) (twice (eqb (z + x) f.region) w v _))
+put-top t z f fs v w h = fun_ext (λ x. rw (shift z f.region x h) (grind arith))
 
 -- ---- a part opens
 pub put-new : (t : Table) (z : ℕ) (n : Open) (fs : List Open) (b v : ℕ) → z ≤ n.region → v ≡ holding t n fs → put (n.region - z) b (counters t z fs v) ≡ counters t z (n ∷ fs) b
