@@ -19,15 +19,10 @@ use Rattle.rules.proofs.Logic.{clash}
 use Rattle.rules.proofs.Accepted.{Proper}
 use Rattle.rules.proofs.Scan.{Chain, chain, regions-mono}
 use Rattle.rules.proofs.Function.{Formed, formed, end-takes-none}
-use Rattle.rules.proofs.ValueBound.{sum, sum-add, none_below, base_sum}
+use Rattle.rules.proofs.ValueBound.{sum, sum-none, sum-add, none_below, base_sum}
 use Rattle.rules.proofs.Figures.Sums.{sums_at, sums-start, sums_next}
 
 -- ---- what a row takes in all regions together
-sum-none : (n : ℕ) → sum (λ g. 0) n ≡ 0
-unfolding sum
-sum-none zero = refl
-sum-none (suc n) = omega (arith, sum-none n)
-
 sum-own : (k : Kind) (f : Open) (fs : List Open) (n : ℕ) → f.region < n → sum (λ g. takes_in k g (f ∷ fs)) n ≡ takes k f.part
 unfolding sum
 sum-own k f fs zero h = absurd (not-suc-le-zero h)
