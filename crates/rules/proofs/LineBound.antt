@@ -27,7 +27,7 @@ use Rattle.rules.proofs.Harden.{line-suc}
 use Rattle.rules.proofs.Function.{is_body_lem, home, FunctionAt, function-at, InFunction, move-to, entry, formed-here, function-end, end_same, callee_known}
 use Rattle.rules.proofs.Place.{start_is, finish-is, callee}
 use Rattle.rules.proofs.ValueBound.{regions-bound}
-use Rattle.rules.proofs.Words.{word_of, word-base}
+use Rattle.rules.proofs.Words.{word_of, word-base, word_at, region-in}
 use Rattle.rules.proofs.RegionBound.{own-bound, around-below, around-bound, opened-bound, else-bound, local-bound, LoopAround}
 use Rattle.rules.proofs.FunctionLine.{line_in, first-in, next_in}
 
@@ -47,17 +47,14 @@ module _ (t : Table) (ok : Proper t) (n i : ℕ) (f : Open) (fs : List Open) (m 
   all_held : AllHeld t i (f ∷ fs)
   all_held = subst (AllHeld t i) m.open_is (held t i)
 
-  region_low : f.region ≤ length t
-  region_low = omega (arith, (subst (Chain (regions t i)) m.open_is (chain t i)).0, regions-bound t i, m.within)
-
   around-low : region_of fs ≤ length t
-  around-low = omega (arith, around-below f fs (regions t i) (subst (Chain (regions t i)) m.open_is (chain t i)), region_low)
+  around-low = omega (arith, around-below f fs (regions t i) (subst (Chain (regions t i)) m.open_is (chain t i)), region-in t m)
 
   pub own-region : own_region (f ∷ fs) < max_regions
   own-region = own-bound t ok i in_rows m.open_is
 
   pub own_value : value_in t i (f ∷ fs) + 2 < 65536
-  own_value = omega (arith, word_of t ok f.region i region_low in_rows)
+  own_value = omega (arith, word_at t ok m)
 
   opener-value : opener_value t (f ∷ fs) + 2 < 65536
   opener-value = omega (arith, word_of t ok (region_of fs) f.opener around-low (omega (arith, all_held.0.before, m.within)))
@@ -105,7 +102,7 @@ module _ (t : Table) (ok : Proper t) (n i : ℕ) (f : Open) (fs : List Open) (m 
 
       w : value t l.next.region l.it.opener + 2 < 65536
       w = omega
-          (arith, word_of t ok l.next.region l.it.opener (omega (arith, l.next_below, l.not_above, region_low)) (omega (arith, l.holds.before, in_rows)))
+          (arith, word_of t ok l.next.region l.it.opener (omega (arith, l.next_below, l.not_above, region-in t m)) (omega (arith, l.holds.before, in_rows)))
 
   -- ---- rows that test
   pub test_fits : (b : Bool) (p : Part) (k : Kind) → kind_at t i ≡ k → is_end_lem k ≡ false → line_count k ≡ 1 → shape_of k ≡ pushes p → (b ≡ true → has_else t i ≡ true)
