@@ -1,4 +1,4 @@
--- Small facts of tests and lists that every proof uses. Assumes nothing.
+-- Small facts of tests, and of two numbers in order, that every proof uses. Assumes nothing.
 use mathlib.Core.Path.{◌≡◌}
 use mathlib.Core.Bool.{Bool, true, false, cond, ◌&&◌, ◌||◌}
 use mathlib.Core.Logic.{◌⊎◌, inl, inr}
@@ -8,16 +8,18 @@ use Rattle.std.proofs.lemmas.Bool.{both_ways, and_parts, or_parts, cases_order, 
 pub use mathlib.Core.List.{append-nil}
 pub use Rattle.std.proofs.lemmas.Bool.{not-true, not-false}
 
--- a test cannot come out both ways
+-- a test cannot come out both ways: anything follows
 pub clash : {A : Type 0} {b : Bool} → b ≡ true → b ≡ false → A
 clash {A} {b} p q = absurd (both_ways b q p)
 
+-- std's `and_parts`, one side at a time: the goal then says which test
 pub and_left : (a b : Bool) → a && b ≡ true → a ≡ true
 and_left a b e = (and_parts a b e).0
 
 pub and_right : (a b : Bool) → a && b ≡ true → b ≡ true
 and_right a b e = (and_parts a b e).1
 
+-- std's facts, with the arguments that proofs of other crates give
 pub and-false : (a : Bool) {b : Bool} → b ≡ false → a && b ≡ false
 and-false a {b} e = Bool.and_right a b e
 
