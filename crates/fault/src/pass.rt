@@ -19,6 +19,14 @@ pub struct TableFault {
     pub row: usize,
 }
 
+impl From<TableFault> for Refusal {
+    ghost from_gives = { λ fault cause. cause ≡ fault.cause };
+
+    fn from(fault: TableFault) -> Refusal {
+        fault.cause
+    }
+}
+
 // The functions and the rows of the chain, and the first row of the table with which they are over 1,024.
 #[derive(Clone, Copy)]
 pub struct Counted {
