@@ -15,17 +15,6 @@ use rules::ending::Ending;
 use rules::limits::{FUNCTIONS, LINES};
 use state::machine::{Machine, at_line};
 
-fn copy(from: &[u16], to: &mut [u16])
-    requires { length from.now ≡ length to.old }
-    ensures { to.new ≡ from.now }
-{
-    let mut i = 0;
-    while i < from.len() {
-        to[i] = from[i];
-        i += 1;
-    }
-}
-
 // How the run ends that goes on at this line of the running function; where it stands there already, nothing is run.
 fn ending(
     lines: &[u8],
@@ -47,7 +36,7 @@ fn ending(
     if line == h.at {
         return Ending::Same;
     }
-    copy(counters, spare);
+    spare.copy_from_slice(counters);
     let landed = at_line(machine, line);
     pieces::ending(
         lines, starts, owners, home, landed, left, known, spare, rows,

@@ -1,6 +1,6 @@
 // How a run ends, beside a trace that is known. It is made in pieces by the loop of every other run, which records the dos of each piece in a
 // small buffer: so no trace is kept, and no test is added to that loop.
-ghost use Rattle.std.specs.Prelude.{◌≡◌, ◌&&◌, [], ◌≤◌, length};
+ghost use Rattle.std.specs.Prelude.{◌≡◌, [], length};
 ghost use Rattle.rules.specs.Strike.{None};
 ghost use Rattle.rules.specs.Line.{lines_in};
 ghost use Rattle.rules.specs.State.{retraced};
@@ -9,7 +9,7 @@ ghost use Rattle.rules.specs.Hardened.{Hardened, striking_step};
 ghost use Rattle.rules.specs.Sweep.{ending_of};
 ghost use Rattle.machine.specs.Step.{map_of};
 ghost use Rattle.machine.specs.Stands.{Ready};
-ghost use Rattle.compare.specs.Compared.{goes_on_lem, ended_by_lem, piece_steps, piece_of, Stood, Standing};
+ghost use Rattle.compare.specs.Compared.{goes_on_lem, ended_by_lem, piece_steps, Stood, Standing};
 
 use machine::run::run_lines;
 use rules::ending::Ending;
@@ -26,63 +26,25 @@ pub fn no_rows() -> [u16; PIECE]
     [0; PIECE]
 }
 
-// As many of the steps that are left as a piece has.
-fn piece_of(left: u16) -> u16
-    ensures { result ≡ piece_of left }
-{
-    if left < 1024 {
-        return left;
-    }
-    1024
-}
-
 // Whether the known trace goes on with these rows, from its row `at`.
 fn goes_on(rows: &[u16], known: &[u16], at: usize) -> bool
-    requires { (at ≤ 65535) × (length rows.now ≤ piece_steps) }
     ensures { result ≡ goes_on_lem rows.now known.now at }
 {
-    if known.len() < at + rows.len() {
-        return false;
-    }
-    let mut i = 0;
-    while i < rows.len() {
-        if rows[i] != known[at + i] {
-            return false;
-        }
-        i += 1;
-    }
-    true
-}
-
-fn both(a: bool, b: bool) -> bool
-    ensures { result ≡ a && b }
-{
-    if a {
-        return b;
-    }
-    false
-}
-
-fn finished(same: bool) -> Ending
-    ensures { result ≡ ended_by_lem 1 same }
-{
-    if same {
-        return Ending::Same;
-    }
-    Ending::Other
+    at <= known.len() && known[at..].starts_with(rows)
 }
 
 // What a run ended with, and whether its trace is the known one.
+#[tactic(auto, unfolding(crate::specs::Compared::ended_by_lem, rules::specs::Run::outcome_of_lem))]
 fn told(step: Step, same: bool) -> Ending
     ensures { result ≡ ended_by_lem (outcome_of_lem step) same }
 {
     match step {
-        Step::Went(_) => Ending::Unfinished,
-        Step::Finished => finished(same),
         Step::Alarm => Ending::Alarmed,
-        Step::TooManyOpen(_) => Ending::Unfinished,
-        Step::Beyond(_) => Ending::Unfinished,
-        Step::Overflow(_, _) => Ending::Unfinished,
+        Step::Finished if same => Ending::Same,
+        Step::Finished => Ending::Other,
+        Step::Went(_) | Step::TooManyOpen(_) | Step::Beyond(_) | Step::Overflow(_, _) => {
+            Ending::Unfinished
+        }
     }
 }
 
@@ -106,14 +68,14 @@ pub fn ending(
     let mut at = 0;
     let mut same = true;
     while 0 < left {
-        let n = piece_of(left);
+        let n = left.min(PIECE as u16);
         let x = run_lines(lines, starts, owners, home, m, n, counters, rows);
         let s = x.step;
         let traced = x.machine.registers.traced as usize;
-        same = both(same, goes_on(&rows[..traced], known, at));
+        same &= goes_on(&rows[..traced], known, at);
         at += traced;
         let Step::Went(_) = s else {
-            return told(s, both(same, at == known.len()));
+            return told(s, same & (at == known.len()));
         };
         m = afresh(x.machine);
         left -= n;

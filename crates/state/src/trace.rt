@@ -10,8 +10,8 @@ use rules::limits::VARIABLES;
 use rules::operands::Operands;
 use rules::step::Step;
 
-// Variable p gets x, the row goes into the next trace slot, and the run goes on at the next row or line. The registers are made field by
-// field, as in `standing`.
+// Variable p gets x, the row goes into the next trace slot, and the run goes on at the next row or line. The registers are made
+// anew, as in `standing`.
 fn put(
     p: u16,
     x: u16,
@@ -30,12 +30,9 @@ fn put(
     stay(
         Step::Went(at),
         Registers {
-            depth: h.depth,
-            function: h.function,
             at,
-            last: h.last,
-            steps: h.steps,
             traced: h.traced + 1,
+            ..h
         },
     )
 }
