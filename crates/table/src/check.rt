@@ -5,7 +5,6 @@ ghost use Rattle.rules.specs.Row.{row_width, table_of};
 ghost use Rattle.rules.specs.Scan.{function_count};
 ghost use Rattle.rules.specs.Check.{calls_verdict};
 ghost use Rattle.rules.specs.Links.{Checked};
-ghost use Rattle.rules.specs.Calls.{zeros};
 ghost use Rattle.rows.specs.First.{first_kind_lem};
 ghost use Rattle.table.specs.Checking.{stray_cause, OneOk, AllOk};
 
@@ -112,20 +111,6 @@ fn calls(rows: &[u8], count: usize) -> Result<(), Refusal>
         at = at + 1;
     }
     Ok(())
-}
-
-// A word for each row, for its links.
-pub fn row_words() -> [u16; ROWS]
-    ensures { result ≡ zeros max_rows }
-{
-    [0; ROWS]
-}
-
-// A word for each function, for its row.
-pub fn function_words() -> [u16; FUNCTIONS]
-    ensures { result ≡ zeros max_functions }
-{
-    [0; FUNCTIONS]
 }
 
 // The verdict of the bytes as a source table, and where it is accepted its links.
