@@ -86,6 +86,7 @@ fn functions(
     requires ends_len { (length ends.old ≡ max_rows) × (length elses.old ≡ max_rows) × (length heads.old ≡ max_functions) }
     ensures { AllOk rows.now ends.new elses.new heads.new result }
 {
+    // Kept as a `while`: a function is as many rows long as `function` tells, so no iterator's step is known before.
     let mut at = 0;
     let mut count = 0;
     while WIDTH * at + LAST < rows.len() {
@@ -102,13 +103,11 @@ fn calls(rows: &[u8], count: usize) -> Result<(), Refusal>
     requires { count ≡ function_count (table_of rows.now) }
     ensures { result ≡ calls_verdict (table_of rows.now) (length (table_of rows.now)) }
 {
-    let mut at = 0;
-    while WIDTH * at + LAST < rows.len() {
+    for at in 0..rows.len() / WIDTH {
         let from = WIDTH * at;
         if calls_beyond(&rows[from..], count) {
             return Err(Refusal::NoSuchFunction);
         }
-        at = at + 1;
     }
     Ok(())
 }
