@@ -7,7 +7,8 @@ use crate::weights::{KINDS, REGION, VALUE};
 use rows::kind::FUNCTION;
 use rules::sums::Sums;
 
-// Lines, values and regions in one number, as in the weights: kept so, and no struct of three, so that one addition takes a row; the regions before the function that is open; the most of those before it.
+// Lines, values and regions in one number, as in the weights: kept so, and no struct of three, so that one addition takes a row. Then the
+// regions before the function that is open, and the most of those before it.
 #[derive(Clone, Copy)]
 pub struct Tally {
     pub all: u64,
