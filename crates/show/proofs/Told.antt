@@ -12,9 +12,8 @@ use Rattle.rules.specs.Links.{Checked}
 use Rattle.rules.specs.Match.{calls_in}
 use Rattle.rules.proofs.Accepted.{refused-not}
 use Rattle.rules.proofs.Switch.Plain.{plain-accepted}
-use Rattle.chain.specs.declared.Linked.{Linked}
-use Rattle.chain.specs.declared.Linked.TheVariants as linked
-use Rattle.chain.specs.Linked.{LinkedOk}
+use Rattle.std.specs.Prelude.{Ok, Err}
+use Rattle.chain.specs.Linked.{Linked, LinkedOk}
 use Rattle.chain.proofs.Links.{linked-refused, linked-chain}
 use Rattle.show.specs.Calls.{CallsTold}
 
@@ -32,10 +31,10 @@ pub told-own : {rows ends elses heads vs : List ℕ} {budget bytes calls : ℕ} 
 told-own {rows} w checked m e = told-chain (plain-accepted rows w (sym checked.verdict_is ∙ m)) e
 
 module _ {rows chain ends elses heads : List ℕ} {x : Linked} (ok : LinkedOk rows chain ends elses heads x) where
-  pub told-linked : {n budget bytes calls : ℕ} {vs : List ℕ} → x ≡ linked.Bytes n → calls ≡ calls_in (table_of (take n chain)) budget vs → CallsTold rows budget vs bytes calls
+  pub told-linked : {n budget bytes calls : ℕ} {vs : List ℕ} → x ≡ Ok n → calls ≡ calls_in (table_of (take n chain)) budget vs → CallsTold rows budget vs bytes calls
   told-linked m e = told-chain (linked-chain ok m).stands e
 
-  pub told-refused : {c : Refusal} {budget : ℕ} {vs : List ℕ} → x ≡ linked.Refused c → CallsTold rows budget vs 0 0
+  pub told-refused : {c : Refusal} {budget : ℕ} {vs : List ℕ} → x ≡ Err c → CallsTold rows budget vs 0 0
   told-refused m =
       record {
         accepted = λ a. refused-not (sym (linked-refused ok m) ∙ a);

@@ -12,7 +12,7 @@ ghost use Rattle.source.specs.Run.{parts_in, stopped_with, Going};
 ghost use Rattle.show.specs.Calls.{call_at, WalkedTo, CallsTold, spent_at};
 
 use crate::{limit, row_text};
-use chain::{Linked, SIZE, link};
+use chain::{SIZE, link};
 use layout::row;
 use rows::kind::is_call;
 use rules::limits::{FUNCTIONS, ROWS, VARIABLES};
@@ -172,8 +172,8 @@ fn tell_switched(
 {
     let mut chain = [0u8; SIZE];
     match link(rows, &mut chain, ends, elses, heads) {
-        Linked::Refused(_) => Told { at: 0, calls: 0 },
-        Linked::Bytes(n) => {
+        Err(_) => Told { at: 0, calls: 0 },
+        Ok(n) => {
             tell_accepted(
                 rt,
                 &chain[..n],
