@@ -16,15 +16,16 @@ mod answer;
 use command::arguments::{Asked, Given};
 use command::{arguments, wrong};
 use console::input::Read;
+use console::page::Page;
 use console::{input, output, start};
 use rules::answer::Ran;
 use rules::limits::{COUNTERS, NO_STEP, VARIABLES};
 use rules::strike::strike_by;
-use show::source_steps::Told;
 use show::{hardened_steps, source_steps};
 use slip::amount::Amount;
 use slip::find;
 use std::env::Env;
+use std::fmt;
 
 // Slots for the longest trace.
 fn slots() -> [u16; 65535] {
@@ -99,12 +100,14 @@ fn take(rt: &(impl Input + Print), hardened: bool, chunk: &mut [u8], bytes: &mut
 }
 
 fn run_table(rt: &impl Print, a: Asked, table: &[u8], variables: [u16; VARIABLES]) {
-    let mut text = io::large_buffer();
+    let mut page = Page::new(rt);
     let mut trace = slots();
-    let told = list_steps(rt, a, table, variables, &mut trace, &mut text);
+    let calls = list_steps(a, table, variables, &mut trace, &mut page);
     let amount = amount(a, table, variables, &mut trace);
     let r = ran(a, table, variables, &mut trace);
-    answer::tell(rt, r, a, told, amount, &trace, &mut text);
+    // Where output is lost the page says so.
+    let _ = answer::tell(r, a, calls, amount, &trace, &mut page);
+    page.flush();
 }
 
 // What a jump amounts to, told before the run: it overwrites the slots.
@@ -115,38 +118,22 @@ fn amount(a: Asked, table: &[u8], variables: [u16; VARIABLES], trace: &mut [u16;
     Amount::NotSmall
 }
 
-// A source run is always walked, since that counts its calls.
-fn list_steps(
-    rt: &impl Print,
+// With the word `show`. A source run is always walked, since that counts its calls.
+fn list_steps<W: fmt::Write>(
     a: Asked,
     table: &[u8],
     variables: [u16; VARIABLES],
     trace: &mut [u16; 65535],
-    text: &mut [u8; 65536],
-) -> Told {
-    if a.hardened {
-        return Told {
-            at: list_lines(rt, a, table, variables, trace, text),
-            calls: 0,
-        };
+    page: &mut W,
+) -> Option<u16> {
+    if !a.hardened {
+        return Some(source_steps::tell(table, variables, a.budget, a.show, trace, page));
     }
-    source_steps::tell(rt, table, variables, a.budget, a.show, trace, text)
-}
-
-// With the word `show`: how many bytes the buffer then holds.
-fn list_lines(
-    rt: &impl Print,
-    a: Asked,
-    table: &[u8],
-    variables: [u16; VARIABLES],
-    trace: &mut [u16; 65535],
-    text: &mut [u8; 65536],
-) -> usize {
-    if !a.show {
-        return 0;
+    if a.show {
+        let strike = strike_by(a.step, a.place);
+        hardened_steps::list(table, variables, a.budget, strike, trace, page);
     }
-    let strike = strike_by(a.step, a.place);
-    hardened_steps::list(rt, table, variables, a.budget, strike, trace, text)
+    None
 }
 
 fn ran(a: Asked, table: &[u8], variables: [u16; VARIABLES], trace: &mut [u16; 65535]) -> Ran {

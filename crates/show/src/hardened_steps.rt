@@ -17,11 +17,12 @@ use rules::limits::{COUNTERS, FUNCTIONS, LINES, VARIABLES};
 use rules::step::Step;
 use rules::strike::Strike;
 use state::machine::{Machine, Stopped, begun};
+use std::fmt;
 use strike::struck::land;
 
-// What comes next is listed, and then made: the jump that is due, with no step after it, or one step.
-fn turn(
-    rt: &impl Print,
+// What comes next is listed, and then made: the jump that is due, with no step after it, or one step. The run goes on where it can't be
+// listed: what is lost the page knows.
+fn turn<W: fmt::Write>(
     lines: &[u8],
     starts: &[u16; FUNCTIONS + 1],
     owners: &[u8; LINES + 1],
@@ -30,26 +31,24 @@ fn turn(
     strike: Strike,
     counters: &mut [u16],
     trace: &mut [u16],
-    at: &mut usize,
-    text: &mut [u8; 65536],
+    page: &mut W,
 ) -> Stopped
     requires { (Ready lines.now (map_of starts.now owners.now home)) × (Going (lines_in lines.now) 1 (parts_in machine counters.old trace.old)) }
     ensures { stopped_with result counters.new trace.new ≡ turn_of lines.now (map_of starts.now owners.now home) strike (parts_in machine counters.old trace.old) }
 {
     if due::is_due(strike) {
         let place = due::place_of(strike);
-        *at = line_text::list_jump(rt, place, *at, text);
+        let _ = line_text::list_jump(place, page);
         return land(
             lines, starts, owners, home, machine, 0, place, counters, trace,
         );
     }
     let h = machine.registers;
-    *at = line_text::list(rt, lines, starts, h, counters, *at, text);
+    let _ = line_text::list(lines, starts, h, counters, page);
     run::step(lines, starts, owners, home, machine, counters, trace)
 }
 
-fn walk(
-    rt: &impl Print,
+fn walk<W: fmt::Write>(
     lines: &[u8],
     starts: &[u16; FUNCTIONS + 1],
     owners: &[u8; LINES + 1],
@@ -59,8 +58,7 @@ fn walk(
     strike: Strike,
     counters: &mut [u16],
     trace: &mut [u16],
-    at: &mut usize,
-    text: &mut [u8; 65536],
+    page: &mut W,
 ) -> Stopped
     requires { (Ready lines.now (map_of starts.now owners.now home)) × (Going (lines_in lines.now) budget (parts_in start counters.old trace.old)) }
     ensures { stopped_with result counters.new trace.new ≡ struck_of lines.now (map_of starts.now owners.now home) budget strike (parts_in start counters.old trace.old) }
@@ -69,9 +67,7 @@ fn walk(
     let mut left = budget;
     let mut rest = strike;
     while 0 < left {
-        let x = turn(
-            rt, lines, starts, owners, home, m, rest, counters, trace, at, text,
-        );
+        let x = turn(lines, starts, owners, home, m, rest, counters, trace, page);
         let s = x.step;
         let Step::Went(_) = s else {
             return x;
@@ -93,16 +89,15 @@ fn no_counters() -> [u16; COUNTERS]
     [0; COUNTERS]
 }
 
-// The steps of a hardened table's run, and how many bytes the buffer then holds. What it leaves in the trace is not looked at afterwards.
-fn list_accepted(
-    rt: &impl Print,
+// The steps of a hardened table's run. What it leaves in the trace is not looked at afterwards.
+fn list_accepted<W: fmt::Write>(
     lines: &[u8],
     variables: [u16; VARIABLES],
     budget: u16,
     strike: Strike,
     trace: &mut [u16],
-    text: &mut [u8; 65536],
-) -> usize
+    page: &mut W,
+)
     requires lines_value { is_hardened_lem lines.now ≡ true }
     requires budget_in_bounds { budget ≤ length trace.old }
 {
@@ -112,9 +107,7 @@ fn list_accepted(
     map::survey(lines, &mut starts, &mut owners);
     let home = map::home_of(lines, &starts, &owners);
     counters::fresh(&mut counters, 0, 1);
-    let mut at = 0;
     let x = walk(
-        rt,
         lines,
         &starts,
         &owners,
@@ -124,27 +117,24 @@ fn list_accepted(
         strike,
         &mut counters,
         trace,
-        &mut at,
-        text,
+        page,
     );
     let s = x.step;
-    limit::list(rt, s, at, text)
+    let _ = limit::list(s, page);
 }
 
 // Nothing is listed where the lines are no hardened table.
-pub fn list(
-    rt: &impl Print,
+pub fn list<W: fmt::Write>(
     lines: &[u8],
     variables: [u16; VARIABLES],
     budget: u16,
     strike: Strike,
     trace: &mut [u16],
-    text: &mut [u8; 65536],
-) -> usize
+    page: &mut W,
+)
     requires { budget ≤ length trace.old }
 {
     if reader::is_hardened(lines) {
-        return list_accepted(rt, lines, variables, budget, strike, trace, text);
+        list_accepted(lines, variables, budget, strike, trace, page);
     }
-    0
 }

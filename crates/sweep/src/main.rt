@@ -19,9 +19,11 @@ mod map;
 use command::sweep_words::{SweepAsked, SweepGiven};
 use command::{sweep_words, wrong};
 use console::input::Read;
+use console::page::Page;
 use console::{input, output, start};
 use rules::limits::{COUNTERS, VARIABLES};
 use std::env::Env;
+use std::fmt::Write;
 
 // Slots for the longest trace.
 fn slots() -> [u16; 65535] {
@@ -82,22 +84,15 @@ fn take_lines(
 }
 
 fn sweep(rt: &impl Print, a: SweepAsked, lines: &[u8], variables: [u16; VARIABLES]) {
-    let mut text = io::large_buffer();
+    let mut page = Page::new(rt);
     let mut trace = slots();
     let mut counters = [0u16; COUNTERS];
     let r = finuraho::sweep(lines, variables, a.budget, &mut trace, &mut counters);
-    if r.number != 0 {
-        output::refused(rt, r.number, &mut text);
-        return;
-    }
-    answer::answer(
-        rt,
-        a,
-        r,
-        lines,
-        variables,
-        &mut trace,
-        &mut counters,
-        &mut text,
-    );
+    // Where output is lost the page says so.
+    let _ = if r.number != 0 {
+        writeln!(page, "refused {}", r.number)
+    } else {
+        answer::answer(a, r, lines, variables, &mut trace, &mut counters, &mut page)
+    };
+    page.flush();
 }
