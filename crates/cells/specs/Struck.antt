@@ -10,6 +10,8 @@ use Rattle.state.specs.declared.machine.Machine.{Machine}
 use Rattle.places.specs.Places.{DosIn, ending_at}
 use Rattle.compare.specs.Compared.{Stood, ends_at}
 use Rattle.sweeper.specs.Steps.{first_of, last_of}
+use Rattle.cells.specs.declared.rank.Rank.{Rank}
+use Rattle.cells.specs.declared.rank.Rank.TheVariants.{Never}
 use Rattle.cells.specs.Worst.{rank}
 
 -- a place of a function that there is
@@ -35,7 +37,7 @@ ends_there_lem bs ss m known left y s =
 pub record EndingIs (lines starts : List ℕ) (m : Machine) (words known : List ℕ) (left line : ℕ) (r : Ending) : Type 0 where
   pub is : (s : Hardened) → Stood (lines_in lines) m words s → r ≡ ends_there_lem lines starts m known left line s
 
--- how bad it is to be struck to place p of function f; 0 where another function runs
-pub record StruckIs (lines starts : List ℕ) (m : Machine) (words known : List ℕ) (left f p r : ℕ) : Type 0 where
+-- how bad it is to be struck to place p of function f; never struck where another function runs
+pub record StruckIs (lines starts : List ℕ) (m : Machine) (words known : List ℕ) (left f p : ℕ) (r : Rank) : Type 0 where
   pub is : (s : Hardened) → Stood (lines_in lines) m words s
-      → r ≡ cond (eqb m.registers.function f) (rank (ends_there_lem lines starts m known left (first_of starts m.registers + p) s)) 0
+      → r ≡ cond (eqb m.registers.function f) (rank (ends_there_lem lines starts m known left (first_of starts m.registers + p) s)) Never

@@ -1,9 +1,8 @@
 // A column of the map: every strike to one place of a function, by the line that it goes out of.
 ghost use Rattle.std.specs.Prelude.{◌≡◌, true, length};
-ghost use Rattle.rules.specs.Limits.{counter_words, max_lines};
+ghost use Rattle.rules.specs.Limits.{counter_words};
 ghost use Rattle.rules.specs.Line.{lines_in};
 ghost use Rattle.rules.specs.ReadBack.{is_hardened_lem};
-ghost use Rattle.rules.specs.Calls.{zeros};
 ghost use Rattle.machine.specs.Step.{map_of};
 ghost use Rattle.machine.specs.Stands.{Ready};
 ghost use Rattle.compare.specs.Compared.{piece_steps};
@@ -11,19 +10,13 @@ ghost use Rattle.sweeper.specs.Steps.{Finishes};
 ghost use Rattle.cells.specs.Worst.{ColumnIs};
 ghost use Rattle.cells.specs.Struck.{PlaceOf};
 
-use crate::{rank, struck};
+use crate::rank::Rank;
+use crate::struck;
 use guard::counters::fresh;
 use machine::run;
 use rules::limits::{FUNCTIONS, LINES, VARIABLES};
 use rules::step::Step;
 use state::machine::{afresh, begun};
-
-// No strike is noted yet.
-fn no_cells() -> [u8; LINES]
-    ensures { result ≡ zeros max_lines }
-{
-    [rank::NEVER; LINES]
-}
 
 // The cells by line, one for each line of the table: the unstruck run is walked, and each of its steps struck.
 pub fn cells(
@@ -39,12 +32,12 @@ pub fn cells(
     counters: &mut [u16],
     spare: &mut [u16],
     rows: &mut [u16],
-) -> [u8; LINES]
+) -> [Rank; LINES]
     requires { (Ready lines.now (map_of starts.now owners.now home)) × (is_hardened_lem lines.now ≡ true) × (Finishes (lines_in lines.now) variables budget trace.now) × (PlaceOf (lines_in lines.now) function place) × (length counters.old ≡ counter_words) × (length spare.old ≡ counter_words) × (length rows.old ≡ piece_steps) }
     ensures { ColumnIs (lines_in lines.now) variables budget function place result }
 {
     fresh(counters, 0, 1);
-    let mut column = no_cells();
+    let mut column = [Rank::Never; LINES];
     let mut m = begun(0, variables);
     let mut at = 0;
     let mut left = budget;
@@ -64,7 +57,7 @@ pub fn cells(
             rows,
         );
         let y = m.registers.at as usize;
-        column[y] = rank::worse(column[y], r);
+        column[y] = column[y].worse(r);
         let x = run::step(lines, starts, owners, home, m, counters, rows);
         let s = x.step;
         let Step::Went(_) = s else {

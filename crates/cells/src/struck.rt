@@ -10,7 +10,7 @@ ghost use Rattle.compare.specs.Compared.{piece_steps, Standing};
 ghost use Rattle.sweeper.specs.Steps.{last_of};
 ghost use Rattle.cells.specs.Struck.{PlaceOf, InLines, EndingIs, StruckIs};
 
-use crate::rank;
+use crate::rank::Rank;
 use compare::narrow;
 use places::across::line_across;
 use places::wide;
@@ -82,18 +82,18 @@ pub fn rank_of(
     counters: &[u16],
     spare: &mut [u16],
     rows: &mut [u16],
-) -> u8
+) -> Rank
     requires { (Ready lines.now (map_of starts.now owners.now home)) × (Standing (lines_in lines.now) machine counters.now) × (StandsBefore (lines_in lines.now) machine.registers.function machine.registers.at) × (PlaceOf (lines_in lines.now) function place) × (length spare.old ≡ counter_words) × (length rows.old ≡ piece_steps) }
     ensures { StruckIs lines.now starts.now machine counters.now known.now left function place result }
 {
     let h = machine.registers;
     if h.function != function {
-        return rank::NEVER;
+        return Rank::Never;
     }
     let f = function as usize;
     let line = starts[f] + place;
     let e = ending(
         lines, starts, owners, home, machine, line, left, known, counters, spare, rows,
     );
-    rank::of_ending(e)
+    Rank::from(e)
 }

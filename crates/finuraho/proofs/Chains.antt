@@ -5,8 +5,7 @@ use Prim.Native.Nat.{ℕ, ◌/◌}
 use lib.ListN.{length}
 use Rattle.rules.specs.declared.answer.Fault.{Fault}
 use Rattle.rules.specs.declared.refusal.Refusal.{Refusal}
-use Rattle.rules.specs.declared.refusal.Verdict.{Verdict}
-use Rattle.rules.specs.declared.refusal.Verdict.TheVariants.{Accepted}
+use Rattle.rules.specs.Verdict.{Verdict, Accepted}
 use Rattle.rules.specs.Bytes.{AreBytes}
 use Rattle.rules.specs.Row.{row_width}
 use Rattle.rules.specs.Refusal.{number_of, refusal_number}

@@ -14,7 +14,7 @@ use borrow.Author.Tests.{eqb-true, eqb-false}
 use mir.Val.{Fits}
 use mir.Syntax.{w16}
 use Rattle.rules.specs.declared.kind.Kind.{Kind}
-use Rattle.rules.specs.declared.refusal.Verdict.TheVariants.{Accepted}
+use Rattle.rules.specs.Verdict.{Accepted}
 use Rattle.rules.specs.Row.{table_of, kind_at}
 use Rattle.rules.specs.Scan.{Open, open_at, regions, region_of}
 use Rattle.rules.specs.Value.{takes_in, taken, base, value}

@@ -8,7 +8,7 @@ use native.Mathlib.Nat.{add-zero, not-suc-le-zero, eq-or-lt_of_le}
 use native.Mathlib.Omega.{arith}
 use lib.ListN.{length, get_or, set, length-set}
 use lib.Seq.{get_or-set_same, get_or-set_other, sets}
-use Rattle.rules.specs.declared.refusal.Verdict.TheVariants.{Accepted}
+use Rattle.rules.specs.Verdict.{Accepted}
 use Rattle.rules.specs.Row.{Table, table_of}
 use Rattle.rules.specs.Scan.{Open, open_at, regions, region_of, opener_of, is_loop_body, from_loop}
 use Rattle.rules.specs.Check.{verdict_of}

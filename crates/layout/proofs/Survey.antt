@@ -9,7 +9,7 @@ use native.Mathlib.Omega.{arith}
 use lib.ListN.{length}
 use Rattle.rules.specs.declared.kind.Kind.{Kind}
 use Rattle.rules.specs.declared.kind.Kind.TheVariants.{Function, Do, If, Else, Loop, End, Break, Continue, Call, Unknown}
-use Rattle.rules.specs.declared.refusal.Verdict.TheVariants.{Accepted}
+use Rattle.rules.specs.Verdict.{Accepted}
 use Rattle.rules.specs.Row.{Table, table_of, kind_at}
 use Rattle.rules.specs.Scan.{Part, then_part, Open, stays, turns, shape_of, regions_after, open_after_lem, open_at, regions, body_region, opener_of, from_loop}
 use Rattle.rules.specs.Check.{is_outside, is_then, misplaced_in, verdict_of}

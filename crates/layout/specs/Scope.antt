@@ -1,7 +1,7 @@
 -- Where each row stands: what the rows before it have opened, in six words, and the map of these words.
 use Rattle.std.specs.Prelude.{ℕ, suc, ◌+◌, ◌*◌, ◌/◌, ◌≤◌, ◌<◌, ◌≡◌, List, [], ◌∷◌, length, get_or}
 use Rattle.std.proofs.lemmas.List.Edits.{sets}
-use Rattle.rules.specs.declared.refusal.Verdict.TheVariants.{Accepted}
+use Rattle.rules.specs.Verdict.{Accepted}
 use Rattle.rules.specs.Row.{Table, table_of}
 use Rattle.rules.specs.Scan.{Open, open_at, regions, region_of, body_region, opener_of, from_loop}
 use Rattle.rules.specs.Check.{verdict_of}

@@ -4,7 +4,7 @@
 ghost use Rattle.std.specs.Prelude.{◌≡◌, ◌≤◌, length};
 ghost use Rattle.layout.specs.Scope.{map_words};
 ghost use Rattle.rules.specs.Limits.{max_rows};
-ghost use Rattle.rules.specs.declared.refusal.Verdict.TheVariants.{Accepted};
+ghost use Rattle.rules.specs.Verdict.{Accepted};
 ghost use Rattle.rules.specs.Check.{verdict_of};
 ghost use Rattle.layout.specs.Layout.{Laid};
 ghost use Rattle.layout.specs.Number.{Spent};

@@ -1,7 +1,7 @@
 // Values: what each row takes, the bases of the regions, and each row's value.
 ghost use Rattle.std.specs.Prelude.{◌≡◌, ℕ, ◌/◌, ◌≤◌, ◌<◌, length};
 ghost use Rattle.rules.specs.Limits.{max_rows};
-ghost use Rattle.rules.specs.declared.refusal.Verdict.TheVariants.{Accepted};
+ghost use Rattle.rules.specs.Verdict.{Accepted};
 ghost use Rattle.rules.specs.Row.{table_of};
 ghost use Rattle.rules.specs.Check.{verdict_of};
 ghost use Rattle.layout.specs.Scope.{map_words, Stands, Surveyed};

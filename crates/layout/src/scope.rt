@@ -1,7 +1,7 @@
 // Where a row stands: what the rows before it have opened. The map has six words for each row and for the end of the table.
 ghost use Rattle.std.specs.Prelude.{◌≡◌, suc, ◌+◌, ◌*◌, ◌/◌, ◌≤◌, ◌<◌, length};
 ghost use Rattle.rules.specs.Limits.{max_rows, max_lines};
-ghost use Rattle.rules.specs.declared.refusal.Verdict.TheVariants.{Accepted};
+ghost use Rattle.rules.specs.Verdict.{Accepted};
 ghost use Rattle.rules.specs.Row.{table_of};
 ghost use Rattle.rules.specs.Check.{verdict_of};
 ghost use Rattle.layout.specs.Scope.{map_words, scope_at, put_scope, scope_of, outermost, passed, entered, forked, looped, turned, closed, Mapped, Stands, Surveyed};

@@ -26,20 +26,6 @@ fn pass(lines: &[u8], line: u16, function: u8, starts: &mut [u16; FUNCTIONS + 1]
     next
 }
 
-// A word for the first line of each function.
-pub fn no_starts() -> [u16; FUNCTIONS + 1]
-    ensures { length result ≡ max_functions + 1 }
-{
-    [0; FUNCTIONS + 1]
-}
-
-// A byte for the function of each line.
-pub fn no_owners() -> [u8; LINES + 1]
-    ensures { length result ≡ max_lines + 1 }
-{
-    [0; LINES + 1]
-}
-
 pub fn survey(lines: &[u8], starts: &mut [u16; FUNCTIONS + 1], owners: &mut [u8; LINES + 1])
     requires { (Sound (lines_in lines.now)) × (length starts.old ≡ max_functions + 1) × (length owners.old ≡ max_lines + 1) }
     ensures { Located (lines_in lines.now) starts.new owners.new }

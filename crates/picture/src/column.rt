@@ -5,7 +5,7 @@ ghost use Rattle.rules.specs.Line.{line_width};
 
 use crate::label;
 use crate::runs::{Drawn, Run, piece};
-use cells::rank;
+use cells::rank::Rank;
 use line::read;
 use std::fmt;
 
@@ -21,7 +21,7 @@ fn close<W: fmt::Write>(page: &mut W) -> fmt::Result {
 }
 
 // The places where the run stood: every strike out of them to a wide place is an alarm, but for those that are drawn over it.
-pub fn stood<W: fmt::Write>(cells: &[u8], width: u16, page: &mut W) -> fmt::Result {
+pub fn stood<W: fmt::Write>(cells: &[Rank], width: u16, page: &mut W) -> fmt::Result {
     open('a', page)?;
     for run in Drawn::Struck.runs(cells) {
         piece(0, width, run, page)?;
@@ -32,8 +32,8 @@ pub fn stood<W: fmt::Write>(cells: &[u8], width: u16, page: &mut W) -> fmt::Resu
 // The cells of one rank, where there are any.
 fn path<W: fmt::Write>(
     class: char,
-    r: u8,
-    cells: &[u8],
+    r: Rank,
+    cells: &[Rank],
     place: u16,
     most: usize,
     page: &mut W,
@@ -49,8 +49,8 @@ fn path<W: fmt::Write>(
 }
 
 // From the first run that is not drawn one by one to the last.
-fn behind_few(cells: &[u8]) -> Option<Run> {
-    let mut behind = Drawn::Of(rank::UNFINISHED).runs(cells).skip(FEW);
+fn behind_few(cells: &[Rank]) -> Option<Run> {
+    let mut behind = Drawn::Of(Rank::Unfinished).runs(cells).skip(FEW);
     let first = behind.next()?;
     let last = behind.last().unwrap_or(first);
     Some(Run {
@@ -60,8 +60,8 @@ fn behind_few(cells: &[u8]) -> Option<Run> {
 }
 
 // Eight runs at most, so that the picture stays small: all behind them is one piece of another class. Whether there are any.
-fn unfinished<W: fmt::Write>(cells: &[u8], place: u16, page: &mut W) -> Result<bool, fmt::Error> {
-    path('u', rank::UNFINISHED, cells, place, FEW, page)?;
+fn unfinished<W: fmt::Write>(cells: &[Rank], place: u16, page: &mut W) -> Result<bool, fmt::Error> {
+    path('u', Rank::Unfinished, cells, place, FEW, page)?;
     let Some(behind) = behind_few(cells) else {
         return Ok(false);
     };
@@ -76,7 +76,7 @@ fn labels<W: fmt::Write>(
     lines: &[u8],
     first: u16,
     place: u16,
-    cells: &[u8],
+    cells: &[Rank],
     page: &mut W,
 ) -> fmt::Result
     requires { (first + length cells.now ≤ max_lines) × (line_width * (first + length cells.now) ≤ length lines.now) }
@@ -95,14 +95,14 @@ pub fn draw<W: fmt::Write>(
     lines: &[u8],
     first: u16,
     place: u16,
-    cells: &[u8],
+    cells: &[Rank],
     page: &mut W,
 ) -> Result<bool, fmt::Error>
     requires { (first + length cells.now ≤ max_lines) × (line_width * (first + length cells.now) ≤ length lines.now) }
 {
     let mixed = unfinished(cells, place, page)?;
-    path('s', rank::SAME, cells, place, usize::MAX, page)?;
-    path('o', rank::OTHER, cells, place, usize::MAX, page)?;
+    path('s', Rank::Same, cells, place, usize::MAX, page)?;
+    path('o', Rank::Other, cells, place, usize::MAX, page)?;
     labels(lines, first, place, cells, page)?;
     label::number(place, page)?;
     Ok(mixed)

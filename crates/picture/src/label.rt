@@ -2,7 +2,7 @@
 ghost use Rattle.std.specs.Prelude.{◌+◌, ◌*◌, ◌≤◌, ◌<◌, length};
 ghost use Rattle.rules.specs.Line.{line_width};
 
-use cells::rank;
+use cells::rank::Rank;
 use line::kind::LineKind;
 use line::read;
 use std::fmt;
@@ -30,11 +30,11 @@ pub fn line<W: fmt::Write>(place: u16, kind: LineKind, page: &mut W) -> fmt::Res
 }
 
 // The label's class, by what became of the jump.
-fn class(r: u8) -> &'static str {
+fn class(r: Rank) -> &'static str {
     match r {
-        rank::OTHER => "mo",
-        rank::UNFINISHED => "mu",
-        _ => "ms",
+        Rank::Other => "mo",
+        Rank::Unfinished => "mu",
+        Rank::Never | Rank::Alarmed | Rank::Same => "ms",
     }
 }
 
@@ -43,14 +43,14 @@ fn crossed<W: fmt::Write>(
     lines: &[u8],
     line: u16,
     words: &str,
-    cells: &[u8],
+    cells: &[Rank],
     y: usize,
     page: &mut W,
 ) -> fmt::Result
     requires { line_width * line + line_width ≤ length lines.now }
 {
-    let r = cells.get(y).copied().unwrap_or(rank::NEVER);
-    if r == rank::NEVER {
+    let r = cells.get(y).copied().unwrap_or(Rank::Never);
+    if r == Rank::Never {
         return Ok(());
     }
     let row = read::line_at(lines, line).e;
@@ -68,7 +68,7 @@ pub fn narrow<W: fmt::Write>(
     first: u16,
     place: u16,
     kind: LineKind,
-    cells: &[u8],
+    cells: &[Rank],
     page: &mut W,
 ) -> fmt::Result
     requires { (first + place < 65535) × (line_width * (first + place) + line_width ≤ length lines.now) }

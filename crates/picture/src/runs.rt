@@ -2,7 +2,7 @@
 ghost use Rattle.std.specs.Prelude.{◌-◌, ◌≤◌, length};
 ghost use Rattle.std.specs.Iterator.{at_most};
 
-use cells::rank;
+use cells::rank::Rank;
 use std::fmt;
 
 // Which cells are drawn.
@@ -10,19 +10,19 @@ use std::fmt;
 pub enum Drawn {
     // Any cell but one that was never struck.
     Struck,
-    Of(u8),
+    Of(Rank),
 }
 
 impl Drawn {
-    fn has(self, cell: u8) -> bool {
+    fn has(self, cell: Rank) -> bool {
         match self {
-            Drawn::Struck => cell != rank::NEVER,
+            Drawn::Struck => cell != Rank::Never,
             Drawn::Of(r) => cell == r,
         }
     }
 
     // The runs of such cells, from the first on.
-    pub fn runs(self, cells: &[u8]) -> Runs<'_> {
+    pub fn runs(self, cells: &[Rank]) -> Runs<'_> {
         Runs {
             drawn: self,
             cells,
@@ -42,7 +42,7 @@ pub struct Run {
 #[derive(Drop)]
 pub struct Runs<'a> {
     drawn: Drawn,
-    cells: &'a [u8],
+    cells: &'a [Rank],
     at: usize,
     ghost at_in: { at ≤ length cells.now },
 }

@@ -5,7 +5,6 @@ ghost use Rattle.rules.specs.Refusal.{is_accepted};
 ghost use Rattle.rules.specs.Check.{verdict_of};
 ghost use Rattle.rules.specs.Harden.{hardened_bytes};
 
-use rules::refusal::Verdict;
 use table::check;
 
 pub fn hardens_to(rows: &[u8], lines: &[u8]) -> bool
@@ -15,7 +14,7 @@ pub fn hardens_to(rows: &[u8], lines: &[u8]) -> bool
     let mut elses = check::row_words();
     let mut heads = check::function_words();
     match check::check(rows, &mut ends, &mut elses, &mut heads) {
-        Verdict::Refused(_) => false,
-        Verdict::Accepted => hardener::hardens_to_lines(rows, &ends, &elses, &heads, lines),
+        Err(_) => false,
+        Ok(()) => hardener::hardens_to_lines(rows, &ends, &elses, &heads, lines),
     }
 }

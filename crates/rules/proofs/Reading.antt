@@ -11,7 +11,7 @@ use borrow.Author.Tests.{eqb-true, ltb-true}
 use Rattle.rules.specs.declared.operands.Operands.{Operands}
 use Rattle.rules.specs.declared.kind.Kind.{Kind}
 use Rattle.rules.specs.declared.kind.Kind.TheVariants.{Function, Do, If, Else, Loop, End, Break, Continue, Call, Unknown}
-use Rattle.rules.specs.declared.refusal.Verdict.TheVariants.{Accepted}
+use Rattle.rules.specs.Verdict.{Accepted}
 use Rattle.rules.specs.Bytes.{AreBytes, word_at, same}
 use Rattle.rules.specs.Row.{Row, Table, kind_byte, row_bytes, table_bytes, table_of, kind_at, operands_at, is_variable, uses_none_lem, uses_number_lem, uses_variable_lem, uses_function_lem, fields_fit_lem}
 use Rattle.rules.specs.Scan.{Open, open_at, has_else, is_function_lem, functions}
@@ -21,7 +21,8 @@ use Rattle.rules.specs.Line.{Line, do_line, tick_line, test_line, leave_line, ou
 use Rattle.rules.specs.Harden.{line_count, line_of, test_of, row_lines, harden, hardened_bytes}
 use Rattle.rules.specs.ReadBack.{unread, source_bytes, is_hardened_lem}
 use Rattle.rules.specs.Reading.{ReadsBack, Recognises, OneSource}
-use Rattle.rules.proofs.Logic.{and_left, and_right, and_both, clash}
+use Rattle.std.proofs.lemmas.Bool.{and_from}
+use Rattle.rules.proofs.Logic.{and_left, and_right, clash}
 use Rattle.rules.proofs.Accepted.{Proper, accepted-is, proper-bytes, proper}
 use Rattle.rules.proofs.Harden.{line-at}
 use Rattle.rules.proofs.Function.{not-unknown, callee_known}
@@ -55,7 +56,7 @@ hardened-source lines h = (
 pub source-hardened : (rows lines : List ℕ) → source_bytes lines ≡ rows → verdict_of rows ≡ Accepted → hardened_bytes rows ≡ lines → is_hardened_lem lines ≡ true
 unfolding is_hardened_lem
 source-hardened rows lines s v h =
-    rw s (and_both (ap is_accepted v) (ap (λ x. same x lines) h ∙ same_refl lines))
+    rw s (and_from _ _ (ap is_accepted v) (ap (λ x. same x lines) h ∙ same_refl lines))
 
 -- ---- the numbers of a table's rows are those of its lines, and words there
 number_in : Line → ℕ

@@ -15,7 +15,6 @@ mod answer;
 
 use command::arguments::{Asked, Given};
 use command::{arguments, wrong};
-use console::input::Read;
 use console::page::Page;
 use console::{input, output, start};
 use rules::answer::Ran;
@@ -53,7 +52,7 @@ fn take_words(rt: &(impl Env + Input + Print)) {
     match arguments::read(rt, &mut buffer, &mut variables) {
         Given::Wrong(f) => {
             let expected = f.expected;
-            let n = output::within(f.length, &buffer);
+            let n = f.length.min(buffer.len());
             wrong::say(&mut buffer[..n], expected);
         }
         Given::Right(a) => {
@@ -80,17 +79,18 @@ fn run(
 )
     requires { 65536 ≡ length bytes.old }
 {
-    match take(rt, a.hardened, chunk, bytes) {
-        Read::Bytes(n) => {
-            let all = output::within(n, bytes);
-            run_table(rt, a, &bytes[..all], variables);
-        }
-        Read::Nothing => {}
+    if let Some(n) = take(rt, a.hardened, chunk, bytes) {
+        run_table(rt, a, output::front(n, bytes), variables);
     }
 }
 
 // The lines or the rows, as bytes.
-fn take(rt: &(impl Input + Print), hardened: bool, chunk: &mut [u8], bytes: &mut [u8]) -> Read
+fn take(
+    rt: &(impl Input + Print),
+    hardened: bool,
+    chunk: &mut [u8],
+    bytes: &mut [u8],
+) -> Option<usize>
     requires { 65536 ≡ length bytes.old }
 {
     if hardened {

@@ -1,7 +1,7 @@
 -- The calls of a source run that is made step by step.
 use Rattle.std.specs.Prelude.{ℕ, ◌≡◌, cond, List}
 use Rattle.rules.specs.declared.refusal.Refusal.{Refusal}
-use Rattle.rules.specs.declared.refusal.Verdict.TheVariants.{Accepted, Refused}
+use Rattle.rules.specs.Verdict.{Accepted, Refused}
 use Rattle.rules.specs.declared.step.Step.TheVariants.{Went}
 use Rattle.rules.specs.Row.{Table, table_of, kind_at}
 use Rattle.rules.specs.Check.{is_call}

@@ -1,21 +1,21 @@
 // A hardened run made step by step, each step listed before it is made. `walk` promises what `strike::struck::strike` does, so that what
 // is listed is the run.
 ghost use Rattle.std.specs.Prelude.{◌≡◌, true, ◌≤◌, length};
-ghost use Rattle.rules.specs.Limits.{counter_words};
 ghost use Rattle.rules.specs.Line.{lines_in};
 ghost use Rattle.rules.specs.ReadBack.{is_hardened_lem};
-ghost use Rattle.machine.specs.Step.{map_of};
+ghost use Rattle.machine.specs.Runnable.{map_in};
 ghost use Rattle.machine.specs.Run.{parts_in, stopped_with};
-ghost use Rattle.machine.specs.Stands.{Ready, Going};
+ghost use Rattle.machine.specs.Stands.{Going};
 ghost use Rattle.strike.specs.Struck.{struck_of};
 ghost use Rattle.show.specs.Due.{turn_of};
 
 use crate::{due, limit, line_text};
 use guard::counters;
-use machine::{map, run};
-use rules::limits::{COUNTERS, FUNCTIONS, LINES, VARIABLES};
+use machine::run;
+use machine::table::Runnable;
+use rules::limits::{COUNTERS, VARIABLES};
 use rules::step::Step;
-use rules::strike::Strike;
+use rules::strike::Jump;
 use state::machine::{Machine, Stopped, begun};
 use std::fmt;
 use strike::struck::land;
@@ -23,51 +23,43 @@ use strike::struck::land;
 // What comes next is listed, and then made: the jump that is due, with no step after it, or one step. The run goes on where it can't be
 // listed: what is lost the page knows.
 fn turn<W: fmt::Write>(
-    lines: &[u8],
-    starts: &[u16; FUNCTIONS + 1],
-    owners: &[u8; LINES + 1],
-    home: u16,
+    table: &Runnable,
     machine: Machine,
-    strike: Strike,
+    strike: Option<Jump>,
     counters: &mut [u16],
     trace: &mut [u16],
     page: &mut W,
 ) -> Stopped
-    requires { (Ready lines.now (map_of starts.now owners.now home)) × (Going (lines_in lines.now) 1 (parts_in machine counters.old trace.old)) }
-    ensures { stopped_with result counters.new trace.new ≡ turn_of lines.now (map_of starts.now owners.now home) strike (parts_in machine counters.old trace.old) }
+    requires { Going (lines_in table.now.lines.now) 1 (parts_in machine counters.old trace.old) }
+    ensures { stopped_with result counters.new trace.new ≡ turn_of table.now.lines.now (map_in table.now) strike (parts_in machine counters.old trace.old) }
 {
     if due::is_due(strike) {
         let place = due::place_of(strike);
         let _ = line_text::list_jump(place, page);
-        return land(
-            lines, starts, owners, home, machine, 0, place, counters, trace,
-        );
+        return land(table, machine, 0, place, counters, trace);
     }
     let h = machine.registers;
-    let _ = line_text::list(lines, starts, h, counters, page);
-    run::step(lines, starts, owners, home, machine, counters, trace)
+    let _ = line_text::list(table, h, counters, page);
+    run::step(table, machine, counters, trace)
 }
 
 fn walk<W: fmt::Write>(
-    lines: &[u8],
-    starts: &[u16; FUNCTIONS + 1],
-    owners: &[u8; LINES + 1],
-    home: u16,
+    table: &Runnable,
     start: Machine,
     budget: u16,
-    strike: Strike,
+    strike: Option<Jump>,
     counters: &mut [u16],
     trace: &mut [u16],
     page: &mut W,
 ) -> Stopped
-    requires { (Ready lines.now (map_of starts.now owners.now home)) × (Going (lines_in lines.now) budget (parts_in start counters.old trace.old)) }
-    ensures { stopped_with result counters.new trace.new ≡ struck_of lines.now (map_of starts.now owners.now home) budget strike (parts_in start counters.old trace.old) }
+    requires { Going (lines_in table.now.lines.now) budget (parts_in start counters.old trace.old) }
+    ensures { stopped_with result counters.new trace.new ≡ struck_of table.now.lines.now (map_in table.now) budget strike (parts_in start counters.old trace.old) }
 {
     let mut m = start;
     let mut left = budget;
     let mut rest = strike;
     while 0 < left {
-        let x = turn(lines, starts, owners, home, m, rest, counters, trace, page);
+        let x = turn(table, m, rest, counters, trace, page);
         let s = x.step;
         let Step::Went(_) = s else {
             return x;
@@ -83,42 +75,23 @@ fn walk<W: fmt::Write>(
     }
 }
 
-fn no_counters() -> [u16; COUNTERS]
-    ensures { length result ≡ counter_words }
-{
-    [0; COUNTERS]
-}
-
 // The steps of a hardened table's run. What it leaves in the trace is not looked at afterwards.
 fn list_accepted<W: fmt::Write>(
     lines: &[u8],
     variables: [u16; VARIABLES],
     budget: u16,
-    strike: Strike,
+    strike: Option<Jump>,
     trace: &mut [u16],
     page: &mut W,
 )
     requires lines_value { is_hardened_lem lines.now ≡ true }
     requires budget_in_bounds { budget ≤ length trace.old }
 {
-    let mut starts = map::no_starts();
-    let mut owners = map::no_owners();
-    let mut counters = no_counters();
-    map::survey(lines, &mut starts, &mut owners);
-    let home = map::home_of(lines, &starts, &owners);
+    let table = Runnable::of(lines);
+    let mut counters = [0u16; COUNTERS];
     counters::fresh(&mut counters, 0, 1);
-    let x = walk(
-        lines,
-        &starts,
-        &owners,
-        home,
-        begun(0, variables),
-        budget,
-        strike,
-        &mut counters,
-        trace,
-        page,
-    );
+    let start = begun(0, variables);
+    let x = walk(&table, start, budget, strike, &mut counters, trace, page);
     let s = x.step;
     let _ = limit::list(s, page);
 }
@@ -128,7 +101,7 @@ pub fn list<W: fmt::Write>(
     lines: &[u8],
     variables: [u16; VARIABLES],
     budget: u16,
-    strike: Strike,
+    strike: Option<Jump>,
     trace: &mut [u16],
     page: &mut W,
 )

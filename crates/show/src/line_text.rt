@@ -7,10 +7,10 @@ ghost use Rattle.machine.specs.Ready.{LineHere};
 ghost use Rattle.show.specs.Listed.{Placed};
 
 use crate::front;
-use guard::counters::index;
+use guard::counters::get;
 use line::kind::LineKind;
 use line::{Line, read};
-use rules::limits::FUNCTIONS;
+use machine::table::Runnable;
 use state::machine::Registers;
 use std::fmt;
 
@@ -31,8 +31,7 @@ fn name(kind: LineKind) -> &'static str {
 fn counter<W: fmt::Write>(r: u8, depth: u16, counters: &[u16], page: &mut W) -> fmt::Result
     requires { (r < max_regions) × (Room depth counters.now) }
 {
-    let v = counters[index(depth, r)];
-    write!(page, " counter {r} holds {v}")
+    write!(page, " counter {r} holds {}", get(counters, depth, r))
 }
 
 // The counters that a line looks at: a leave at two, a ret at region 0's, a do at none.
@@ -88,22 +87,21 @@ fn line<W: fmt::Write>(lines: &[u8], h: Registers, counters: &[u16], page: &mut 
 }
 
 pub fn list<W: fmt::Write>(
-    lines: &[u8],
-    starts: &[u16; FUNCTIONS + 1],
+    table: &Runnable,
     h: Registers,
     counters: &[u16],
     page: &mut W,
 ) -> fmt::Result
-    requires { Placed lines.now starts.now h counters.now }
+    requires { Placed table.now.lines.now table.now.starts h counters.now }
 {
     let f = h.function as usize;
-    let first = starts[f];
-    let last = starts[f + 1];
+    let first = table.starts[f];
+    let last = table.starts[f + 1];
     front::list(h, "place", h.at - first, page)?;
     if h.at == last {
         return end(h.depth, counters, page);
     }
-    line(lines, h, counters, page)
+    line(table.lines, h, counters, page)
 }
 
 // The jump, before its step.

@@ -1,7 +1,7 @@
 // A source run made step by step: its calls are counted, and where that is asked each step is listed before it is made. It comes to what
 // the run comes to.
 ghost use Rattle.std.specs.Prelude.{◌≡◌, ◌+◌, ◌≤◌, ◌<◌, length};
-ghost use Rattle.rules.specs.declared.refusal.Verdict.TheVariants.{Accepted};
+ghost use Rattle.rules.specs.Verdict.{Accepted};
 ghost use Rattle.rules.specs.Row.{table_of};
 ghost use Rattle.rules.specs.Check.{verdict_of};
 ghost use Rattle.rules.specs.Links.{Links};
@@ -12,11 +12,10 @@ ghost use Rattle.source.specs.Run.{parts_in, stopped_with, Going};
 ghost use Rattle.show.specs.Calls.{call_at, WalkedTo, CallsTold, spent_at};
 
 use crate::{limit, row_text};
-use chain::{Linked, SIZE, link};
+use chain::{SIZE, link};
 use layout::row;
 use rows::kind::is_call;
 use rules::limits::{FUNCTIONS, ROWS, VARIABLES};
-use rules::refusal::Verdict;
 use rules::step::Step;
 use source::{goes, run};
 use state::machine::{Machine, Registers, Stopped, begun};
@@ -140,8 +139,8 @@ fn tell_switched<W: fmt::Write>(
 {
     let mut chain = [0u8; SIZE];
     match link(rows, &mut chain, ends, elses, heads) {
-        Linked::Refused(_) => 0,
-        Linked::Bytes(n) => {
+        Err(_) => 0,
+        Ok(n) => {
             tell_accepted(
                 &chain[..n],
                 ends,
@@ -173,10 +172,10 @@ pub fn tell<W: fmt::Write>(
     let mut elses = [0u16; ROWS];
     let mut heads = [0u16; FUNCTIONS];
     match table::check::check(rows, &mut ends, &mut elses, &mut heads) {
-        Verdict::Refused(_) => tell_switched(
+        Err(_) => tell_switched(
             rows, &mut ends, &mut elses, &mut heads, variables, budget, show, trace, page,
         ),
-        Verdict::Accepted => tell_accepted(
+        Ok(()) => tell_accepted(
             rows, &ends, &elses, &heads, variables, budget, show, trace, page,
         ),
     }

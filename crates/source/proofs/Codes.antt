@@ -12,7 +12,7 @@ use borrow.Author.Tests.{eqb-true, ltb-true}
 use Rattle.rules.specs.declared.operands.Operands.{Operands}
 use Rattle.rules.specs.declared.kind.Kind.{Kind}
 use Rattle.rules.specs.declared.kind.Kind.TheVariants.{Function, Do, If, Else, Loop, End, Break, Continue, Call, Unknown}
-use Rattle.rules.specs.declared.refusal.Verdict.TheVariants.{Accepted}
+use Rattle.rules.specs.Verdict.{Accepted}
 use Rattle.rules.specs.Row.{Table, table_of, kind_at, operands_at, uses_number_lem, uses_variable_lem, do_uses_lem, test_uses_lem, fields_fit_lem}
 use Rattle.rules.specs.Scan.{Open, Part, body, then_part, else_part, loop_body, open_at, part_of, from_loop}
 use Rattle.rules.specs.Check.{is_outside, verdict_of}

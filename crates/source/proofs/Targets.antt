@@ -12,7 +12,7 @@ use lib.Seq.{get_or-set_same, get_or-set_other}
 use borrow.Author.Tests.{ltb-true}
 use Rattle.rules.specs.declared.kind.Kind.{Kind}
 use Rattle.rules.specs.declared.kind.Kind.TheVariants.{Function, Do, If, Else, Loop, End, Break, Continue, Call, Unknown}
-use Rattle.rules.specs.declared.refusal.Verdict.TheVariants.{Accepted}
+use Rattle.rules.specs.Verdict.{Accepted}
 use Rattle.rules.specs.Row.{Table, table_of, kind_at, operands_at}
 use Rattle.rules.specs.Scan.{Part, body, then_part, else_part, loop_body, open_at, regions, part_of, opener_of, is_loop_body, end_of, else_of}
 use Rattle.rules.specs.Check.{verdict_of}

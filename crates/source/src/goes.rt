@@ -2,7 +2,7 @@
 // that a step of it takes one load and one jump.
 ghost use Rattle.std.specs.Prelude.{◌≡◌, suc, ◌+◌, ◌*◌, ◌/◌, ◌<◌, length};
 ghost use Rattle.rules.specs.declared.kind.Kind.{Kind};
-ghost use Rattle.rules.specs.declared.refusal.Verdict.TheVariants.{Accepted};
+ghost use Rattle.rules.specs.Verdict.{Accepted};
 ghost use Rattle.rules.specs.Limits.{max_rows};
 ghost use Rattle.rules.specs.Row.{table_of, kind_at, operands_at};
 ghost use Rattle.rules.specs.Scan.{open_at, part_of, end_of};

@@ -18,7 +18,6 @@ mod map;
 
 use command::sweep_words::{SweepAsked, SweepGiven};
 use command::{sweep_words, wrong};
-use console::input::Read;
 use console::page::Page;
 use console::{input, output, start};
 use rules::limits::{COUNTERS, VARIABLES};
@@ -52,7 +51,7 @@ fn take_words(rt: &(impl Env + Input + Print)) {
     match sweep_words::read(rt, &mut buffer, &mut variables) {
         SweepGiven::Wrong(f) => {
             let expected = f.expected;
-            let n = output::within(f.length, &buffer);
+            let n = f.length.min(buffer.len());
             wrong::say(&mut buffer[..n], expected);
         }
         SweepGiven::Mapless => {
@@ -74,12 +73,8 @@ fn take_lines(
 )
     requires { 65536 ≡ length bytes.old }
 {
-    match input::take_lines(rt, chunk, bytes) {
-        Read::Bytes(n) => {
-            let all = output::within(n, bytes);
-            sweep(rt, a, &bytes[..all], variables);
-        }
-        Read::Nothing => {}
+    if let Some(n) = input::take_lines(rt, chunk, bytes) {
+        sweep(rt, a, output::front(n, bytes), variables);
     }
 }
 

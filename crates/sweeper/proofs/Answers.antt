@@ -15,8 +15,7 @@ use Rattle.rules.specs.Sweep.{any_other}
 use Rattle.rules.specs.SweepCall.{unstruck_of, counts_of}
 use Rattle.machine.specs.Step.{map_of}
 use Rattle.machine.specs.Stands.{Sound, Ready}
-use Rattle.sweeper.specs.declared.table.Count.TheVariants as count
-use Rattle.sweeper.specs.declared.table.Search.TheVariants as search
+use Rattle.std.specs.Prelude.{Some, None}
 use Rattle.sweeper.specs.declared.table.Prepared.{Prepared}
 use Rattle.sweeper.specs.declared.table.Prepared.TheVariants as prepared
 use Rattle.sweeper.specs.Steps.{Finishes}
@@ -28,10 +27,10 @@ module _ (bs vs : List ℕ) (b : ℕ) (slots words starts owners slots' words' :
     kept : PreparedBy bs vs b slots words slots' words' prepared.NotFinished
     kept = subst (PreparedBy bs vs b slots words slots' words') e p.is
 
-    pub swept-not : swept_with count.NotFinished slots' words' ≡ swept_of bs vs b slots words
+    pub swept-not : swept_with None slots' words' ≡ swept_of bs vs b slots words
     swept-not = rw (ne_eqb (outcome_in bs vs b) 1 kept.0) (rw (kept.1, kept.2))
 
-    pub asked-not : asked_with search.NotFinished slots' words' ≡ asked_of bs vs b slots words
+    pub asked-not : asked_with None slots' words' ≡ asked_of bs vs b slots words
     asked-not = rw (ne_eqb (outcome_in bs vs b) 1 kept.0) (rw (kept.1, kept.2))
 
   -- ---- it finishes
@@ -57,8 +56,8 @@ module _ (bs vs : List ℕ) (b : ℕ) (slots words starts owners slots' words' :
     pub finishes : Finishes (lines_in bs) vs b (take n slots')
     finishes = record { finished = done.0; trace_is = ap (λ i. take i slots') rows_are ∙ ap (take (length trace)) slots_are ∙ take-append_seam trace (drop (length trace) slots) }
 
-    pub swept-is : (c : Counts) → c ≡ counts_of bs vs b → (ws : List ℕ) → ws ≡ zeros counter_words → swept_with (count.Of c) slots' ws ≡ swept_of bs vs b slots words
+    pub swept-is : (c : Counts) → c ≡ counts_of bs vs b → (ws : List ℕ) → ws ≡ zeros counter_words → swept_with (Some c) slots' ws ≡ swept_of bs vs b slots words
     swept-is c q ws z = rw (eq-eqb (outcome_in bs vs b) 1 done.0) (rw (q, slots_are, z))
 
-    pub asked_is : (y : Bool) → y ≡ any_other (counts_of bs vs b) → (ws : List ℕ) → ws ≡ zeros counter_words → asked_with (search.Found y) slots' ws ≡ asked_of bs vs b slots words
+    pub asked_is : (y : Bool) → y ≡ any_other (counts_of bs vs b) → (ws : List ℕ) → ws ≡ zeros counter_words → asked_with (Some y) slots' ws ≡ asked_of bs vs b slots words
     asked_is y q ws z = rw (eq-eqb (outcome_in bs vs b) 1 done.0) (rw (q, slots_are, z))

@@ -29,10 +29,11 @@ use Rattle.machine.specs.Stands.{Ready, Going}
 use Rattle.compare.specs.declared.narrow.Narrow.{Narrow}
 use Rattle.compare.specs.Compared.{piece_steps, Standing}
 use Rattle.compare.specs.Narrow.{NarrowIs}
+use Rattle.compare.proofs.Begins.{from_there}
 use Rattle.sweeper.specs.Steps.{Finishes, InTable, places_of}
 use Rattle.sweeper.proofs.Settling.{dos_in, first_is, last_is, beside-is, step_is}
 use Rattle.sweeper.proofs.Walking as Walking
-use Rattle.sweeper.proofs.Walking.{form, unstruck, state_of, Walking, walk-starts, from_there}
+use Rattle.sweeper.proofs.Walking.{form, unstruck, state_of, Walking, walk-starts}
 
 pub record Sweeping (bs : List ℕ) (mp : Map) (b : ℕ) (tr vs : List ℕ) (k left : ℕ) (m : Machine) (ws : List ℕ) (at : ℕ) : Type 0 where
   pub ready : Ready bs mp

@@ -9,7 +9,7 @@ use lib.ListN.{length}
 use borrow.Author.Tests.{eqb-true}
 use Rattle.rules.specs.declared.ending.Ending.{Ending}
 use Rattle.rules.specs.declared.ending.Ending.TheVariants.{Alarmed, Same, Other, Unfinished}
-use Rattle.rules.specs.declared.strike.Strike.TheVariants.{None}
+use Rattle.rules.specs.Strike.{None}
 use Rattle.rules.specs.Bytes.{same}
 use Rattle.rules.specs.Line.{lines_in}
 use Rattle.rules.specs.State.{retraced}

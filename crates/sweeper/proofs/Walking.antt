@@ -5,12 +5,11 @@ use mathlib.Core.Bool.{cond}
 use mathlib.Core.List.{List, []}
 use Prim.Native.Nat.{ℕ, suc, ◌+◌, ◌-◌, ◌≤◌, ◌<◌}
 use native.Mathlib.Omega.{arith}
-use lib.ListN.{length, take, drop, length-append, length-drop}
-use lib.Seq.{take-length}
+use lib.ListN.{length, drop, length-append}
 use lib.Dec.{eqb}
 use Rattle.rules.specs.declared.ending.Ending.TheVariants.{Same}
 use Rattle.rules.specs.declared.step.Step.TheVariants.{Went}
-use Rattle.rules.specs.declared.strike.Strike.TheVariants.{None}
+use Rattle.rules.specs.Strike.{None}
 use Rattle.rules.specs.Line.{lines_in}
 use Rattle.rules.specs.State.{retraced}
 use Rattle.rules.specs.Run.{Answer, run, outcome_of_lem}
@@ -155,7 +154,3 @@ module _ (bs vs : List ℕ) (b k left : ℕ) (m : Machine) (ws : List ℕ) (at :
   -- the run ends before the budget does
   pub never_spent : {A : Type 0} → left ≤ 0 → A
   never_spent h = absurd (let z : ⊥ = omega (arith, w.left_is, in_steps) in z)
-
--- a slice from row `at` on
-pub from_there : (tr : List ℕ) (at : ℕ) → take (length tr - at) (drop at tr) ≡ drop at tr
-from_there tr at = ap (λ n. take n (drop at tr)) (sym (length-drop at tr)) ∙ take-length (drop at tr)

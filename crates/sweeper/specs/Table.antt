@@ -1,5 +1,5 @@
 -- What the sweep of a hardened table answers and leaves in the slots and the words.
-use Rattle.std.specs.Prelude.{ℕ, ◌≡◌, ◌≢◌, Bool, true, false, cond, List, eqb, length}
+use Rattle.std.specs.Prelude.{ℕ, ◌≡◌, ◌≢◌, Bool, true, false, cond, List, eqb, length, Option, Some, None}
 use Rattle.rules.specs.declared.ending.Ending.{Ending}
 use Rattle.rules.specs.declared.ending.Ending.TheVariants.{Alarmed, Same, Other, Unfinished}
 use Rattle.rules.specs.Limits.{counter_words}
@@ -10,10 +10,7 @@ use Rattle.rules.specs.Calls.{over, zeros}
 use Rattle.rules.specs.Sweep.{any_other}
 use Rattle.rules.specs.SweepCall.{unstruck_of, counts_of}
 use Rattle.machine.specs.Stands.{Located}
-use Rattle.sweeper.specs.declared.table.Count as Count
-use Rattle.sweeper.specs.declared.table.Count.TheVariants as count
-use Rattle.sweeper.specs.declared.table.Search as Search
-use Rattle.sweeper.specs.declared.table.Search.TheVariants as search
+use Rattle.rules.specs.declared.ending.Counts.{Counts}
 use Rattle.sweeper.specs.declared.table.Prepared as Prepared
 use Rattle.sweeper.specs.declared.table.Prepared.TheVariants as prepared
 
@@ -52,29 +49,29 @@ pub record PreparedIs (lines vars : List ℕ) (budget : ℕ) (slots words starts
 
 -- ---- the answers, with the slots and the words after them
 pub record Sweeping : Type 0 where
-  pub answer : Count.Count
+  pub answer : Option Counts
   pub slots : List ℕ
   pub words : List ℕ
 
-abbrev pub swept_with : Count.Count → (slots words : List ℕ) → Sweeping
+abbrev pub swept_with : Option Counts → (slots words : List ℕ) → Sweeping
 swept_with r slots words = record { answer = r; slots = slots; words = words }
 
 abbrev pub swept_of : (lines vars : List ℕ) → (budget : ℕ) → (slots words : List ℕ) → Sweeping
 swept_of bs vs b slots words =
     cond (eqb (outcome_in bs vs b) 1)
-    (swept_with (count.Of (counts_of bs vs b)) (over (unstruck_of bs vs b).state.trace slots) (zeros counter_words))
-    (swept_with count.NotFinished slots words)
+    (swept_with (Some (counts_of bs vs b)) (over (unstruck_of bs vs b).state.trace slots) (zeros counter_words))
+    (swept_with None slots words)
 
 pub record Asking : Type 0 where
-  pub answer : Search.Search
+  pub answer : Option Bool
   pub slots : List ℕ
   pub words : List ℕ
 
-abbrev pub asked_with : Search.Search → (slots words : List ℕ) → Asking
+abbrev pub asked_with : Option Bool → (slots words : List ℕ) → Asking
 asked_with r slots words = record { answer = r; slots = slots; words = words }
 
 abbrev pub asked_of : (lines vars : List ℕ) → (budget : ℕ) → (slots words : List ℕ) → Asking
 asked_of bs vs b slots words =
     cond (eqb (outcome_in bs vs b) 1)
-    (asked_with (search.Found (any_other (counts_of bs vs b))) (over (unstruck_of bs vs b).state.trace slots) (zeros counter_words))
-    (asked_with search.NotFinished slots words)
+    (asked_with (Some (any_other (counts_of bs vs b))) (over (unstruck_of bs vs b).state.trace slots) (zeros counter_words))
+    (asked_with None slots words)

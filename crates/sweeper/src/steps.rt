@@ -15,7 +15,7 @@ ghost use Rattle.sweeper.specs.Steps.{Finishes, InTable, places_of};
 use compare::narrow;
 use guard::counters::fresh;
 use machine::run;
-use places::count::{nothing, places};
+use places::count::places;
 use rules::ending::{Counts, Ending};
 use rules::limits::{FUNCTIONS, LINES, VARIABLES};
 use rules::step::Step;
@@ -61,7 +61,7 @@ pub fn count(
 {
     fresh(counters, 0, 1);
     let mut m = begun(0, variables);
-    let mut c = nothing();
+    let mut c = Counts::default();
     let mut at = 0;
     let mut left = budget;
     while 0 < left {
@@ -94,12 +94,7 @@ pub fn count(
 pub fn is_other(e: Ending) -> bool
     ensures { result ≡ is_other_lem e }
 {
-    match e {
-        Ending::Alarmed => false,
-        Ending::Same => false,
-        Ending::Other => true,
-        Ending::Unfinished => false,
-    }
+    matches!(e, Ending::Other)
 }
 
 // Whether any of them finishes with another trace: only the jump across one do can, so nothing else is tried.

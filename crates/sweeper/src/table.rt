@@ -20,18 +20,6 @@ use rules::ending::{Counts, Ending};
 use rules::limits::{COUNTERS, FUNCTIONS, LINES, VARIABLES};
 use state::machine::begun;
 
-#[derive(Drop)]
-pub enum Count {
-    NotFinished,
-    Of(Counts),
-}
-
-#[derive(Drop)]
-pub enum Search {
-    NotFinished,
-    Found(bool),
-}
-
 // Where the run finishes: the a of function 0's ret, and how long its trace is.
 #[derive(Drop)]
 pub enum Prepared {
@@ -48,12 +36,7 @@ pub fn no_words() -> [u16; COUNTERS]
 fn is_finish(e: Ending) -> bool
     ensures { result ≡ is_finish_lem e }
 {
-    match e {
-        Ending::Alarmed => false,
-        Ending::Same => true,
-        Ending::Other => true,
-        Ending::Unfinished => false,
-    }
+    matches!(e, Ending::Same | Ending::Other)
 }
 
 // Whether the unstruck run finishes in the budget. It is made with counters of its own, and no slot is written.
@@ -121,14 +104,14 @@ pub fn prepare(
     Prepared::NotFinished
 }
 
-// The four counts. The words are 0 afterwards.
+// The four counts; none where the run does not finish. The words are 0 afterwards.
 pub fn sweep(
     lines: &[u8],
     variables: [u16; VARIABLES],
     budget: u16,
     trace: &mut [u16],
     words: &mut [u16],
-) -> Count
+) -> Option<Counts>
     requires { (is_hardened_lem lines.now ≡ true) × (budget ≤ length trace.old) × (length words.old ≡ counter_words) }
     ensures { swept_with result trace.new words.new ≡ swept_of lines.now variables budget trace.old words.old }
 {
@@ -148,7 +131,7 @@ pub fn sweep(
         &mut rows,
     );
     let Prepared::Traced(home, n) = p else {
-        return Count::NotFinished;
+        return None;
     };
     let length = n as usize;
     let c = steps::count(
@@ -164,17 +147,17 @@ pub fn sweep(
         &mut rows,
     );
     counters::clear(words);
-    Count::Of(c)
+    Some(c)
 }
 
-// Whether the third count is above 0.
+// Whether the third count is above 0; no answer where the run does not finish.
 pub fn sweep_other(
     lines: &[u8],
     variables: [u16; VARIABLES],
     budget: u16,
     trace: &mut [u16],
     words: &mut [u16],
-) -> Search
+) -> Option<bool>
     requires { (is_hardened_lem lines.now ≡ true) × (budget ≤ length trace.old) × (length words.old ≡ counter_words) }
     ensures { asked_with result trace.new words.new ≡ asked_of lines.now variables budget trace.old words.old }
 {
@@ -194,7 +177,7 @@ pub fn sweep_other(
         &mut rows,
     );
     let Prepared::Traced(home, n) = p else {
-        return Search::NotFinished;
+        return None;
     };
     let length = n as usize;
     let any = steps::any(
@@ -210,5 +193,5 @@ pub fn sweep_other(
         &mut rows,
     );
     counters::clear(words);
-    Search::Found(any)
+    Some(any)
 }

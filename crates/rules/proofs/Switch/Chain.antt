@@ -15,8 +15,7 @@ use Rattle.rules.specs.declared.operands.Operands.{Operands}
 use Rattle.rules.specs.declared.kind.Kind.{Kind}
 use Rattle.rules.specs.declared.kind.Kind.TheVariants.{Function, Do, If, Else, Loop, End, Break, Continue, Call, Unknown}
 use Rattle.rules.specs.declared.refusal.Refusal.TheVariants.{NoWholeRows, TooManyRows, WrongField, Misplaced, RepeatedCase}
-use Rattle.rules.specs.declared.refusal.Verdict.{Verdict}
-use Rattle.rules.specs.declared.refusal.Verdict.TheVariants.{Accepted, Refused}
+use Rattle.rules.specs.Verdict.{Verdict, Accepted, Refused}
 use Rattle.rules.specs.Limits.{max_rows}
 use Rattle.rules.specs.Row.{Table, no_row, row_at, row_in, kind_at, row_width, table_bytes, table_of}
 use Rattle.rules.specs.Scan.{Open, Shape, pushes, turns, closes, stays, shape_of, open_after_lem, regions, open_at, is_end_lem}

@@ -14,8 +14,7 @@ use Rattle.rules.specs.declared.operands.Operands.{Operands}
 use Rattle.rules.specs.declared.kind.Kind.{Kind}
 use Rattle.rules.specs.declared.kind.Kind.TheVariants.{Function, Do, If, Else, Loop, End, Break, Continue, Call, Unknown}
 use Rattle.rules.specs.declared.refusal.Refusal.TheVariants.{WrongField, Misplaced, TooManyFunctions, TooManyParts}
-use Rattle.rules.specs.declared.refusal.Verdict.{Verdict}
-use Rattle.rules.specs.declared.refusal.Verdict.TheVariants.{Accepted}
+use Rattle.rules.specs.Verdict.{Verdict, Accepted}
 use Rattle.rules.specs.Limits.{max_functions}
 use Rattle.rules.specs.Row.{Row, Table, no_row, row_at, kind_at, operands_at, is_unused, is_variable, fields_fit_lem}
 use Rattle.rules.specs.Scan.{Part, then_part, else_part, Open, Shape, pushes, turns, closes, stays, shape_of, turned, open_after_lem, regions, open_at, is_function_lem, functions, is_else, is_end_lem}

@@ -12,8 +12,7 @@ use lib.Seq.{take-suc, take-length, length-take-le}
 use borrow.Author.Tests.{ne_eqb}
 use Rattle.rules.specs.declared.kind.Kind.TheVariants.{Unknown}
 use Rattle.rules.specs.declared.refusal.Refusal.TheVariants.{NoWholeRows, TooManyRows, WrongField, Misplaced, RepeatedCase}
-use Rattle.rules.specs.declared.refusal.Verdict.{Verdict}
-use Rattle.rules.specs.declared.refusal.Verdict.TheVariants.{Accepted}
+use Rattle.rules.specs.Verdict.{Verdict, Accepted}
 use Rattle.rules.specs.Limits.{max_rows}
 use Rattle.rules.specs.Row.{Row, Table, row_width, kind_of, row_in, rows_from, table_of, table_bytes, row_at, kind_at, operands_at, fields_fit_lem}
 use Rattle.rules.specs.Scan.{Open, Shape, pushes, turns, closes, stays, shape_of, open_at}

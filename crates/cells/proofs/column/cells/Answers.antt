@@ -9,7 +9,7 @@ use Rattle.cells.proofs.Marking.{mark-starts, stands-in, mark_on, marked_all}
 use Rattle.cells.proofs.column.cells.Goals as goal
 
 pub loop-left-init : goal.loop-left-init
-loop-left-init c = (mark-starts _ _ _ _ _ _ _ _ _ _ _ (sweep-starts _ _ c.requires.0 c.requires.1 _ _ _ c.requires.2 (omega (arith, c.ranges)) c.args.counters.now c.requires.4 _ c.fresh.ensures _ c.begun-m.ensures) c.requires.3 _ c.no_cells-column.ensures, refl, refl, refl)
+loop-left-init c = (mark-starts _ _ _ _ _ _ _ _ _ _ _ (sweep-starts _ _ c.requires.0 c.requires.1 _ _ _ c.requires.2 (omega (arith, c.ranges)) c.args.counters.now c.requires.4 _ c.fresh.ensures _ c.begun-m.ensures) c.requires.3 _ refl, refl, refl, refl)
 
 pub slice_bounds-rank_of-count : goal.slice_bounds-rank_of-count
 slice_bounds-rank_of-count c = at_in c.loop-left.invariant.0.sweeping

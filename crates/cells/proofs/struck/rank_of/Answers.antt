@@ -9,4 +9,4 @@ pub ending-e-requires : goal.ending-e-requires
 ending-e-requires c = (c.requires.0, c.requires.1, c.requires.2, subst (λ n. InLines c.args.lines.now c.args.starts.now n (get_or c.args.starts.now c.args.function 0 + c.args.place)) (sym c.if-h-function.false) (in_lines _ _ c.requires.0 _ _ c.requires.3), c.requires.4, c.requires.5)
 
 pub returns : goal.returns
-returns c = struck-there _ _ _ _ _ _ _ _ c.if-h-function.false _ refl _ c.ending-e.ensures _ c.of_ending.ensures
+returns c = struck-there _ _ _ _ _ _ _ _ c.if-h-function.false _ refl _ c.ending-e.ensures _ c.from.ensures

@@ -8,7 +8,7 @@ use Rattle.sweeper.proofs.Sweeping.{standing, stands-before, at_in, going-one, n
 use Rattle.sweeper.proofs.steps.count.Goals as goal
 
 pub loop-left-init : goal.loop-left-init
-loop-left-init c = (count-starts _ _ c.requires.0 c.requires.1 _ _ _ c.requires.2 (omega (arith, c.ranges)) c.args.counters.now c.requires.3 _ c.fresh.ensures _ c.begun-m.ensures _ c.nothing-c.ensures, refl, refl, refl)
+loop-left-init c = (count-starts _ _ c.requires.0 c.requires.1 _ _ _ c.requires.2 (omega (arith, c.ranges)) c.args.counters.now c.requires.3 _ c.fresh.ensures _ c.begun-m.ensures _ (let d = c.default-c.ensures in λ i. record { alarms = d.0 i; same = d.1.0 i; other = d.1.1.0 i; unfinished = d.1.1.1 i }), refl, refl, refl)
 
 pub slice_bounds-across-count : goal.slice_bounds-across-count
 slice_bounds-across-count c = at_in c.loop-left.invariant.0.sweeping
