@@ -1,5 +1,4 @@
 // What a run answers, as four lines, or five in a source run or with a small jump; a long trace takes more.
-use command::arguments::Asked;
 use rules::answer::Ran;
 use slip::amount::Amount;
 use std::fmt;
@@ -7,7 +6,7 @@ use std::fmt;
 // Numbers on a line.
 const MANY: usize = 20;
 
-// The words of 01 and 02 for an outcome.
+// The words of 01 and 02 for an outcome. It comes as a number: the C struct of a run has one.
 fn outcome(number: u8) -> &'static str {
     match number {
         0 => "budget spent",
@@ -54,10 +53,11 @@ fn list_amount<W: fmt::Write>(amount: Amount, page: &mut W) -> fmt::Result {
     }
 }
 
-// The answer behind the steps, or `refused N`. Behind steps there is never a refusal. A source run's calls are counted.
+// The answer behind the steps, or `refused N`. Behind steps there is never a refusal. A source run's calls are counted; `whole` lists a long
+// trace too.
 pub fn tell<W: fmt::Write>(
     r: Ran,
-    a: Asked,
+    whole: bool,
     calls: Option<u16>,
     amount: Amount,
     trace: &[u16; 65535],
@@ -69,7 +69,7 @@ pub fn tell<W: fmt::Write>(
     list_amount(amount, page)?;
     writeln!(page, "outcome {} {}", r.outcome, outcome(r.outcome))?;
     writeln!(page, "steps {}", r.steps)?;
-    list_trace(&trace[..usize::from(r.traced)], a.trace, page)?;
+    list_trace(&trace[..usize::from(r.traced)], whole, page)?;
     if let Some(n) = calls {
         writeln!(page, "calls {n}")?;
     }

@@ -4,11 +4,11 @@ ghost use Rattle.rules.specs.Limits.{counter_words};
 ghost use Rattle.rules.specs.ReadBack.{is_hardened_lem};
 
 use crate::{list, map};
-use command::sweep_words::SweepAsked;
+use command::sweep_words::{Form, SweepAsked};
 use compare::pieces;
 use machine::map as lines_map;
 use rules::answer::Swept;
-use rules::limits::{COUNTERS, VARIABLES};
+use rules::limits::COUNTERS;
 use std::fmt;
 use sweeper::table;
 use sweeper::table::Prepared;
@@ -25,7 +25,6 @@ fn walk_again<W: fmt::Write>(
     a: SweepAsked,
     r: Swept,
     lines: &[u8],
-    variables: [u16; VARIABLES],
     trace: &mut [u16],
     words: &mut [u16],
     page: &mut W,
@@ -38,7 +37,7 @@ fn walk_again<W: fmt::Write>(
     let mut rows = pieces::no_rows();
     let p = table::prepare(
         lines,
-        variables,
+        a.variables,
         a.budget,
         trace,
         words,
@@ -51,14 +50,34 @@ fn walk_again<W: fmt::Write>(
         return Ok(());
     };
     let known = &trace[..n as usize];
-    if a.map {
+    if let Form::Map(function) = a.form {
         return map::show(
-            lines, &starts, &owners, home, variables, a.budget, known, a.function, r, words,
-            &mut spare, &mut rows, page,
+            lines,
+            &starts,
+            &owners,
+            home,
+            a.variables,
+            a.budget,
+            known,
+            function,
+            r,
+            words,
+            &mut spare,
+            &mut rows,
+            page,
         );
     }
     list::walk(
-        lines, &starts, &owners, home, variables, a.budget, known, words, &mut spare, &mut rows,
+        lines,
+        &starts,
+        &owners,
+        home,
+        a.variables,
+        a.budget,
+        known,
+        words,
+        &mut spare,
+        &mut rows,
         page,
     )?;
     tell(r, page)
@@ -68,16 +87,15 @@ pub fn answer<W: fmt::Write>(
     a: SweepAsked,
     r: Swept,
     lines: &[u8],
-    variables: [u16; VARIABLES],
     trace: &mut [u16; 65535],
     counters: &mut [u16; COUNTERS],
     page: &mut W,
 ) -> fmt::Result {
-    if !a.list && !a.map {
+    if matches!(a.form, Form::Counts) {
         return tell(r, page);
     }
     if reader::is_hardened(lines) {
-        return walk_again(a, r, lines, variables, trace, counters, page);
+        return walk_again(a, r, lines, trace, counters, page);
     }
     Ok(())
 }

@@ -8,18 +8,19 @@ ghost use Rattle.machine.specs.Stands.{Ready};
 ghost use Rattle.compare.specs.Compared.{piece_steps};
 ghost use Rattle.sweeper.specs.Steps.{Finishes};
 
+use console::standard_error::StandardError;
 use picture::function;
 use rules::answer::Swept;
 use rules::limits::{FUNCTIONS, LINES, VARIABLES};
 use std::fmt;
+use std::fmt::Write as _;
 
 // On standard error: nothing is drawn.
 fn tell_missing(wanted: u8, last: u8) {
-    io::write_all(2, b"function ");
-    io::print_decimal(2, wanted as u64);
-    io::write_all(2, b" is not there: the last one is ");
-    io::print_decimal(2, last as u64);
-    io::write_all(2, b"\n");
+    let _ = writeln!(
+        StandardError,
+        "function {wanted} is not there: the last one is {last}"
+    );
 }
 
 pub fn show<W: fmt::Write>(
