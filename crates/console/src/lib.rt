@@ -7,6 +7,8 @@ pub mod input;
 mod malformed;
 pub mod number;
 pub mod output;
+pub mod page;
 pub mod print;
+pub mod standard_error;
 pub mod start;
 pub mod word;

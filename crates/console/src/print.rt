@@ -58,7 +58,7 @@ pub fn flush(rt: &impl Print, at: usize, text: &[u8; 65536]) -> usize
     if 65536 < at {
         return LOST;
     }
-    if output::answer_front(rt, at, text) {
+    if output::answer(rt, output::front(at, text)) {
         return 0;
     }
     LOST

@@ -149,10 +149,10 @@ fn give(answer: &[u8], out: &mut [u8]) -> Wrote
 pub fn read_back(lines: &[u8], out: &mut [u8]) -> Wrote
     ensures { ReadBackPromise lines.now out.old (writes result out.new) }
 {
-    let mut rows = reader::row_bytes();
+    let mut rows = [0; reader::ROOM];
     match reader::read(lines, &mut rows) {
-        reader::Found::NotHardened => refused(Refusal::NotHardened),
-        reader::Found::Source(n) => give(&rows[..n], out),
+        None => refused(Refusal::NotHardened),
+        Some(n) => give(&rows[..n], out),
     }
 }
 

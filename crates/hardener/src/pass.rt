@@ -18,14 +18,6 @@ use rules::limits::{FUNCTIONS, ROWS};
 // How many rows are compared at a time: so many that the comparison is wide, so few that the scratch is short.
 const BATCH: usize = 32;
 
-#[derive(Drop)]
-pub enum Passed {
-    // The output is too short, or the given bytes are others.
-    No,
-    // So many bytes of lines.
-    Bytes(usize),
-}
-
 // The number of rows that are made next, from row `from` of n on: all, where they are kept.
 fn batch(comparing: bool, from: usize, n: usize) -> usize
     requires { from < n }
@@ -84,7 +76,8 @@ fn make(
     true
 }
 
-// Hardens an accepted table whose links are known, to the front of out, where it fits there; or tells whether it hardens to `lines`.
+// Hardens an accepted table whose links are known, to the front of out, where it fits there; or tells whether it hardens to `lines`. The
+// answer is the number of bytes of its lines; none where the output is too short, or where `lines` are others.
 pub fn pass(
     rows: &[u8],
     ends: &[u16; ROWS],
@@ -93,7 +86,7 @@ pub fn pass(
     comparing: bool,
     lines: &[u8],
     out: &mut [u8],
-) -> Passed
+) -> Option<usize>
     requires rows_value { (verdict_of rows.now ≡ Accepted) × (Links (table_of rows.now) ends.now elses.now heads.now) }
     requires out_len { comparing ≡ true → length out.old ≡ 1280 }
     ensures { PassedIs comparing rows.now lines.now out.old out.new result }
@@ -104,12 +97,12 @@ pub fn pass(
     layout::lay_out(rows, &mut map, &mut bases, &mut values);
     let size = Line::WIDTH * row::index(spot::line_of(rows, &map, rows.len() / row::WIDTH));
     if !fits(comparing, size, lines.len(), out.len()) {
-        return Passed::No;
+        return None;
     }
     if make(
         rows, &map, &bases, &values, ends, elses, heads, comparing, lines, out,
     ) {
-        return Passed::Bytes(size);
+        return Some(size);
     }
-    Passed::No
+    None
 }

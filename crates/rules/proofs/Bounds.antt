@@ -15,7 +15,8 @@ use Rattle.rules.specs.Line.{line_at}
 use Rattle.rules.specs.Harden.{line_count, line_of, row_lines, harden}
 use Rattle.rules.specs.Function.{function_at}
 use Rattle.rules.specs.Bounds.{Word, LineIn, Fits, Within, Bounds}
-use Rattle.rules.proofs.Logic.{clash, not-false}
+use Rattle.std.proofs.lemmas.Bool.{not-false}
+use Rattle.rules.proofs.Logic.{clash}
 use Rattle.rules.proofs.Accepted.{Proper, proper}
 use Rattle.rules.proofs.Harden.{line-at}
 use Rattle.rules.proofs.Function.{placed-in, InFunction, formed-here, some-function, entry}

@@ -15,14 +15,15 @@ use Rattle.rules.specs.Bytes.{AreBytes, same}
 use Rattle.rules.specs.Row.{Row, Table, kind_of, kind_byte, row_in, rows_from, table_of, row_bytes, table_bytes, row_width, kind_at}
 use Rattle.rules.specs.Check.{no_whole_rows}
 use Rattle.rules.specs.Line.{Line, do_line, tick_line, test_line, leave_line, out_line, call_line, back_line, ret_line, line_width, line_bytes, lines_bytes, line_in_lem, lines_from, lines_in}
-use Rattle.rules.proofs.Logic.{clash, and_left, and_right, and_both}
+use Rattle.std.proofs.lemmas.Bool.{and_from}
+use Rattle.rules.proofs.Logic.{clash, and_left, and_right}
 use Rattle.rules.proofs.Accepted.{table-length, whole-rows}
 
 -- ---- the test that two lists are the same
 pub same_refl : (xs : List ℕ) → same xs xs ≡ true
 unfolding same
 same_refl [] = refl
-same_refl (x ∷ xs) = and_both (eq-eqb x x refl) (same_refl xs)
+same_refl (x ∷ xs) = and_from _ _ (eq-eqb x x refl) (same_refl xs)
 
 pub same-is : (xs ys : List ℕ) → same xs ys ≡ true → xs ≡ ys
 unfolding same

@@ -16,7 +16,8 @@ use Rattle.rules.specs.Row.{Table, kind_at, operands_at, fields_fit_lem}
 use Rattle.rules.specs.Scan.{Part, body, then_part, else_part, loop_body, Open, shape_of, turned, open_after_lem, regions, open_at, body_region, is_function_lem, functions, function_count, function_row, end_of}
 use Rattle.rules.specs.Value.{past, takes}
 use Rattle.rules.specs.Check.{is_then, misplaced_in, is_call}
-use Rattle.rules.proofs.Logic.{clash, and_left, and_right, not-false}
+use Rattle.std.proofs.lemmas.Bool.{not-false}
+use Rattle.rules.proofs.Logic.{clash, and_left, and_right}
 use Rattle.rules.proofs.Search.{Found, hit, miss, found, first-now}
 use Rattle.rules.proofs.Accepted.{Proper, outside-nil}
 use Rattle.rules.proofs.Scan.{origin, NotIn, gone-later, gone-after, by_close, not-closing, open_next}

@@ -21,7 +21,8 @@ use Rattle.rules.specs.Line.{Line, do_line, tick_line, test_line, leave_line, ou
 use Rattle.rules.specs.Harden.{line_count, line_of, test_of, row_lines, harden, hardened_bytes}
 use Rattle.rules.specs.ReadBack.{unread, source_bytes, is_hardened_lem}
 use Rattle.rules.specs.Reading.{ReadsBack, Recognises, OneSource}
-use Rattle.rules.proofs.Logic.{and_left, and_right, and_both, clash}
+use Rattle.std.proofs.lemmas.Bool.{and_from}
+use Rattle.rules.proofs.Logic.{and_left, and_right, clash}
 use Rattle.rules.proofs.Accepted.{Proper, accepted-is, proper-bytes, proper}
 use Rattle.rules.proofs.Harden.{line-at}
 use Rattle.rules.proofs.Function.{not-unknown, callee_known}
@@ -55,7 +56,7 @@ hardened-source lines h = (
 pub source-hardened : (rows lines : List ℕ) → source_bytes lines ≡ rows → verdict_of rows ≡ Accepted → hardened_bytes rows ≡ lines → is_hardened_lem lines ≡ true
 unfolding is_hardened_lem
 source-hardened rows lines s v h =
-    rw s (and_both (ap is_accepted v) (ap (λ x. same x lines) h ∙ same_refl lines))
+    rw s (and_from _ _ (ap is_accepted v) (ap (λ x. same x lines) h ∙ same_refl lines))
 
 -- ---- the numbers of a table's rows are those of its lines, and words there
 number_in : Line → ℕ

@@ -18,7 +18,8 @@ use Rattle.rules.specs.Line.{Line, line_at}
 use Rattle.rules.specs.Function.{function_at}
 use Rattle.rules.specs.Harden.{line_count, own_region, test_of, end_line, row_lines}
 use Rattle.rules.specs.Figures.{guards, has_region, regions_in}
-use Rattle.rules.proofs.Logic.{clash, and_both, or-first, or-second, or-none}
+use Rattle.std.proofs.lemmas.Bool.{and_from, or_from, or_left, or_right}
+use Rattle.rules.proofs.Logic.{clash}
 use Rattle.rules.proofs.Scan.{Closing, by_turn, by_close}
 use Rattle.rules.proofs.Function.{is_body_lem, Formed}
 
@@ -27,13 +28,13 @@ pub has-by : (ls : List Line) (n g k : ℕ) → function_at ls k ≡ n → guard
 unfolding has_region
 has-by ls n g k e q m h =
     le_ind (λ x. has_region ls n g x ≡ true)
-    (or-second (has_region ls n g k) (and_both (eq-eqb (function_at ls k) n e) q))
-    (λ x l p. or-first (has_region ls n g x) (eqb (function_at ls x) n && guards g (line_at ls x)) p) m h
+    (or_right (has_region ls n g k) _ (and_from _ _ (eq-eqb (function_at ls k) n e) q))
+    (λ x l p. or_left (has_region ls n g x) (eqb (function_at ls x) n && guards g (line_at ls x)) p) m h
 
 pub has-none : (ls : List Line) (n g m : ℕ) → ((k : ℕ) → k < m → function_at ls k ≡ n → guards g (line_at ls k) ≡ false) → has_region ls n g m ≡ false
 unfolding has_region
 has-none ls n g zero h = refl
-has-none ls n g (suc k) h = or-none (has_region ls n g k) (eqb (function_at ls k) n && guards g (line_at ls k)) (has-none ls n g k (λ x l. h x (omega arith))) (by (eqb (function_at ls k) n) refl)
+has-none ls n g (suc k) h = or_from (has_region ls n g k) (eqb (function_at ls k) n && guards g (line_at ls k)) (has-none ls n g k (λ x l. h x (omega arith))) (by (eqb (function_at ls k) n) refl)
   where
     by : (v : Bool) → eqb (function_at ls k) n ≡ v → v && guards g (line_at ls k) ≡ false
     by true e = h k (le_refl _) (eqb-true (function_at ls k) n e)

@@ -17,7 +17,8 @@ use Rattle.rules.specs.Check.{is_then, misplaced_in}
 use Rattle.rules.specs.Line.{Line, out_line, line_at}
 use Rattle.rules.specs.Harden.{line_count, line_of, row_lines, own_region, test_of, opener_value, leave_of, out_of, end_line, end_value, harden}
 use Rattle.rules.specs.Figures.{values_in, highest, highest_value}
-use Rattle.rules.proofs.Logic.{clash, not-false}
+use Rattle.std.proofs.lemmas.Bool.{not-false}
+use Rattle.rules.proofs.Logic.{clash}
 use Rattle.rules.proofs.Accepted.{Proper}
 use Rattle.rules.proofs.Scan.{Chain, chain, regions-mono, regions-next}
 use Rattle.rules.proofs.Value.{taken_mono, base-pos, value-next, Held, AllHeld, held}

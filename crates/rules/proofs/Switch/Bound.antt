@@ -20,7 +20,8 @@ use Rattle.rules.specs.Check.{misplaced_in, all_constructs, one_too_many, rows_v
 use Rattle.rules.specs.Switch.{GivenRow, as_is, switch_row, case_row, default_row, GivenTable, given_as, given_from, given_of, given_at, Switch, Thing, construct, switch, things_by, things_after, things_at, if_row, bare_row, else_after, chain_rows, chain_to, chain_of, chain_bytes}
 use Rattle.rules.specs.Given.{strays, given_rows_verdict, given_verdict}
 use Rattle.rules.specs.Chained.{cases_in, ThreeEach, FewCases, FewChained}
-use Rattle.rules.proofs.Logic.{clash, or_left}
+use Rattle.std.proofs.lemmas.Bool.{or_parts}
+use Rattle.rules.proofs.Logic.{clash}
 use Rattle.rules.proofs.Accepted.{proper-row, then-left, then-right, Proper, proper}
 use Rattle.rules.proofs.Reading.{IsWord, small, table-are-bytes}
 use Rattle.rules.proofs.Switch.Chain.{sound-row, chain-grows, rows-accepted, depth, open-depth, sound, chain-table, chain-accepted}
@@ -80,10 +81,10 @@ unfolding misplaced_in one_too_many
 few-next Function i g [] p q h = omega arith
 few-next Function i g (f ∷ fs) p q h = clash refl p
 few-next Do i g fs p q h = h
-few-next If i g fs p q h = omega (arith, leb-false max_constructs (length fs - 1) (or_left (all_constructs fs) _ q))
+few-next If i g fs p q h = omega (arith, leb-false max_constructs (length fs - 1) (or_parts (all_constructs fs) _ q).0)
 few-next Else i g [] p q h = h
 few-next Else i g (f ∷ fs) p q h = h
-few-next Loop i g fs p q h = omega (arith, leb-false max_constructs (length fs - 1) (or_left (all_constructs fs) _ q))
+few-next Loop i g fs p q h = omega (arith, leb-false max_constructs (length fs - 1) (or_parts (all_constructs fs) _ q).0)
 few-next End i g [] p q h = h
 few-next End i g (f ∷ fs) p q h = omega arith
 few-next Break i g fs p q h = h
