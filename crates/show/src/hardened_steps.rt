@@ -1,6 +1,7 @@
 // A hardened run made step by step, each step listed before it is made. `walk` promises what `strike::struck::strike` does, so that what
 // is listed is the run.
 ghost use Rattle.std.specs.Prelude.{◌≡◌, true, ◌≤◌, length};
+ghost use Rattle.rules.specs.Limits.{counter_words};
 ghost use Rattle.rules.specs.Line.{lines_in};
 ghost use Rattle.rules.specs.ReadBack.{is_hardened_lem};
 ghost use Rattle.machine.specs.Runnable.{map_in};
@@ -75,6 +76,13 @@ fn walk<W: fmt::Write>(
     }
 }
 
+// Here, and not as an array in place: so the proof has a name for them.
+fn no_counters() -> [u16; COUNTERS]
+    ensures { length result ≡ counter_words }
+{
+    [0; COUNTERS]
+}
+
 // The steps of a hardened table's run. What it leaves in the trace is not looked at afterwards.
 fn list_accepted<W: fmt::Write>(
     lines: &[u8],
@@ -88,7 +96,7 @@ fn list_accepted<W: fmt::Write>(
     requires budget_in_bounds { budget ≤ length trace.old }
 {
     let table = Runnable::of(lines);
-    let mut counters = [0u16; COUNTERS];
+    let mut counters = no_counters();
     counters::fresh(&mut counters, 0, 1);
     let start = begun(0, variables);
     let x = walk(&table, start, budget, strike, &mut counters, trace, page);

@@ -9,5 +9,5 @@ pub walk-x-requires : goal.walk-x-requires
 walk-x-requires g c =
     let lines = c.of-table.result.lines.now in
     subst (λ w. Going (lines_in lines) c.args.budget (parts_in c.begun-start.result w c.args.trace.now)) (sym c.fresh.ensures)
-    (going_start lines c.args.variables _ c.args.trace.now _ c.of-table.result.ready.sound c.begun-start.ensures (search rules)
-    c.args.budget c.requires.budget_in_bounds (omega (arith, c.ranges)))
+    (going_start lines c.args.variables c.no_counters-counters.result c.args.trace.now _ c.of-table.result.ready.sound c.begun-start.ensures
+    c.no_counters-counters.ensures c.args.budget c.requires.budget_in_bounds (omega (arith, c.ranges)))
