@@ -69,6 +69,6 @@ fn word(rt: &impl Print, kind: Kind, at: usize, text: &mut [u8; 65536]) -> usize
 pub fn list(rt: &impl Print, rows: &[u8], h: Registers, at: usize, text: &mut [u8; 65536]) -> usize
     requires { Inside rows.now h.at }
 {
-    let kind = row::kind(rows, row::index(h.at));
+    let kind = row::kind(rows, usize::from(h.at));
     word(rt, kind, front::list(rt, h, b" row ", h.at, at, text), text)
 }
