@@ -11,7 +11,9 @@ ghost use Rattle.layout.specs.Number.{Spent};
 
 use crate::scope::Scope;
 
+pub mod linked;
 pub mod number;
+pub mod numbered;
 pub mod row;
 pub mod scope;
 pub mod spot;

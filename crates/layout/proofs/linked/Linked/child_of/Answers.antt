@@ -1,6 +1,6 @@
 use Rattle.layout.proofs.Spots.{access}
 use borrow.Author.Rules.{rules}
-use Rattle.layout.proofs.spot.child_of.Goals as goal
+use Rattle.layout.proofs.linked.Linked.child_of.Goals as goal
 
 pub local-requires : goal.local-requires
 local-requires c = search (access, rules)
