@@ -8,7 +8,7 @@ use lib.Dec.{eqb}
 use lib.ListN.{length, get_or}
 use borrow.Author.Tests.{ltb-false, eq-eqb, ne_eqb, lt-ltb, le-ltb}
 use Rattle.rules.specs.declared.kind.Kind.TheVariants.{Function, If, Else}
-use Rattle.rules.specs.declared.refusal.Verdict.TheVariants.{Accepted}
+use Rattle.rules.specs.Verdict.{Accepted}
 use Rattle.rules.specs.Limits.{max_rows}
 use Rattle.rules.specs.Row.{row_width, kind_of, row_in, table_of}
 use Rattle.rules.specs.Switch.{given_as, given_of, given_at, chain_to, chain_bytes}

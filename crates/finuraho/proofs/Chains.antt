@@ -5,8 +5,7 @@ use Prim.Native.Nat.{ℕ, ◌/◌}
 use lib.ListN.{length}
 use Rattle.rules.specs.declared.answer.Fault.{Fault}
 use Rattle.rules.specs.declared.refusal.Refusal.{Refusal}
-use Rattle.rules.specs.declared.refusal.Verdict.{Verdict}
-use Rattle.rules.specs.declared.refusal.Verdict.TheVariants.{Accepted}
+use Rattle.rules.specs.Verdict.{Verdict, Accepted}
 use Rattle.rules.specs.Bytes.{AreBytes}
 use Rattle.rules.specs.Row.{row_width}
 use Rattle.rules.specs.Refusal.{number_of, refusal_number}
@@ -16,19 +15,19 @@ use Rattle.rules.specs.Links.{Checked}
 use Rattle.rules.specs.Calls.{check_call}
 use Rattle.rules.specs.Fault.{stop_row, fault_call}
 use Rattle.rules.proofs.Switch.Plain.{plain-accepted}
-use Rattle.fault.specs.declared.Found.{Found}
-use Rattle.fault.specs.declared.Found.TheVariants.{Faulty, Chain}
-use Rattle.fault.specs.Found.{FoundOk}
+use Rattle.std.specs.Prelude.{Ok, Err}
+use Rattle.fault.specs.declared.pass.TableFault.{TableFault}
+use Rattle.fault.specs.Found.{Found, FoundOk}
 
 -- ---- the fault, and the number alone
 module _ (rows out : List ℕ) (x : Found) (ok : FoundOk rows out x) where
-  pub fault-found : (c : Refusal) (row n : ℕ) → x ≡ Faulty c row → n ≡ refusal_number c → record { number = n; row = row } ≡ fault_call rows
+  pub fault-found : (f : TableFault) (n : ℕ) → x ≡ Err f → n ≡ refusal_number f.cause → record { number = n; row = f.row } ≡ fault_call rows
   unfolding fault_call stop_row
-  fault-found c row n m q =
+  fault-found f n m q =
       let o = (subst (FoundOk rows out) m ok).leads in
       rw (o.refused, q, o.row_is)
 
-  pub fault-none : (n : ℕ) → x ≡ Chain n → record { number = 0; row = length rows / row_width } ≡ fault_call rows
+  pub fault-none : (n : ℕ) → x ≡ Ok n → record { number = 0; row = length rows / row_width } ≡ fault_call rows
   unfolding fault_call stop_row
   fault-none n m = let o = (subst (FoundOk rows out) m ok).leads in rw o.accepted
 

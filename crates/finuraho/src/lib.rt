@@ -6,7 +6,7 @@
 #![tactic(auto)]
 
 ghost use Rattle.std.specs.Prelude.{◌≡◌};
-ghost use Rattle.rules.specs.declared.refusal.Verdict.TheVariants.{Accepted};
+ghost use Rattle.rules.specs.Verdict.{Accepted};
 ghost use Rattle.rules.specs.Calls.{check_call, run_source_call, short_output, writing};
 ghost use Rattle.rules.specs.Fault.{fault_call};
 ghost use Rattle.rules.specs.TablePromise.{HardenPromise, CheckHardenedPromise, ReadBackPromise};
@@ -21,23 +21,22 @@ ghost use Rattle.finuraho.specs.Given.{writes, refused_with, runs, hardened_runs
 mod run;
 mod switched;
 
-use fault::Found;
 use rows::WIDTH;
 use rules::answer::{AnyOther, Fault, Measured, Ran, Swept, Wrote};
-use rules::limits::VARIABLES;
+use rules::limits::{FUNCTIONS, ROWS, VARIABLES};
 use rules::number;
-use rules::refusal::{Refusal, Verdict};
+use rules::refusal::Refusal;
 
 // The number that the bytes get as a source table: 0 where hardening accepts them.
 pub fn check(rows: &[u8]) -> u8
     ensures { result ≡ check_call rows.now }
 {
-    let mut ends = table::check::row_words();
-    let mut elses = table::check::row_words();
-    let mut heads = table::check::function_words();
+    let mut ends = [0; ROWS];
+    let mut elses = [0; ROWS];
+    let mut heads = [0; FUNCTIONS];
     match table::check::check(rows, &mut ends, &mut elses, &mut heads) {
-        Verdict::Accepted => 0,
-        Verdict::Refused(_) => {
+        Ok(()) => 0,
+        Err(_) => {
             let f = fault(rows);
             f.number
         }
@@ -49,11 +48,11 @@ pub fn fault(rows: &[u8]) -> Fault
     ensures { result ≡ fault_call rows.now }
 {
     match fault::find(rows, &mut []) {
-        Found::Faulty(r, row) => Fault {
-            number: number::of_refusal(r),
-            row,
+        Err(f) => Fault {
+            number: number::of_refusal(f.cause),
+            row: f.row,
         },
-        Found::Chain(_) => Fault {
+        Ok(_) => Fault {
             number: 0,
             row: rows.len() / WIDTH,
         },
@@ -112,12 +111,12 @@ fn refused(r: Refusal) -> Wrote
 pub fn harden(rows: &[u8], out: &mut [u8]) -> Wrote
     ensures { HardenPromise rows.now out.old (writes result out.new) }
 {
-    let mut ends = table::check::row_words();
-    let mut elses = table::check::row_words();
-    let mut heads = table::check::function_words();
+    let mut ends = [0; ROWS];
+    let mut elses = [0; ROWS];
+    let mut heads = [0; FUNCTIONS];
     match table::check::check(rows, &mut ends, &mut elses, &mut heads) {
-        Verdict::Refused(_) => switched::harden(rows, &mut ends, &mut elses, &mut heads, out),
-        Verdict::Accepted => hardener::harden_linked(rows, &ends, &elses, &heads, out),
+        Err(_) => switched::harden(rows, &mut ends, &mut elses, &mut heads, out),
+        Ok(()) => hardener::harden_linked(rows, &ends, &elses, &heads, out),
     }
 }
 
@@ -138,7 +137,7 @@ fn give(answer: &[u8], out: &mut [u8]) -> Wrote
     if out.len() < answer.len() {
         return refused(Refusal::ShortOutput);
     }
-    line::bytes::copy(answer, out, 0);
+    out[..answer.len()].copy_from_slice(answer);
     Wrote {
         number: 0,
         length: answer.len(),
@@ -149,10 +148,10 @@ fn give(answer: &[u8], out: &mut [u8]) -> Wrote
 pub fn read_back(lines: &[u8], out: &mut [u8]) -> Wrote
     ensures { ReadBackPromise lines.now out.old (writes result out.new) }
 {
-    let mut rows = reader::row_bytes();
+    let mut rows = [0; reader::ROOM];
     match reader::read(lines, &mut rows) {
-        reader::Found::NotHardened => refused(Refusal::NotHardened),
-        reader::Found::Source(n) => give(&rows[..n], out),
+        None => refused(Refusal::NotHardened),
+        Some(n) => give(&rows[..n], out),
     }
 }
 
@@ -160,14 +159,14 @@ pub fn read_back(lines: &[u8], out: &mut [u8]) -> Wrote
 pub fn run_source(rows: &[u8], variables: [u16; VARIABLES], budget: u16, trace: &mut [u16]) -> Ran
     ensures { runs result trace.new ≡ run_source_call rows.now variables budget trace.old }
 {
-    let mut ends = table::check::row_words();
-    let mut elses = table::check::row_words();
-    let mut heads = table::check::function_words();
+    let mut ends = [0; ROWS];
+    let mut elses = [0; ROWS];
+    let mut heads = [0; FUNCTIONS];
     match table::check::check(rows, &mut ends, &mut elses, &mut heads) {
-        Verdict::Refused(_) => switched::run_source(
+        Err(_) => switched::run_source(
             rows, &mut ends, &mut elses, &mut heads, variables, budget, trace,
         ),
-        Verdict::Accepted => run::source_run(rows, &ends, &elses, &heads, variables, budget, trace),
+        Ok(()) => run::source_run(rows, &ends, &elses, &heads, variables, budget, trace),
     }
 }
 

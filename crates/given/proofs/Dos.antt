@@ -11,7 +11,7 @@ use borrow.Author.Tests.{ne_eqb}
 use Rattle.rules.specs.declared.kind.Kind.TheVariants.{Do}
 use Rattle.rules.specs.declared.refusal.Refusal.{Refusal}
 use Rattle.rules.specs.declared.refusal.Refusal.TheVariants.{WrongField, Misplaced}
-use Rattle.rules.specs.declared.refusal.Verdict.TheVariants.{Accepted, Refused}
+use Rattle.rules.specs.Verdict.{Accepted, Refused}
 use Rattle.rules.specs.Bytes.{AreBytes, word_at}
 use Rattle.rules.specs.Row.{row_width, kind_of, row_in, fields_fit_lem}
 use Rattle.rules.specs.Scan.{shape_of}
@@ -22,12 +22,12 @@ use Rattle.rows.specs.declared.row.Row as code
 use Rattle.rows.specs.Row.{six, read_row}
 use Rattle.rows.proofs.Rows.{rest_all}
 use Rattle.scan.specs.declared.open.Standing.{Standing}
-use Rattle.scan.specs.declared.open.Next.{Next}
-use Rattle.scan.specs.declared.open.Next.TheVariants as next
+use Rattle.scan.specs.Next.{Next}
+use Rattle.scan.specs.Next as next
 use Rattle.scan.specs.Standing.{Sane}
 use Rattle.scan.specs.Next.{NextOk, by_do, PlainOk}
 use Rattle.given.specs.declared.plan.Plan.{Plan}
-use Rattle.given.specs.declared.row.After.TheVariants.{Faulty, On}
+use Rattle.given.specs.Reached.{Faulty, On}
 use Rattle.given.specs.declared.sort.Sort.TheVariants.{Wrong, Plain}
 use Rattle.given.specs.declared.things.Things.{Things}
 use Rattle.given.specs.Sort.{own_sort, sort_of_lem, first_given}

@@ -11,8 +11,7 @@ use Rattle.rules.specs.declared.kind.Kind.{Kind}
 use Rattle.rules.specs.declared.kind.Kind.TheVariants.{Unknown}
 use Rattle.rules.specs.declared.refusal.Refusal.{Refusal}
 use Rattle.rules.specs.declared.refusal.Refusal.TheVariants.{WrongField, Misplaced, RepeatedCase}
-use Rattle.rules.specs.declared.refusal.Verdict.{Verdict}
-use Rattle.rules.specs.declared.refusal.Verdict.TheVariants.{Accepted, Refused}
+use Rattle.rules.specs.Verdict.{Verdict, Accepted, Refused}
 use Rattle.rules.specs.Bytes.{AreBytes, word_at}
 use Rattle.rules.specs.Limits.{max_constructs}
 use Rattle.rules.specs.Row.{Row, row_width, row_in, row_bytes, fields_fit_lem}
@@ -30,7 +29,7 @@ use Rattle.rows.specs.Row.{six, test_row}
 use Rattle.rows.proofs.Rows.{rest_all}
 use Rattle.rows.proofs.Six.{read-bytes, test-bytes}
 use Rattle.scan.specs.declared.open.Standing.{Standing}
-use Rattle.given.specs.declared.row.After.TheVariants.{Faulty}
+use Rattle.given.specs.Reached.{Faulty}
 use Rattle.given.specs.declared.sort.Sort.{Sort}
 use Rattle.given.specs.declared.sort.Sort.TheVariants.{Wrong, Plain, Switch, Case, Default}
 use Rattle.given.specs.declared.things.Things.{Things}

@@ -10,8 +10,7 @@ use borrow.Author.Tests.{lt-ltb, ltb-true, ltb-false}
 use Rattle.rules.specs.declared.kind.Kind.TheVariants.{Else, End, Unknown}
 use Rattle.rules.specs.declared.refusal.Refusal.{Refusal}
 use Rattle.rules.specs.declared.refusal.Refusal.TheVariants.{WrongField, Misplaced, RepeatedCase}
-use Rattle.rules.specs.declared.refusal.Verdict.{Verdict}
-use Rattle.rules.specs.declared.refusal.Verdict.TheVariants.{Accepted, Refused}
+use Rattle.rules.specs.Verdict.{Verdict, Accepted, Refused}
 use Rattle.rules.specs.Bytes.{AreBytes}
 use Rattle.rules.specs.Limits.{max_rows, max_constructs}
 use Rattle.rules.specs.Row.{Row, row_width, row_in, row_at, kind_at, table_of, row_bytes}
@@ -30,11 +29,11 @@ use Rattle.rows.specs.declared.row.Row as code
 use Rattle.rows.specs.Row.{six}
 use Rattle.rows.proofs.Rows.{rest_all, cut-row}
 use Rattle.scan.specs.declared.open.Standing.{Standing}
-use Rattle.scan.specs.declared.open.Next.{Next}
-use Rattle.scan.specs.declared.open.Next.TheVariants as next
+use Rattle.scan.specs.Next.{Next}
+use Rattle.scan.specs.Next as next
 use Rattle.scan.specs.Standing.{Stands}
 use Rattle.given.specs.declared.plan.Plan.{Plan}
-use Rattle.given.specs.declared.row.After.TheVariants.{Faulty, On}
+use Rattle.given.specs.Reached.{Faulty, On}
 use Rattle.given.specs.declared.sort.Sort.{Sort}
 use Rattle.given.specs.declared.things.Things.{Things}
 use Rattle.given.specs.Sort.{sort_of_lem, first_given}

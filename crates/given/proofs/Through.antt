@@ -11,7 +11,7 @@ use lib.Seq.{sets, sets-eq, take_at, length-sets}
 use borrow.Author.Tests.{ltb-true, ltb-false}
 use Rattle.rules.specs.declared.kind.Kind.{Kind}
 use Rattle.rules.specs.declared.refusal.Refusal.{Refusal}
-use Rattle.rules.specs.declared.refusal.Verdict.TheVariants.{Accepted}
+use Rattle.rules.specs.Verdict.{Accepted}
 use Rattle.rules.specs.Row.{Row, Table, row_width, table_of, kind_at, row_bytes, table_bytes}
 use Rattle.rules.specs.Check.{row_verdict, rows_verdict}
 use Rattle.rules.specs.Refusal.{and_then}
@@ -21,8 +21,7 @@ use Rattle.rules.proofs.Encode.{table-bytes-length}
 use Rattle.rules.proofs.Accepted.{then-right}
 use Rattle.rules.proofs.Switch.Chain.{then-assoc, spans}
 use Rattle.scan.specs.declared.open.Standing.{Standing}
-use Rattle.scan.specs.declared.open.Next.{Next}
-use Rattle.scan.specs.declared.open.Next.TheVariants.{Faulty, On}
+use Rattle.scan.specs.Next.{Next, Faulty, On}
 use Rattle.scan.specs.Standing.{Stands, Sane}
 use Rattle.scan.specs.Next.{At, NextOk}
 use Rattle.given.specs.Through.{Written, stored, KindsAt, Through}

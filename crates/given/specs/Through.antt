@@ -4,15 +4,13 @@ use Rattle.std.specs.Prelude.{ℕ, ◌+◌, ◌*◌, ◌≤◌, ◌<◌, ◌/◌
 use Rattle.std.proofs.lemmas.List.Edits.{sets}
 use Rattle.rules.specs.declared.kind.Kind.{Kind}
 use Rattle.rules.specs.declared.kind.Kind.TheVariants.{End}
-use Rattle.rules.specs.declared.refusal.Verdict.TheVariants.{Refused}
+use Rattle.rules.specs.Verdict.{Refused}
 use Rattle.rules.specs.Row.{Row, Table, row_width, table_of, kind_at, row_bytes, table_bytes}
 use Rattle.rules.specs.Switch.{bare_row}
 use Rattle.rules.specs.Given.{span_verdict}
 use Rattle.scan.specs.declared.open.Standing.{Standing}
-use Rattle.scan.specs.declared.open.Next.{Next}
-use Rattle.scan.specs.declared.open.Next.TheVariants.{Faulty, On}
 use Rattle.scan.specs.Standing.{Stands, Sane}
-use Rattle.scan.specs.Next.{At, NextSane}
+use Rattle.scan.specs.Next.{Next, Faulty, On, At, NextSane}
 use Rattle.given.specs.declared.plan.Plan.{Plan}
 use Rattle.given.specs.Plan.{planned_rows}
 

@@ -9,23 +9,23 @@ use crate::sort::Sort;
 use crate::things::{among, cases_of};
 use rules::kind::Kind;
 use rules::limits::CONSTRUCTS;
-use rules::refusal::{Refusal, Verdict};
+use rules::refusal::Refusal;
 
-fn refuse_if(holds: bool, r: Refusal) -> Verdict
+fn refuse_if(holds: bool, r: Refusal) -> Result<(), Refusal>
     ensures { result ≡ refuse_if_lem holds r }
 {
     if holds {
-        return Verdict::Refused(r);
+        return Err(r);
     }
-    Verdict::Accepted
+    Ok(())
 }
 
 // The first of two causes that holds.
-fn refuse_first(one: bool, r: Refusal, other: bool, s: Refusal) -> Verdict
+fn refuse_first(one: bool, r: Refusal, other: bool, s: Refusal) -> Result<(), Refusal>
     ensures { result ≡ and_then (refuse_if_lem one r) (refuse_if_lem other s) }
 {
     if one {
-        return Verdict::Refused(r);
+        return Err(r);
     }
     refuse_if(other, s)
 }
@@ -35,38 +35,30 @@ fn stray_in(kind: Kind, fresh: bool) -> bool
     ensures { result ≡ stray_in_lem kind fresh }
 {
     match kind {
-        Kind::Function => fresh,
-        Kind::Do => fresh,
-        Kind::If => fresh,
         Kind::Else => true,
-        Kind::Loop => fresh,
         Kind::End => false,
-        Kind::Break => fresh,
-        Kind::Continue => fresh,
-        Kind::Call => fresh,
-        Kind::Unknown => fresh,
+        _ => fresh,
     }
 }
 
 fn plain_stray(kind: Kind, top: u8) -> bool
     ensures { result ≡ stray_by (Sort.Plain kind) top 0 }
 {
-    if top == 0 {
-        return false;
-    }
-    stray_in(kind, top == 1)
+    top != 0 && stray_in(kind, top == 1)
 }
 
 fn switch_stray(top: u8, count: usize) -> bool
     ensures { result ≡ stray_by Sort.Switch top count }
 {
-    if count == 0 {
-        return true;
-    }
-    top == 1
+    count == 0 || top == 1
 }
 
-pub fn case_cause(number: u16, top: u8, cases: usize, used: &[u16; CONSTRUCTS + 1]) -> Verdict
+pub fn case_cause(
+    number: u16,
+    top: u8,
+    cases: usize,
+    used: &[u16; CONSTRUCTS + 1],
+) -> Result<(), Refusal>
     requires { (cases ≤ max_constructs) × (marked_cases top ≤ cases) }
     ensures { result ≡ cause_of Sort.Case number top 0 cases used.now }
 {
@@ -87,12 +79,12 @@ pub fn cause(
     count: usize,
     cases: usize,
     used: &[u16; CONSTRUCTS + 1],
-) -> Verdict
+) -> Result<(), Refusal>
     requires { (cases ≤ max_constructs) × (marked_cases top ≤ cases) }
     ensures { result ≡ cause_of sort number top count cases used.now }
 {
     match sort {
-        Sort::Wrong => Verdict::Refused(Refusal::WrongField),
+        Sort::Wrong => Err(Refusal::WrongField),
         Sort::Plain(kind) => refuse_if(plain_stray(kind, top), Refusal::Misplaced),
         Sort::Switch => refuse_if(switch_stray(top, count), Refusal::Misplaced),
         Sort::Case => case_cause(number, top, cases, used),

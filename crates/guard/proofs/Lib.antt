@@ -1,3 +1,1 @@
 pub mod Zeroed
-pub mod Tests
-pub mod Returns

@@ -10,12 +10,6 @@ use rules::step::Step;
 use state::machine::{Moved, Registers, stay};
 use state::open::opening;
 
-fn index(x: u16) -> usize
-    ensures { result ≡ x }
-{
-    x as usize
-}
-
 // `owners` has the function of each line.
 pub fn call(
     l: Line,
@@ -28,10 +22,8 @@ pub fn call(
     requires { (CallIn l) × (h.at < 65535) × (Room h.depth counters.old) }
     ensures { shifted result resumes.new functions.new counters.new ≡ call_of l owners.now h resumes.old functions.old counters.old }
 {
-    let i = counters::index(h.depth, l.r);
-    let held = counters[i];
-    let e = l.e;
-    let wrong = held != e;
+    let held = counters::get(counters, h.depth, l.r);
+    let wrong = held != l.e;
     let full = DEEPEST <= h.depth + 1;
     if wrong {
         return stay(Step::Alarm, h);
@@ -39,8 +31,7 @@ pub fn call(
     if full {
         return stay(Step::TooManyOpen(DEEPEST), h);
     }
-    counters[i] = l.a;
+    counters::put(counters, h.depth, l.r, l.a);
     counters::fresh(counters, h.depth + 1, l.b);
-    let go = index(l.go);
-    opening(h, owners[go], l.go, resumes, functions)
+    opening(h, owners[l.go as usize], l.go, resumes, functions)
 }

@@ -12,13 +12,11 @@ pub fn tick(l: Line, at: u16, depth: u16, counters: &mut [u16]) -> Step
     requires { (l.r < max_regions) × (at < 65535) × (Room depth counters.old) }
     ensures { counted result counters.new ≡ tick_of l at depth counters.old }
 {
-    let i = counters::index(depth, l.r);
-    let held = counters[i];
-    let e = l.e;
-    if held != e {
+    let held = counters::get(counters, depth, l.r);
+    if held != l.e {
         return Step::Alarm;
     }
-    counters[i] = l.a;
+    counters::put(counters, depth, l.r, l.a);
     Step::Went(at + 1)
 }
 
@@ -26,13 +24,11 @@ pub fn test(l: Line, holds: bool, at: u16, depth: u16, counters: &mut [u16]) -> 
     requires { (RegionsIn l) × (at < 65535) × (Room depth counters.old) }
     ensures { counted result counters.new ≡ test_of l holds at depth counters.old }
 {
-    let i = counters::index(depth, l.r);
-    let outer = counters[i];
-    let e = l.e;
-    if outer != e {
+    let outer = counters::get(counters, depth, l.r);
+    if outer != l.e {
         return Step::Alarm;
     }
-    counters[i] = l.a;
+    counters::put(counters, depth, l.r, l.a);
     if holds {
         counters::put(counters, depth, l.s, l.b);
         return Step::Went(at + 1);
@@ -45,20 +41,16 @@ pub fn leave(l: Line, depth: u16, counters: &mut [u16]) -> Step
     requires { (LeaveIn l) × (Room depth counters.old) }
     ensures { counted result counters.new ≡ leave_of l depth counters.old }
 {
-    let i = counters::index(depth, l.r);
-    let child = counters[i];
-    let e = l.e;
-    if child != e {
+    let child = counters::get(counters, depth, l.r);
+    if child != l.e {
         return Step::Alarm;
     }
-    counters[i] = 0;
-    let j = counters::index(depth, l.s);
-    let around = counters[j];
-    let b = l.b;
-    if around != b {
+    counters::put(counters, depth, l.r, 0);
+    let around = counters::get(counters, depth, l.s);
+    if around != l.b {
         return Step::Alarm;
     }
-    counters[j] = l.a;
+    counters::put(counters, depth, l.s, l.a);
     Step::Went(l.go)
 }
 
@@ -66,10 +58,8 @@ pub fn out(l: Line, depth: u16, counters: &mut [u16]) -> Step
     requires { (OutIn l) × (Room depth counters.old) }
     ensures { counted result counters.new ≡ out_of l depth counters.old }
 {
-    let i = counters::index(depth, l.r);
-    let inner = counters[i];
-    let e = l.e;
-    if inner != e {
+    let inner = counters::get(counters, depth, l.r);
+    if inner != l.e {
         return Step::Alarm;
     }
     let from = counters::index(depth, l.t);
@@ -84,16 +74,13 @@ pub fn back(l: Line, last: u16, at: u16, depth: u16, counters: &mut [u16]) -> St
     requires { (l.r < max_regions) × (at < 65535) × (Room depth counters.old) }
     ensures { counted result counters.new ≡ back_of l last at depth counters.old }
 {
-    let i = counters::index(depth, l.r);
-    let caller = counters[i];
-    let e = l.e;
-    if caller != e {
+    let caller = counters::get(counters, depth, l.r);
+    if caller != l.e {
         return Step::Alarm;
     }
-    let b = l.b;
-    if last != b {
+    if last != l.b {
         return Step::Alarm;
     }
-    counters[i] = l.a;
+    counters::put(counters, depth, l.r, l.a);
     Step::Went(at + 1)
 }

@@ -21,8 +21,7 @@ pub fn returned(
     requires { Room h.depth counters.now }
     ensures { result ≡ return_of home h resumes.now functions.now counters.now }
 {
-    let i = counters::index(h.depth, 0);
-    let v = counters[i];
+    let v = counters::get(counters, h.depth, 0);
     if 0 < h.depth {
         return returning(h, v, resumes, functions);
     }
@@ -43,12 +42,10 @@ pub fn ret(
     requires { Room h.depth counters.old }
     ensures { settled result counters.new ≡ ret_of l home h resumes.now functions.now counters.old }
 {
-    let i = counters::index(h.depth, 0);
-    let held = counters[i];
-    let e = l.e;
-    if held != e {
+    let held = counters::get(counters, h.depth, 0);
+    if held != l.e {
         return stay(Step::Alarm, h);
     }
-    counters[i] = l.a;
+    counters::put(counters, h.depth, 0, l.a);
     returned(h, home, resumes, functions, counters)
 }

@@ -1,20 +1,20 @@
--- Copying bytes into a buffer, and a line put behind the lines before it. Assumes nothing.
-use mathlib.Core.Path.{◌≡◌, refl}
+-- A line put into a buffer, and behind the lines before it. Assumes nothing.
+use mathlib.Core.Path.{◌≡◌, refl, sym, ap, ◌∙◌}
 use mathlib.Core.List.{List, ◌++◌, append_assoc}
-use Prim.Native.Nat.{ℕ, ◌+◌, ◌≤◌, ◌<◌}
-use native.Mathlib.Numerals.{add-one}
+use Prim.Native.Nat.{ℕ, ◌+◌, ◌-◌}
 use native.Mathlib.Omega.{arith}
-use lib.ListN.{length, get_or, set, drop}
-use lib.Seq.{paste, paste-zero, paste-suc, take_at, drop-drop, drop-append-add}
+use lib.ListN.{length, drop, take}
+use lib.Seq.{take_at, drop-drop, drop-append-add}
 use Rattle.rules.specs.Line.{Line, do_line, tick_line, test_line, leave_line, out_line, call_line, back_line, ret_line, line_bytes}
+use borrow.Rule.Slice.PartMut.{put_mid, post_of, Post-is}
+use Rattle.line.specs.declared.Line as Declared
 use Rattle.line.specs.Line.{struct, spelt, put}
 
--- one byte more is copied
-pub copied_more : (d s x : List ℕ) (at j : ℕ) → x ≡ paste d at s j → at + length s ≤ length d → j < length s
-    → set x (at + j) (get_or s j 0) ≡ paste d at s (j + 1)
-copied_more d s x at j e h l = rw (e, add-one j) (paste-suc d at s j 0 (omega arith) l)
-
-pub ruleset copies = (paste-zero, copied_more)
+-- twenty bytes are put in the place of as many
+pub line-put : (bs x : List ℕ) (at : ℕ) (l : Declared.Line) → x ≡ spelt l → put_mid at (at + 20 - at) bs x ≡ put bs at l
+unfolding put
+line-put bs x at l e = ap (λ y. take at bs ++ (y ++ post_of at (at + 20 - at) bs)) e ∙ ap (λ y. take at bs ++ (spelt l ++ y)) (Post-is at (at + 20) bs (omega arith))
+    ∙ sym (append_assoc (take at bs) (spelt l) (drop (at + 20) bs))
 
 -- the bytes of the code's line are those of the definitions' line
 spelt_is : (l : Line) → spelt (struct l) ≡ line_bytes l

@@ -1,27 +1,10 @@
-// The two bytes of a word, and bytes copied.
-ghost use Rattle.std.specs.Prelude.{◌≡◌, ◌+◌, ◌/◌, ◌%◌, ◌≤◌, length};
-ghost use Rattle.std.proofs.Math.Seq.{paste};
+// The two bytes of a word.
+ghost use Rattle.std.specs.Prelude.{◌≡◌, [], ◌∷◌};
+ghost use Rattle.rules.specs.Bytes.{low, high};
 
-pub fn low(x: u16) -> u8
-    ensures { result ≡ x % 256 }
+// The low byte first.
+pub fn spell(x: u16) -> [u8; 2]
+    ensures { result ≡ low x ∷ high x ∷ [] }
 {
-    (x % 256) as u8
-}
-
-pub fn high(x: u16) -> u8
-    ensures { result ≡ x / 256 }
-{
-    (x / 256) as u8
-}
-
-// Copies from into to, from byte at on.
-pub fn copy(from: &[u8], to: &mut [u8], at: usize)
-    requires { at + length from.now ≤ length to.old }
-    ensures { to.new ≡ paste to.old at from.now (length from.now) }
-{
-    let mut j = 0;
-    while j < from.len() {
-        to[at + j] = from[j];
-        j += 1;
-    }
+    x.to_le_bytes()
 }

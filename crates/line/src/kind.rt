@@ -4,7 +4,7 @@ ghost use Rattle.line.specs.Read.{line_kind_of};
 
 use crate::Line;
 
-#[derive(Clone, Copy)]
+#[derive(Clone, Copy, PartialEq, Eq)]
 pub enum LineKind {
     Do,
     Tick,
@@ -17,17 +17,20 @@ pub enum LineKind {
 }
 
 // Bytes of no kind are read as a ret, and are then no hardened table.
-pub fn kind_of(b: u8) -> LineKind
-    ensures { result ≡ line_kind_of b }
-{
-    match b {
-        Line::DO => LineKind::Do,
-        Line::TICK => LineKind::Tick,
-        Line::TEST => LineKind::Test,
-        Line::LEAVE => LineKind::Leave,
-        Line::OUT => LineKind::Out,
-        Line::CALL => LineKind::Call,
-        Line::BACK => LineKind::Back,
-        _ => LineKind::Ret,
+impl From<u8> for LineKind {
+    ghost from_gives = { λ b kind. kind ≡ line_kind_of b };
+
+    #[tactic(auto, unfolding(crate::specs::Read::line_kind_of))]
+    fn from(b: u8) -> LineKind {
+        match b {
+            Line::DO => LineKind::Do,
+            Line::TICK => LineKind::Tick,
+            Line::TEST => LineKind::Test,
+            Line::LEAVE => LineKind::Leave,
+            Line::OUT => LineKind::Out,
+            Line::CALL => LineKind::Call,
+            Line::BACK => LineKind::Back,
+            _ => LineKind::Ret,
+        }
     }
 }

@@ -5,7 +5,7 @@ ghost use Rattle.std.specs.Prelude.{◌≡◌, ◌+◌, ◌≤◌, ◌<◌, leng
 ghost use Rattle.rules.specs.Line.{line_width, no_operands, do_line, tick_line, test_line, leave_line, out_line, call_line, back_line, ret_line};
 ghost use Rattle.line.specs.Line.{struct, fields, put};
 
-use bytes::{copy, high, low};
+use bytes::spell;
 use rules::operands::Operands;
 
 pub mod bytes;
@@ -155,28 +155,34 @@ impl Line {
         requires { at + line_width ≤ length out.old }
         ensures { out.new ≡ put out.old at self }
     {
+        let n = spell(self.operands.n);
+        let e = spell(self.e);
+        let a = spell(self.a);
+        let b = spell(self.b);
+        let c = spell(self.c);
+        let go = spell(self.go);
         let bytes = [
             self.kind,
             self.operands.op,
             self.operands.p,
             self.operands.q,
-            low(self.operands.n),
-            high(self.operands.n),
+            n[0],
+            n[1],
             self.r,
             self.s,
             self.t,
             0,
-            low(self.e),
-            high(self.e),
-            low(self.a),
-            high(self.a),
-            low(self.b),
-            high(self.b),
-            low(self.c),
-            high(self.c),
-            low(self.go),
-            high(self.go),
+            e[0],
+            e[1],
+            a[0],
+            a[1],
+            b[0],
+            b[1],
+            c[0],
+            c[1],
+            go[0],
+            go[1],
         ];
-        copy(&bytes, out, at);
+        out[at..at + Line::WIDTH].copy_from_slice(&bytes);
     }
 }

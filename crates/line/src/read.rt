@@ -4,7 +4,7 @@ ghost use Rattle.rules.specs.Line.{line_width};
 ghost use Rattle.line.specs.Read.{struct_at, line_kind_at};
 
 use crate::Line;
-use crate::kind::{LineKind, kind_of};
+use crate::kind::LineKind;
 use rules::bytes::word;
 use rules::operands::Operands;
 
@@ -14,10 +14,11 @@ pub fn kind_at(lines: &[u8], k: u16) -> LineKind
     ensures { result ≡ line_kind_at lines.now k }
 {
     let at = Line::WIDTH * (k as usize);
-    kind_of(lines[at])
+    LineKind::from(lines[at])
 }
 
 // Line k.
+#[tactic(auto, unfolding(crate::specs::Read::struct_at))]
 pub fn line_at(lines: &[u8], k: u16) -> Line
     requires { line_width * k + line_width ≤ length lines.now }
     ensures { result ≡ struct_at lines.now k }

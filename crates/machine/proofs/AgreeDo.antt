@@ -8,8 +8,7 @@ use native.Mathlib.Omega.{arith}
 use lib.ListN.{length, get_or, set, drop, length-append}
 use lib.Seq.{drop-cons, set-append_seam}
 use Rattle.rules.specs.Line.{Line}
-use Rattle.rules.specs.declared.computed.Computed.{Computed}
-use Rattle.rules.specs.declared.computed.Computed.TheVariants.{Fits, Overflows}
+use Rattle.rules.specs.Computed.{Computed, Fits, Overflows}
 use Rattle.rules.specs.declared.step.Step.TheVariants.{Overflow}
 use Rattle.rules.specs.Variables.{variable, computed}
 use Rattle.rules.specs.State.{frame}

@@ -4,7 +4,7 @@ use mathlib.Core.List.{List}
 use Prim.Native.Nat.{ℕ, zero, suc, ◌+◌, ◌-◌, ◌≤◌, ◌<◌}
 use native.Mathlib.Omega.{arith}
 use lib.ListN.{length}
-use Rattle.rules.specs.declared.strike.Strike.TheVariants.{None}
+use Rattle.rules.specs.Strike.{None}
 use Rattle.rules.specs.declared.step.Step.TheVariants.{Went}
 use Rattle.rules.specs.Line.{Line, lines_in}
 use Rattle.rules.specs.Run.{Turn, on, ends, untaken, Answer, after, run}

@@ -3,3 +3,5 @@ pub mod Step
 pub mod Run
 pub mod Stands
 pub mod Map
+pub mod ReadyOnce
+pub mod Runnable

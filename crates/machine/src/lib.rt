@@ -4,3 +4,4 @@
 pub mod map;
 pub mod run;
 pub mod step;
+pub mod table;

@@ -16,28 +16,12 @@ fn pass(lines: &[u8], line: u16, function: u8, starts: &mut [u16; FUNCTIONS + 1]
     requires { (line_width * line + line_width ≤ length lines.now) × (line < 65535) × (function < max_functions) }
     ensures { passed result starts.new ≡ passed_of (line_kind_at lines.now line) line function starts.old }
 {
-    let kind = read::kind_at(lines, line);
-    let LineKind::Ret = kind else {
+    let LineKind::Ret = read::kind_at(lines, line) else {
         return function;
     };
     let next = function + 1;
-    let n = next as usize;
-    starts[n] = line + 1;
+    starts[next as usize] = line + 1;
     next
-}
-
-// A word for the first line of each function.
-pub fn no_starts() -> [u16; FUNCTIONS + 1]
-    ensures { length result ≡ max_functions + 1 }
-{
-    [0; FUNCTIONS + 1]
-}
-
-// A byte for the function of each line.
-pub fn no_owners() -> [u8; LINES + 1]
-    ensures { length result ≡ max_lines + 1 }
-{
-    [0; LINES + 1]
 }
 
 pub fn survey(lines: &[u8], starts: &mut [u16; FUNCTIONS + 1], owners: &mut [u8; LINES + 1])
@@ -47,12 +31,9 @@ pub fn survey(lines: &[u8], starts: &mut [u16; FUNCTIONS + 1], owners: &mut [u8;
     let count = (lines.len() / Line::WIDTH) as u16;
     starts[0] = 0;
     let mut function: u8 = 0;
-    let mut line: u16 = 0;
-    while line < count {
-        let k = line as usize;
-        owners[k] = function;
+    for line in 0..count {
+        owners[line as usize] = function;
         function = pass(lines, line, function, starts);
-        line += 1;
     }
 }
 

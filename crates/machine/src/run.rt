@@ -1,42 +1,39 @@
 // A run of at most as many steps as its budget.
 ghost use Rattle.std.specs.Prelude.{◌≡◌};
 ghost use Rattle.rules.specs.Line.{lines_in};
-ghost use Rattle.machine.specs.Step.{map_of};
 ghost use Rattle.machine.specs.Run.{parts_in, stopped_with, run_of};
-ghost use Rattle.machine.specs.Stands.{Ready, Going};
+ghost use Rattle.machine.specs.Runnable.{map_in};
+ghost use Rattle.machine.specs.Stands.{Going};
 
 use crate::step;
-use rules::limits::{FUNCTIONS, LINES};
+use crate::table::Runnable;
 use rules::step::Step;
 use state::machine;
 use state::machine::{Machine, Stopped};
 
-// Takes the machine apart, so that its registers stay in those of the processor, and puts it together where it stops.
+// Takes the machine apart, so that its registers stay in those of the processor, and puts it together where it stops. The counters and slots
+// are lent beside it, and `Going` speaks of all three: a fact about what is lent to be written can't stand in a struct yet.
 pub fn run_lines(
-    lines: &[u8],
-    starts: &[u16; FUNCTIONS + 1],
-    owners: &[u8; LINES + 1],
-    home: u16,
+    table: &Runnable,
     start: Machine,
     budget: u16,
     counters: &mut [u16],
     trace: &mut [u16],
 ) -> Stopped
-    requires { (Ready lines.now (map_of starts.now owners.now home)) × (Going (lines_in lines.now) budget (parts_in start counters.old trace.old)) }
-    ensures { stopped_with result counters.new trace.new ≡ run_of lines.now (map_of starts.now owners.now home) budget (parts_in start counters.old trace.old) }
+    requires { Going (lines_in table.now.lines.now) budget (parts_in start counters.old trace.old) }
+    ensures { stopped_with result counters.new trace.new ≡ run_of table.now.lines.now (map_in table.now) budget (parts_in start counters.old trace.old) }
 {
     let mut resumes = start.resumes;
     let mut functions = start.functions;
     let mut variables = start.variables;
     let mut h = start.registers;
-    let mut left = budget as usize;
-    while 0 < left {
+    for _ in 0..budget {
         let steps = h.steps + 1;
         let t = step::line(
-            lines,
-            starts,
-            owners,
-            home,
+            table.lines,
+            &table.starts,
+            &table.owners,
+            table.home,
             h,
             &mut resumes,
             &mut functions,
@@ -51,23 +48,14 @@ pub fn run_lines(
             return machine::at_end(s, resumes, functions, variables, e);
         };
         h = machine::standing(n, k, steps);
-        left -= 1;
     }
     machine::at_end(Step::Went(h.at), resumes, functions, variables, h)
 }
 
 // One step is a run of one.
-pub fn step(
-    lines: &[u8],
-    starts: &[u16; FUNCTIONS + 1],
-    owners: &[u8; LINES + 1],
-    home: u16,
-    machine: Machine,
-    counters: &mut [u16],
-    trace: &mut [u16],
-) -> Stopped
-    requires { (Ready lines.now (map_of starts.now owners.now home)) × (Going (lines_in lines.now) 1 (parts_in machine counters.old trace.old)) }
-    ensures { stopped_with result counters.new trace.new ≡ run_of lines.now (map_of starts.now owners.now home) 1 (parts_in machine counters.old trace.old) }
+pub fn step(table: &Runnable, machine: Machine, counters: &mut [u16], trace: &mut [u16]) -> Stopped
+    requires { Going (lines_in table.now.lines.now) 1 (parts_in machine counters.old trace.old) }
+    ensures { stopped_with result counters.new trace.new ≡ run_of table.now.lines.now (map_in table.now) 1 (parts_in machine counters.old trace.old) }
 {
-    run_lines(lines, starts, owners, home, machine, 1, counters, trace)
+    run_lines(table, machine, 1, counters, trace)
 }

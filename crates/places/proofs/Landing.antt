@@ -3,8 +3,7 @@ use mathlib.Core.Path.{◌≡◌, sym, ap, ◌∙◌}
 use mathlib.Core.Bool.{cond}
 use mathlib.Core.List.{List}
 use Prim.Native.Nat.{ℕ}
-use Rattle.rules.specs.declared.computed.Computed.{Computed}
-use Rattle.rules.specs.declared.computed.Computed.TheVariants.{Fits, Overflows}
+use Rattle.rules.specs.Computed.{Computed, Fits, Overflows}
 use Rattle.rules.specs.declared.ending.Ending.{Ending}
 use Rattle.rules.specs.declared.ending.Ending.TheVariants.{Unfinished}
 use Rattle.rules.specs.declared.operands.Operands.{Operands}

@@ -1,7 +1,7 @@
 -- A table that is not accepted, and one that is. Assumes nothing.
 use mathlib.Core.Path.{◌≡◌}
 use mathlib.Core.Bool.{Bool, true, false, ◌&&◌}
-use Rattle.rules.specs.declared.refusal.Verdict.{Verdict}
+use Rattle.rules.specs.Verdict.{Verdict}
 use Rattle.rules.specs.Refusal.{is_accepted}
 
 pub judged-refused : (v : Verdict) (b : Bool) → is_accepted v ≡ false → false ≡ is_accepted v && b

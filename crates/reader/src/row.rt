@@ -4,7 +4,7 @@ ghost use Rattle.rules.specs.Line.{line_width};
 ghost use Rattle.reader.specs.Row.{copied_row, call_row};
 
 use line::Line;
-use line::bytes::{high, low};
+use line::bytes::spell;
 use rows::row::Row;
 
 // A row with the fields of a line.
@@ -27,12 +27,13 @@ pub fn copied(kind: u8, lines: &[u8], line: u16) -> Row
 pub fn call(kind: u8, function: u16) -> Row
     ensures { result ≡ call_row kind function }
 {
+    let [low, high] = spell(function);
     Row {
         kind,
         op: 0,
         p: 0,
         q: 0,
-        low: low(function),
-        high: high(function),
+        low,
+        high,
     }
 }

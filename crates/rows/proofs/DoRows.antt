@@ -9,11 +9,12 @@ use native.Mathlib.Omega.{arith}
 use lib.Dec.{eqb}
 use lib.ListN.{length, drop, take, get_or}
 use borrow.Author.Tests.{ne_eqb}
+use Rattle.rules.specs.declared.operands.Operands.{Operands}
 use Rattle.rules.specs.declared.kind.Kind.{Kind}
 use Rattle.rules.specs.declared.kind.Kind.TheVariants.{Function, Do, If, Else, Loop, End, Break, Continue, Call, Unknown}
 use Rattle.rules.specs.Row.{row_width, kind_of, row_in, do_uses_lem, fields_fit_lem}
 use Rattle.rules.proofs.Logic.{clash}
-use Rattle.rows.specs.First.{fields, proper_kind, first_kind_lem}
+use Rattle.rows.specs.First.{proper_kind, first_kind_lem}
 use Rattle.rows.specs.Dos.{is_do_lem, DosAre}
 use Rattle.rows.proofs.Rows.{rest_all}
 
@@ -60,12 +61,9 @@ pub other_row : (xs : List ℕ) → (get_or xs 0 0 ≡ 2 → ⊥) → false ≡ 
 unfolding proper_kind row_in
 other_row xs h = sym (still-none (fields_fit_lem (kind_of (get_or xs 0 0)) (row_in xs 0).operands) (kind_of (get_or xs 0 0)) (other-kind (get_or xs 0 0) h))
 
-pub do-row : (xs : List ℕ) {n : ℕ} {f : Bool} → get_or xs 0 0 ≡ 2 → n ≡ get_or xs 4 0 + 256 * get_or xs 5 0
-    → f ≡ do_uses_lem (fields (get_or xs 1 0) (get_or xs 2 0) (get_or xs 3 0) n) → f ≡ is_do_lem (first_kind_lem xs)
+pub do-row : (xs : List ℕ) {o : Operands} {f : Bool} → get_or xs 0 0 ≡ 2 → o ≡ (row_in xs 0).operands → f ≡ do_uses_lem o → f ≡ is_do_lem (first_kind_lem xs)
 unfolding proper_kind row_in kind_of fields_fit_lem
-do-row xs e w q =
-    q ∙ ap (λ m. do_uses_lem (fields (get_or xs 1 0) (get_or xs 2 0) (get_or xs 3 0) m)) w
-    ∙ sym (rw e (do-where (do_uses_lem (fields (get_or xs 1 0) (get_or xs 2 0) (get_or xs 3 0) (get_or xs 4 0 + 256 * get_or xs 5 0)))))
+do-row xs e w q = q ∙ ap do_uses_lem w ∙ sym (rw e (do-where _))
 
 pub ruleset doing-row = (other_row, do-row)
 

@@ -4,20 +4,18 @@ ghost use Rattle.rules.specs.declared.kind.Kind.{Kind};
 ghost use Rattle.rows.specs.First.{first_kind_lem};
 ghost use Rattle.rows.specs.Dos.{is_do_lem, DosAre};
 
-use crate::first::word;
+use crate::WIDTH;
+use crate::first::operands;
 use crate::fits::do_uses;
 use crate::kind::DO;
-use crate::{LAST, WIDTH};
 
 // The row that the bytes begin with is a do, and its fields are as a do uses them.
 fn is_do(rows: &[u8]) -> bool
     requires { 5 < length rows.now }
     ensures { result ≡ is_do_lem (first_kind_lem rows.now) }
 {
-    if rows[0] != DO {
-        return false;
-    }
-    do_uses(rows[1], rows[2], rows[3], word(rows[4], rows[5]))
+    let o = operands(rows);
+    rows[0] == DO && do_uses(o)
 }
 
 // The dos that the bytes begin with, where they begin with one.
@@ -25,14 +23,12 @@ pub fn dos(rows: &[u8]) -> usize
     requires { (5 < length rows.now) × (first_kind_lem rows.now ≡ Kind.Do) }
     ensures { DosAre rows.now result }
 {
-    let mut at = 1;
-    while WIDTH * at + LAST < rows.len() {
+    let count = rows.len() / WIDTH;
+    for at in 1..count {
         let from = WIDTH * at;
-        if is_do(&rows[from..]) {
-            at += 1;
-        } else {
+        if !is_do(&rows[from..]) {
             return at;
         }
     }
-    at
+    count
 }

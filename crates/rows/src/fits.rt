@@ -1,11 +1,11 @@
 // Whether a row's fields are as its kind uses them (cause 3).
-ghost use Rattle.std.specs.Prelude.{◌≡◌, ◌&&◌};
+ghost use Rattle.std.specs.Prelude.{◌≡◌};
 ghost use Rattle.rules.specs.Row.{fields_fit_lem, is_unused, is_variable, uses_none_lem, uses_number_lem, uses_variable_lem, uses_function_lem, do_uses_lem, test_uses_lem};
 ghost use Rattle.rules.specs.Given.{uses_switch_lem};
-ghost use Rattle.rows.specs.First.{fields};
 
 use rules::kind::Kind;
 use rules::limits::VARIABLES;
+use rules::operands::Operands;
 
 fn unused(x: u8) -> bool
     ensures { result ≡ is_unused x }
@@ -13,98 +13,75 @@ fn unused(x: u8) -> bool
     x == 0
 }
 
-fn unused_word(n: usize) -> bool
-    ensures { result ≡ is_unused n }
-{
-    n == 0
-}
-
 fn variable(x: u8) -> bool
     ensures { result ≡ is_variable x }
 {
-    (x as usize) < VARIABLES
+    usize::from(x) < VARIABLES
 }
 
-fn both(a: bool, b: bool) -> bool
-    ensures { result ≡ a && b }
+fn uses_none(o: Operands) -> bool
+    ensures { result ≡ uses_none_lem o }
 {
-    if a { b } else { false }
+    unused(o.op) && unused(o.p) && unused(o.q) && o.n == 0
 }
 
-fn uses_none(op: u8, p: u8, q: u8, n: usize) -> bool
-    ensures { result ≡ uses_none_lem (fields op p q n) }
+fn uses_number(o: Operands) -> bool
+    ensures { result ≡ uses_number_lem o }
 {
-    both(both(both(unused(op), unused(p)), unused(q)), unused_word(n))
+    variable(o.p) && unused(o.q)
 }
 
-fn uses_number(op: u8, p: u8, q: u8, n: usize) -> bool
-    ensures { result ≡ uses_number_lem (fields op p q n) }
+fn uses_variable(o: Operands) -> bool
+    ensures { result ≡ uses_variable_lem o }
 {
-    both(variable(p), unused(q))
+    variable(o.p) && variable(o.q) && o.n == 0
 }
 
-fn uses_variable(op: u8, p: u8, q: u8, n: usize) -> bool
-    ensures { result ≡ uses_variable_lem (fields op p q n) }
+fn uses_function(o: Operands) -> bool
+    ensures { result ≡ uses_function_lem o }
 {
-    both(both(variable(p), variable(q)), unused_word(n))
-}
-
-fn uses_function(op: u8, p: u8, q: u8, n: usize) -> bool
-    ensures { result ≡ uses_function_lem (fields op p q n) }
-{
-    both(both(unused(op), unused(p)), unused(q))
+    unused(o.op) && unused(o.p) && unused(o.q)
 }
 
 // The fields of a switch (02, No. 1).
-pub fn uses_switch(op: u8, p: u8, q: u8, n: usize) -> bool
-    ensures { result ≡ uses_switch_lem (fields op p q n) }
+pub fn uses_switch(o: Operands) -> bool
+    ensures { result ≡ uses_switch_lem o }
 {
-    both(
-        both(both(unused(op), variable(p)), unused(q)),
-        unused_word(n),
-    )
+    unused(o.op) && variable(o.p) && unused(o.q) && o.n == 0
 }
 
 // The fields of a do.
-pub fn do_uses(op: u8, p: u8, q: u8, n: usize) -> bool
-    ensures { result ≡ do_uses_lem (fields op p q n) }
+pub fn do_uses(o: Operands) -> bool
+    ensures { result ≡ do_uses_lem o }
 {
-    if op == 0 {
-        return uses_number(op, p, q, n);
+    match o.op {
+        0 => uses_number(o),
+        1..=3 => uses_variable(o),
+        _ => false,
     }
-    if op < 4 {
-        return uses_variable(op, p, q, n);
-    }
-    false
 }
 
 // The fields of an if or a loop.
-fn test_uses(op: u8, p: u8, q: u8, n: usize) -> bool
-    ensures { result ≡ test_uses_lem (fields op p q n) }
+fn test_uses(o: Operands) -> bool
+    ensures { result ≡ test_uses_lem o }
 {
-    if op < 2 {
-        return uses_number(op, p, q, n);
+    match o.op {
+        0 | 1 => uses_number(o),
+        2 => uses_variable(o),
+        _ => false,
     }
-    if op == 2 {
-        return uses_variable(op, p, q, n);
-    }
-    false
 }
 
 // The fields of a row of this kind.
-pub fn fields_fit(kind: Kind, op: u8, p: u8, q: u8, n: usize) -> bool
-    ensures { result ≡ fields_fit_lem kind (fields op p q n) }
+#[tactic(auto, unfolding(rules::specs::Row::fields_fit_lem))]
+pub fn fields_fit(kind: Kind, o: Operands) -> bool
+    ensures { result ≡ fields_fit_lem kind o }
 {
     match kind {
-        Kind::Function => uses_none(op, p, q, n),
-        Kind::Do => do_uses(op, p, q, n),
-        Kind::If => test_uses(op, p, q, n),
-        Kind::Else => uses_none(op, p, q, n),
-        Kind::Loop => test_uses(op, p, q, n),
-        Kind::End => uses_none(op, p, q, n),
-        Kind::Break => uses_none(op, p, q, n),
-        Kind::Continue => uses_none(op, p, q, n),
-        Kind::Call => uses_function(op, p, q, n),
+        Kind::Function | Kind::Else | Kind::End | Kind::Break | Kind::Continue => uses_none(o),
+        Kind::Do => do_uses(o),
+        Kind::If | Kind::Loop => test_uses(o),
+        Kind::Call => uses_function(o),
         Kind::Unknown => false,
     }
 }

@@ -1,7 +1,7 @@
 -- Each op of a do and of a test as a worked case (01, "The source table"; 02, No. 5). proofs/Arithmetic.antt closes them by computation.
 use Rattle.std.specs.Prelude.{ℕ, ◌≡◌, true, false}
 use Rattle.rules.specs.declared.operands.Operands.{Operands}
-use Rattle.rules.specs.declared.computed.Computed.TheVariants.{Fits, Overflows}
+use Rattle.rules.specs.Computed.{Fits, Overflows}
 use Rattle.rules.specs.Variables.{computed, done_on, holds_on}
 use Rattle.rules.specs.Listing.{variables}
 

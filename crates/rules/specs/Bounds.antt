@@ -1,7 +1,7 @@
 -- What every hardened table keeps within, as a type: the machine's arrays and 16 bits. proofs/Bounds.antt proves it.
 use Rattle.std.specs.Prelude.{ℕ, suc, ◌*◌, ◌≤◌, ◌<◌, ◌≡◌, List, length}
 use Rattle.rules.specs.declared.operands.Operands.{Operands}
-use Rattle.rules.specs.declared.refusal.Verdict.TheVariants.{Accepted}
+use Rattle.rules.specs.Verdict.{Accepted}
 use Rattle.rules.specs.Limits.{max_rows, max_functions, max_regions, max_variables}
 use Rattle.rules.specs.Bytes.{AreBytes}
 use Rattle.rules.specs.Row.{table_of}

@@ -4,8 +4,7 @@ use Rattle.std.specs.Prelude.{ℕ, Bool, ◌||◌, not, List, ◌++◌, ltb, len
 use Rattle.rules.specs.declared.answer.Wrote.{Wrote}
 use Rattle.rules.specs.declared.answer.Ran.{Ran}
 use Rattle.rules.specs.declared.refusal.Refusal.TheVariants.{ShortOutput, ShortRoom, NotHardened}
-use Rattle.rules.specs.declared.refusal.Verdict.{Verdict}
-use Rattle.rules.specs.declared.refusal.Verdict.TheVariants.{Accepted, Refused}
+use Rattle.rules.specs.Verdict.{Verdict, Accepted, Refused}
 use Rattle.rules.specs.Limits.{counter_words}
 use Rattle.rules.specs.Row.{table_of}
 use Rattle.rules.specs.Refusal.{number_of, refuse_if_lem, and_then}

@@ -1,8 +1,7 @@
 -- What holds of tables as given and their chains, as types. proofs/Switch/ proves them.
 use Rattle.std.specs.Prelude.{ℕ, ◌+◌, ◌*◌, ◌/◌, ◌≤◌, ◌<◌, ◌≢◌, ◌↔◌, ◌≡◌, Bool, true, false, List, [], ◌∷◌, length, get_or}
 use Rattle.rules.specs.declared.refusal.Refusal.TheVariants.{TooManyParts}
-use Rattle.rules.specs.declared.refusal.Verdict.{Verdict}
-use Rattle.rules.specs.declared.refusal.Verdict.TheVariants.{Accepted, Refused}
+use Rattle.rules.specs.Verdict.{Verdict, Accepted, Refused}
 use Rattle.rules.specs.Bytes.{AreBytes}
 use Rattle.rules.specs.Limits.{max_rows, max_constructs}
 use Rattle.rules.specs.Row.{row_width, table_of}

@@ -3,8 +3,7 @@ use Rattle.std.specs.Prelude.{ℕ, zero, suc, ◌-◌, ◌%◌, ◌/◌, Bool, t
 use Rattle.rules.specs.declared.kind.Kind.{Kind}
 use Rattle.rules.specs.declared.kind.Kind.TheVariants.{Function, Do, If, Else, Loop, End, Break, Continue, Call, Unknown}
 use Rattle.rules.specs.declared.refusal.Refusal.TheVariants.{NoWholeRows, TooManyRows, WrongField, Misplaced, TooManyFunctions, TooManyParts, NoSuchFunction}
-use Rattle.rules.specs.declared.refusal.Verdict.{Verdict}
-use Rattle.rules.specs.declared.refusal.Verdict.TheVariants.{Accepted}
+use Rattle.rules.specs.Verdict.{Verdict, Accepted}
 use Rattle.rules.specs.Limits.{max_rows, max_functions, max_constructs, max_regions}
 use Rattle.rules.specs.Row.{Table, row_width, table_of, kind_at, operands_at, fields_fit_lem}
 use Rattle.rules.specs.Scan.{Part, body, then_part, else_part, loop_body, Open, part_of, regions, open_at, body_region, from_loop, is_function_lem, functions, function_count}

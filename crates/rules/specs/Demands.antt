@@ -33,7 +33,7 @@
 -- with the lines, before values, budget and jump: so one whose guards all pass does not meet `caught`, and one whose guards all refuse
 -- does not meet `no_alarm`.
 use Rattle.std.specs.Prelude.{ℕ, suc, ◌+◌, ◌≤◌, ◌<◌, ◌≢◌, ◌≡◌, Bool, true, false, cond, not, ◌&&◌, List, eqb, ltb}
-use Rattle.rules.specs.declared.strike.Strike.TheVariants.{None}
+use Rattle.rules.specs.Strike.{None}
 use Rattle.rules.specs.declared.step.Step.TheVariants.{Beyond}
 use Rattle.rules.specs.Limits.{no_step}
 use Rattle.rules.specs.declared.kind.Kind.TheVariants.{Do}

@@ -4,7 +4,7 @@ use Rattle.std.specs.Prelude.{ℕ, zero, suc, ◌+◌, max, ◌≡◌, Bool, fal
 use Rattle.rules.specs.declared.sums.Sums.{Sums}
 use Rattle.rules.specs.declared.kind.Kind.{Kind}
 use Rattle.rules.specs.declared.kind.Kind.TheVariants.{Function, Do, If, Else, Loop, End, Break, Continue, Call, Unknown}
-use Rattle.rules.specs.declared.refusal.Verdict.TheVariants.{Accepted}
+use Rattle.rules.specs.Verdict.{Accepted}
 use Rattle.rules.specs.Limits.{max_regions}
 use Rattle.rules.specs.Row.{Table, table_of}
 use Rattle.rules.specs.Scan.{body, shape_of, regions_after, is_function_lem}

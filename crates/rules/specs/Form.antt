@@ -2,8 +2,7 @@
 -- forms differ only in what an open function keeps for the checks, and in what a guard compares and changes: `Form`.
 use Rattle.std.specs.Prelude.{ℕ, suc, ◌+◌, Bool, true, false, cond, List, [], ◌∷◌, eqb, ltb, leb}
 use Rattle.rules.specs.declared.step.Step.TheVariants.{Finished, Alarm, TooManyOpen, Beyond}
-use Rattle.rules.specs.declared.strike.Strike.{Strike}
-use Rattle.rules.specs.declared.strike.Strike.TheVariants.{None, Jump}
+use Rattle.rules.specs.Strike.{Strike, None, Jump}
 use Rattle.rules.specs.Limits.{max_open, no_step}
 use Rattle.rules.specs.Variables.{holds_on}
 use Rattle.rules.specs.State.{Frame, State, begin, go_to, opening, returning, depth}

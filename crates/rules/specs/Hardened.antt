@@ -1,7 +1,7 @@
 -- The counter form of hardened lines: what an open function keeps are the counters of its regions (01, "The hardened lines"). A run of
 -- it is a run of the machine of specs/Form.
 use Rattle.std.specs.Prelude.{ℕ, Bool, true, cond, ◌&&◌, List, [], eqb, leb}
-use Rattle.rules.specs.declared.strike.Strike.{Strike}
+use Rattle.rules.specs.Strike.{Strike}
 use Rattle.rules.specs.State.{Frame, State}
 use Rattle.rules.specs.Run.{Turn, Answer}
 use Rattle.rules.specs.Line.{Line, do_line, tick_line, test_line, leave_line, out_line, call_line, back_line, ret_line}

@@ -3,6 +3,7 @@ pub mod Bytes
 pub mod Row
 pub mod Scan
 pub mod Refusal
+pub mod Verdict
 pub mod Check
 pub mod Switch
 pub mod Given
@@ -11,10 +12,12 @@ pub mod Line
 pub mod Harden
 pub mod Function
 pub mod ReadBack
+pub mod Computed
 pub mod Variables
 pub mod State
 pub mod Run
 pub mod Source
+pub mod Strike
 pub mod Form
 pub mod Hardened
 pub mod Calls

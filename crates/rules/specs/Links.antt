@@ -3,8 +3,7 @@
 use Rattle.std.specs.Prelude.{ℕ, ◌<◌, ◌≡◌, Bool, true, false, cond, List, length, get_or}
 use Rattle.rules.specs.declared.kind.Kind.{Kind}
 use Rattle.rules.specs.declared.kind.Kind.TheVariants.{Function, Do, If, Else, Loop, End, Break, Continue, Call, Unknown}
-use Rattle.rules.specs.declared.refusal.Verdict.{Verdict}
-use Rattle.rules.specs.declared.refusal.Verdict.TheVariants.{Accepted}
+use Rattle.rules.specs.Verdict.{Verdict, Accepted}
 use Rattle.rules.specs.Row.{Table, table_of, kind_at}
 use Rattle.rules.specs.Scan.{end_of, else_of, has_else, function_count, function_row}
 use Rattle.rules.specs.Check.{verdict_of}

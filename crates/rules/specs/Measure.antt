@@ -3,8 +3,7 @@
 use Rattle.std.specs.Prelude.{ℕ, ◌*◌, ◌≤◌, ◌<◌, ◌≢◌, ◌≡◌, List, length}
 use Rattle.rules.specs.declared.answer.Measured.{Measured}
 use Rattle.rules.specs.declared.sums.Sums.{Sums}
-use Rattle.rules.specs.declared.refusal.Verdict.{Verdict}
-use Rattle.rules.specs.declared.refusal.Verdict.TheVariants.{Accepted, Refused}
+use Rattle.rules.specs.Verdict.{Verdict, Accepted, Refused}
 use Rattle.rules.specs.Row.{table_of}
 use Rattle.rules.specs.Refusal.{number_of}
 use Rattle.rules.specs.Switch.{chain_bytes}

@@ -1,7 +1,7 @@
 -- Demand 2 of reading back for the tables of 01, as types. proofs/Reading.antt proves them; specs/Chained.antt has it for tables with
 -- switches.
 use Rattle.std.specs.Prelude.{ℕ, ◌↔◌, ◌≡◌, true, List}
-use Rattle.rules.specs.declared.refusal.Verdict.TheVariants.{Accepted}
+use Rattle.rules.specs.Verdict.{Accepted}
 use Rattle.rules.specs.Bytes.{AreBytes}
 use Rattle.rules.specs.Check.{verdict_of}
 use Rattle.rules.specs.Harden.{hardened_bytes}

@@ -5,7 +5,7 @@
 use Rattle.std.specs.Prelude.{ℕ, suc, ◌-◌, ◌≤◌, ◌<◌, ◌≡◌, Bool, true, false, cond, List, eqb}
 use Rattle.rules.specs.declared.ending.Ending.{Ending}
 use Rattle.rules.specs.declared.ending.Ending.TheVariants.{Alarmed, Same, Other, Unfinished}
-use Rattle.rules.specs.declared.strike.Strike.TheVariants.{None}
+use Rattle.rules.specs.Strike.{None}
 use Rattle.rules.specs.Limits.{no_step}
 use Rattle.rules.specs.Line.{Line, do_line, tick_line, test_line, leave_line, out_line, call_line, back_line, ret_line, line_at, lines_in}
 use Rattle.rules.specs.Function.{start_of, finish_of}

@@ -5,8 +5,7 @@ use Rattle.rules.specs.declared.answer.Swept.{Swept}
 use Rattle.rules.specs.declared.answer.AnyOther.{AnyOther}
 use Rattle.rules.specs.declared.ending.Counts.{Counts}
 use Rattle.rules.specs.declared.refusal.Refusal.TheVariants.{NotFinished}
-use Rattle.rules.specs.declared.refusal.Verdict.{Verdict}
-use Rattle.rules.specs.declared.refusal.Verdict.TheVariants.{Accepted, Refused}
+use Rattle.rules.specs.Verdict.{Verdict, Accepted, Refused}
 use Rattle.rules.specs.Refusal.{number_of, refuse_if_lem, and_then}
 use Rattle.rules.specs.Line.{lines_in}
 use Rattle.rules.specs.Run.{Answer, outcome_of_lem}

@@ -1,7 +1,7 @@
 -- What a caller is promised of the calls that give or judge tables, about the numbers and bytes that come back: the definition of the
 -- call, and demand 2 of reading back for exactly its bytes. proofs/TablePromise.antt proves it of the definitions.
 use Rattle.std.specs.Prelude.{ℕ, ◌≤◌, ◌≡◌, List, length, take}
-use Rattle.rules.specs.declared.refusal.Verdict.TheVariants.{Accepted}
+use Rattle.rules.specs.Verdict.{Accepted}
 use Rattle.rules.specs.Switch.{chain_bytes}
 use Rattle.rules.specs.Chained.{TenExactly, OnlySource}
 use Rattle.rules.specs.Calls.{Writing, writing, harden_call, check_hardened_call, read_back_call}

@@ -1,7 +1,6 @@
 -- What a do and a test do with the variables (01, "The source table"; 02, No. 5).
 use Rattle.std.specs.Prelude.{ℕ, ◌+◌, ◌-◌, Bool, true, false, cond, not, List, eqb, ltb, leb, get_or, set}
-use Rattle.rules.specs.declared.computed.Computed.{Computed}
-use Rattle.rules.specs.declared.computed.Computed.TheVariants.{Fits, Overflows}
+use Rattle.rules.specs.Computed.{Computed, Fits, Overflows}
 use Rattle.rules.specs.declared.operands.Operands.{Operands}
 
 -- 02, No. 5: "A do whose sum passes 65,535 or whose difference falls below 0"

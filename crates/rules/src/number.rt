@@ -2,32 +2,28 @@
 ghost use Rattle.std.specs.Prelude.{◌≡◌};
 ghost use Rattle.rules.specs.Refusal.{refusal_number, number_of};
 
-use crate::refusal::{Refusal, Verdict};
+use crate::refusal::Refusal;
+
+impl From<Refusal> for u8 {
+    ghost from_gives = { λ r n. n ≡ refusal_number r };
+
+    fn from(r: Refusal) -> u8 {
+        r as u8
+    }
+}
 
 pub fn of_refusal(r: Refusal) -> u8
     ensures { result ≡ refusal_number r }
 {
-    match r {
-        Refusal::NoWholeRows => 1,
-        Refusal::TooManyRows => 2,
-        Refusal::WrongField => 3,
-        Refusal::Misplaced => 4,
-        Refusal::TooManyFunctions => 5,
-        Refusal::TooManyParts => 6,
-        Refusal::NoSuchFunction => 7,
-        Refusal::ShortOutput => 8,
-        Refusal::ShortRoom => 9,
-        Refusal::NotHardened => 10,
-        Refusal::RepeatedCase => 11,
-        Refusal::NotFinished => 13,
-    }
+    u8::from(r)
 }
 
-pub fn of_verdict(v: Verdict) -> u8
+// Accepted is 0.
+pub fn of_verdict(v: Result<(), Refusal>) -> u8
     ensures { result ≡ number_of v }
 {
     match v {
-        Verdict::Accepted => 0,
-        Verdict::Refused(r) => of_refusal(r),
+        Ok(()) => 0,
+        Err(r) => u8::from(r),
     }
 }

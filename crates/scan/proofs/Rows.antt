@@ -9,7 +9,7 @@ use lib.ListN.{length, drop, length-drop}
 use Rattle.rules.specs.declared.kind.Kind.{Kind}
 use Rattle.rules.specs.declared.kind.Kind.TheVariants.{Unknown}
 use Rattle.rules.specs.declared.refusal.Refusal.TheVariants.{WrongField, Misplaced, TooManyParts}
-use Rattle.rules.specs.declared.refusal.Verdict.TheVariants.{Refused}
+use Rattle.rules.specs.Verdict.{Refused}
 use Rattle.rules.specs.Limits.{max_functions}
 use Rattle.rules.specs.Row.{row_width, table_of}
 use Rattle.rules.specs.Scan.{Open, Shape, shape_of, regions_after, open_after_lem, regions, open_at, is_function_lem, functions}

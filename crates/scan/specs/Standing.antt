@@ -1,6 +1,6 @@
 -- Where the pass stands before a row: what is open there, as numbers and bytes. Assumes nothing: these are definitions.
 use Rattle.std.specs.Prelude.{ℕ, zero, suc, ◌+◌, ◌-◌, ◌≤◌, ◌≡◌, cond, List, [], ◌∷◌, eqb, length, get_or}
-use Rattle.rules.specs.declared.refusal.Verdict.TheVariants.{Accepted}
+use Rattle.rules.specs.Verdict.{Accepted}
 use Rattle.rules.specs.Limits.{max_functions, max_constructs, max_regions}
 use Rattle.rules.specs.Row.{table_of}
 use Rattle.rules.specs.Scan.{Part, body, then_part, else_part, loop_body, Open, regions, open_at, body_region, functions}

@@ -1,7 +1,6 @@
 -- What may still strike a run that is made step by step, as the rest of it sees it.
 use Rattle.std.specs.Prelude.{ℕ, ◌-◌, Bool, false, cond, List, eqb}
-use Rattle.rules.specs.declared.strike.Strike.{Strike}
-use Rattle.rules.specs.declared.strike.Strike.TheVariants.{None, Jump}
+use Rattle.rules.specs.Strike.{Strike, None, Jump}
 use Rattle.machine.specs.Step.{Map, Parts, After}
 use Rattle.machine.specs.Run.{run_of}
 use Rattle.strike.specs.Struck.{land_of}

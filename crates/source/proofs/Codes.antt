@@ -12,7 +12,7 @@ use borrow.Author.Tests.{eqb-true, ltb-true}
 use Rattle.rules.specs.declared.operands.Operands.{Operands}
 use Rattle.rules.specs.declared.kind.Kind.{Kind}
 use Rattle.rules.specs.declared.kind.Kind.TheVariants.{Function, Do, If, Else, Loop, End, Break, Continue, Call, Unknown}
-use Rattle.rules.specs.declared.refusal.Verdict.TheVariants.{Accepted}
+use Rattle.rules.specs.Verdict.{Accepted}
 use Rattle.rules.specs.Row.{Table, table_of, kind_at, operands_at, uses_number_lem, uses_variable_lem, do_uses_lem, test_uses_lem, fields_fit_lem}
 use Rattle.rules.specs.Scan.{Open, Part, body, then_part, else_part, loop_body, open_at, part_of, from_loop}
 use Rattle.rules.specs.Check.{is_outside, verdict_of}
@@ -20,6 +20,7 @@ use Rattle.rules.specs.Links.{is_opening}
 use Rattle.rules.proofs.Logic.{clash, and_left}
 use Rattle.rules.proofs.Value.{held}
 use Rattle.rules.proofs.Accepted.{proper, table-length}
+use Rattle.layout.specs.declared.scope.Scope.{Scope}
 use Rattle.layout.specs.Scope.{Surveyed}
 use Rattle.layout.specs.Spot.{Inside, InLoop}
 use Rattle.layout.proofs.Around.{opened-by}
@@ -79,7 +80,7 @@ loop-open : (fs : List Open) → is_outside (from_loop fs) ≡ false → is_outs
 loop-open [] e = clash refl e
 loop-open (f ∷ fs) e = refl
 
-module _ {bs m : List ℕ} {i : ℕ} (s : Surveyed bs m) (l : i < length bs / 6) where
+module _ {bs : List ℕ} {m : List Scope} {i : ℕ} (s : Surveyed bs m) (l : i < length bs / 6) where
   abbrev t : Table
   t = table_of bs
 

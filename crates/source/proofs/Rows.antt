@@ -10,7 +10,7 @@ use lib.ListN.{length}
 use borrow.Author.Tests.{ltb-true}
 use Rattle.rules.specs.declared.kind.Kind.{Kind}
 use Rattle.rules.specs.declared.kind.Kind.TheVariants.{If, Else, End, Break, Continue, Call}
-use Rattle.rules.specs.declared.refusal.Verdict.TheVariants.{Accepted}
+use Rattle.rules.specs.Verdict.{Accepted}
 use Rattle.rules.specs.Row.{Table, table_of, kind_at, operands_at}
 use Rattle.rules.specs.Scan.{Part, Open, pushes, closes, stays, shape_of, open_after_lem, regions, open_at, part_of, opener_of, around, from_loop, end_of, else_of, has_else, function_row}
 use Rattle.rules.specs.Check.{is_outside, misplaced_in, verdict_of}

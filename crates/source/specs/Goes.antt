@@ -2,7 +2,7 @@
 use Rattle.std.specs.Prelude.{ℕ, suc, ◌+◌, ◌*◌, ◌<◌, ◌≡◌, List, length, get_or}
 use Rattle.rules.specs.declared.kind.Kind.{Kind}
 use Rattle.rules.specs.declared.kind.Kind.TheVariants.{Function, Do, If, Else, Loop, End, Break, Continue, Call, Unknown}
-use Rattle.rules.specs.declared.refusal.Verdict.TheVariants.{Accepted}
+use Rattle.rules.specs.Verdict.{Accepted}
 use Rattle.rules.specs.Row.{Table, table_of, kind_at, operands_at}
 use Rattle.rules.specs.Scan.{Part, body, then_part, else_part, loop_body, open_at, part_of, opener_of, from_loop, end_of, function_row}
 use Rattle.rules.specs.Check.{verdict_of}

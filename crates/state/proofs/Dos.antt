@@ -4,8 +4,7 @@ use mathlib.Core.List.{List}
 use mathlib.Core.Bool.{Bool, true, false, cond}
 use Prim.Native.Nat.{ℕ, ◌+◌, ◌-◌}
 use lib.Dec.{eqb, leb}
-use Rattle.rules.specs.declared.computed.Computed.{Computed}
-use Rattle.rules.specs.declared.computed.Computed.TheVariants.{Fits, Overflows}
+use Rattle.rules.specs.Computed.{Computed, Fits, Overflows}
 use Rattle.rules.specs.declared.operands.Operands.{Operands}
 use Rattle.rules.specs.declared.step.Step.TheVariants.{Overflow}
 use Rattle.rules.specs.Variables.{variable, computed}

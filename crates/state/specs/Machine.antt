@@ -1,8 +1,7 @@
 -- What a run keeps, as its steps change it: the registers, the functions that wait, the variables and the trace.
 use Rattle.std.specs.Prelude.{ℕ, ◌+◌, ◌<◌, List, length, set, replicate}
 use Rattle.rules.specs.declared.answer.Ran.{Ran}
-use Rattle.rules.specs.declared.computed.Computed.{Computed}
-use Rattle.rules.specs.declared.computed.Computed.TheVariants.{Fits, Overflows}
+use Rattle.rules.specs.Computed.{Computed, Fits, Overflows}
 use Rattle.rules.specs.declared.operands.Operands.{Operands}
 use Rattle.rules.specs.declared.step.Step.{Step}
 use Rattle.rules.specs.declared.step.Step.TheVariants.{Went, Finished, Alarm, TooManyOpen, Beyond, Overflow}

@@ -8,6 +8,7 @@ use rules::answer::Ran;
 use rules::step::Step;
 
 // The number that 01 has for what a run ended with.
+#[tactic(auto, unfolding(rules::specs::Run::outcome_of_lem))]
 pub fn outcome_of(step: Step) -> u8
     ensures { result ≡ outcome_of_lem step }
 {
@@ -25,14 +26,11 @@ pub fn outcome_of(step: Step) -> u8
 pub fn answer(x: Stopped) -> Ran
     ensures { result ≡ ran_of x }
 {
-    let s = x.step;
-    let m = x.machine;
-    let h = m.registers;
-    let variables = m.variables;
-    let outcome = outcome_of(s);
+    let h = x.machine.registers;
+    let variables = x.machine.variables;
     Ran {
         number: 0,
-        outcome,
+        outcome: outcome_of(x.step),
         steps: h.steps,
         traced: h.traced,
         variables,

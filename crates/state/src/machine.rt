@@ -7,7 +7,7 @@ use rules::step::Step;
 
 // The numbers of a run: the functions that wait for the running one are as many as `depth`; `at` is the row or the line where the run
 // is, `last` what region 0 of the function that returned last ended at.
-#[derive(Clone, Copy)]
+#[derive(Clone, Copy, Default)]
 pub struct Registers {
     pub depth: u16,
     pub function: u8,
@@ -66,40 +66,26 @@ pub fn stay(step: Step, registers: Registers) -> Moved
     Moved { step, registers }
 }
 
-// The registers with `at` and the steps set. Here and below they are made field by field: a copy that is then changed stays in memory,
-// and a step took four times as long.
+// The registers with `at` and the steps set. Here and below they are made anew: a copy that is then changed stays in memory, and a step
+// took four times as long.
 pub fn standing(h: Registers, at: u16, steps: u16) -> Registers
     ensures { result ≡ registers_at h at steps }
 {
-    Registers {
-        depth: h.depth,
-        function: h.function,
-        at,
-        last: h.last,
-        steps,
-        traced: h.traced,
-    }
+    Registers { at, steps, ..h }
 }
 
 // The machine that a run starts in: function 0 alone is open, at its first row or line.
 pub fn begun(at: u16, variables: [u16; VARIABLES]) -> Machine
     ensures { result ≡ begun_at at variables }
 {
-    let resumes = [0; OPEN];
-    let functions = [0; OPEN];
-    let registers = Registers {
-        depth: 0,
-        function: 0,
-        at,
-        last: 0,
-        steps: 0,
-        traced: 0,
-    };
     Machine {
-        resumes,
-        functions,
+        resumes: [0; OPEN],
+        functions: [0; OPEN],
         variables,
-        registers,
+        registers: Registers {
+            at,
+            ..Registers::default()
+        },
     }
 }
 
@@ -107,16 +93,9 @@ pub fn begun(at: u16, variables: [u16; VARIABLES]) -> Machine
 pub fn at_line(m: Machine, at: u16) -> Machine
     ensures { result ≡ machine_at m at }
 {
-    let resumes = m.resumes;
-    let functions = m.functions;
-    let variables = m.variables;
-    let mut registers = m.registers;
-    registers.at = at;
     Machine {
-        resumes,
-        functions,
-        variables,
-        registers,
+        registers: Registers { at, ..m.registers },
+        ..m
     }
 }
 
@@ -124,22 +103,12 @@ pub fn at_line(m: Machine, at: u16) -> Machine
 pub fn afresh(m: Machine) -> Machine
     ensures { result ≡ machine_afresh m }
 {
-    let resumes = m.resumes;
-    let functions = m.functions;
-    let variables = m.variables;
-    let h = m.registers;
-    let registers = Registers {
-        depth: h.depth,
-        function: h.function,
-        at: h.at,
-        last: h.last,
-        steps: 0,
-        traced: 0,
-    };
     Machine {
-        resumes,
-        functions,
-        variables,
-        registers,
+        registers: Registers {
+            steps: 0,
+            traced: 0,
+            ..m.registers
+        },
+        ..m
     }
 }

@@ -27,9 +27,7 @@ pub fn opening(
             depth: h.depth + 1,
             function,
             at: go,
-            last: h.last,
-            steps: h.steps,
-            traced: h.traced,
+            ..h
         },
     )
 }
@@ -48,8 +46,7 @@ pub fn returning(h: Registers, v: u16, resumes: &[u16; OPEN], functions: &[u8; O
             function: functions[k],
             at,
             last: v,
-            steps: h.steps,
-            traced: h.traced,
+            ..h
         },
     )
 }

@@ -6,13 +6,12 @@ ghost use Rattle.state.specs.Machine.{HasSlot, moved, done, put_of, did_of};
 
 use crate::machine::{Moved, Registers, standing, stay};
 use crate::variables;
-use rules::computed::Computed;
 use rules::limits::VARIABLES;
 use rules::operands::Operands;
 use rules::step::Step;
 
-// Variable p gets x, the row goes into the next trace slot, and the run goes on at the next row or line. The registers are made field by
-// field, as in `standing`.
+// Variable p gets x, the row goes into the next trace slot, and the run goes on at the next row or line. The registers are made
+// anew, as in `standing`.
 fn put(
     p: u16,
     x: u16,
@@ -31,12 +30,9 @@ fn put(
     stay(
         Step::Went(at),
         Registers {
-            depth: h.depth,
-            function: h.function,
             at,
-            last: h.last,
-            steps: h.steps,
             traced: h.traced + 1,
+            ..h
         },
     )
 }
@@ -62,8 +58,8 @@ pub fn act(
 {
     let c = variables::compute(o, variables);
     match c {
-        Computed::Fits(p, x) => put(p, x, row, h, variables, trace),
-        Computed::Overflows => {
+        Some((p, x)) => put(p, x, row, h, variables, trace),
+        None => {
             let held = variables[o.p as usize];
             over(row, held, h)
         }

@@ -3,41 +3,36 @@ ghost use Rattle.std.specs.Prelude.{◌≡◌};
 ghost use Rattle.rules.specs.Variables.{sum, difference, computed, holds_on};
 ghost use Rattle.rules.specs.Bounds.{VariablesIn};
 
-use rules::computed::Computed;
+use rules::computed::Assigned;
 use rules::limits::VARIABLES;
 use rules::operands::Operands;
 
-fn sum_of(p: u16, x: u16, y: u16) -> Computed
+fn sum_of(p: u16, x: u16, y: u16) -> Option<Assigned>
     ensures { result ≡ sum p x y }
 {
-    if x <= 65535 - y {
-        return Computed::Fits(p, x + y);
-    }
-    Computed::Overflows
+    Some((p, x.checked_add(y)?))
 }
 
-fn difference_of(p: u16, x: u16, y: u16) -> Computed
+fn difference_of(p: u16, x: u16, y: u16) -> Option<Assigned>
     ensures { result ≡ difference p x y }
 {
-    if y <= x {
-        return Computed::Fits(p, x - y);
-    }
-    Computed::Overflows
+    Some((p, x.checked_sub(y)?))
 }
 
 // Which variable a do gives which number. All arithmetic on variables is here, for either run.
-pub fn compute(o: Operands, variables: &[u16; VARIABLES]) -> Computed
+#[tactic(auto, unfolding(rules::specs::Variables::computed))]
+pub fn compute(o: Operands, variables: &[u16; VARIABLES]) -> Option<Assigned>
     requires { VariablesIn o }
     ensures { result ≡ computed o variables.now }
 {
     let p = o.p as u16;
     let q = o.q as usize;
     if o.op == 0 {
-        return Computed::Fits(p, o.n);
+        return Some((p, o.n));
     }
     let y = variables[q];
     if o.op == 1 {
-        return Computed::Fits(p, y);
+        return Some((p, y));
     }
     let x = variables[o.p as usize];
     if o.op == 2 {
@@ -46,6 +41,7 @@ pub fn compute(o: Operands, variables: &[u16; VARIABLES]) -> Computed
     difference_of(p, x, y)
 }
 
+#[tactic(auto, unfolding(rules::specs::Variables::holds_on))]
 pub fn holds(o: Operands, variables: &[u16; VARIABLES]) -> bool
     requires { VariablesIn o }
     ensures { result ≡ holds_on o variables.now }

@@ -4,7 +4,7 @@ use mathlib.Core.List.{List}
 use Prim.Native.Nat.{ℕ, ◌≤◌}
 use lib.ListN.{length}
 use Rattle.rules.specs.declared.answer.Ran.{Ran}
-use Rattle.rules.specs.declared.strike.Strike.{Strike}
+use Rattle.rules.specs.Strike.{Strike}
 use Rattle.rules.specs.Line.{lines_in}
 use Rattle.rules.specs.Run.{outcome_of_lem}
 use Rattle.rules.specs.Hardened.{hardened_run}

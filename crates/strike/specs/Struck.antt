@@ -2,9 +2,8 @@
 use Rattle.std.specs.Prelude.{ℕ, ◌+◌, ◌-◌, cond, List, leb, get_or}
 use Rattle.rules.specs.declared.answer.Ran.{Ran}
 use Rattle.rules.specs.declared.step.Step.TheVariants.{Beyond}
-use Rattle.rules.specs.declared.strike.Strike.{Strike}
-use Rattle.rules.specs.declared.strike.Strike.TheVariants.{None, Jump}
-use Rattle.rules.specs.declared.refusal.Verdict.TheVariants.{Accepted}
+use Rattle.rules.specs.Strike.{Strike, None, Jump}
+use Rattle.rules.specs.Verdict.{Accepted}
 use Rattle.rules.specs.Line.{lines_in}
 use Rattle.rules.specs.Hardened.{hardened_run}
 use Rattle.rules.specs.Calls.{running, HardenedRunning}

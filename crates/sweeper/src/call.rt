@@ -5,7 +5,6 @@ ghost use Rattle.rules.specs.SweepCall.{sweep_call, sweep_other_call};
 ghost use Rattle.sweeper.specs.Call.{refused_swept, refused_any_lem, counts_in, sweeps, asks};
 
 use crate::table;
-use crate::table::{Count, Search};
 use rules::answer::{AnyOther, Swept};
 use rules::ending::Counts;
 use rules::limits::{COUNTERS, VARIABLES};
@@ -66,8 +65,8 @@ pub fn sweep(
     }
     let x = table::sweep(lines, variables, budget, trace, &mut counters[..COUNTERS]);
     match x {
-        Count::NotFinished => refused(Refusal::NotFinished),
-        Count::Of(c) => counted(c),
+        Some(c) => counted(c),
+        None => refused(Refusal::NotFinished),
     }
 }
 
@@ -91,7 +90,7 @@ pub fn sweep_other(
     }
     let x = table::sweep_other(lines, variables, budget, trace, &mut counters[..COUNTERS]);
     match x {
-        Search::NotFinished => refused_any(Refusal::NotFinished),
-        Search::Found(other) => AnyOther { number: 0, other },
+        Some(other) => AnyOther { number: 0, other },
+        None => refused_any(Refusal::NotFinished),
     }
 }

@@ -1,7 +1,7 @@
 -- Where a walk stands at a row outside of every function: what was counted, and the links and the functions of the rows before. Assumes
 -- nothing: these are definitions.
 use Rattle.std.specs.Prelude.{ℕ, ◌*◌, ◌≤◌, ◌<◌, ◌≡◌, List, [], length, get_or, drop}
-use Rattle.rules.specs.declared.refusal.Verdict.TheVariants.{Accepted}
+use Rattle.rules.specs.Verdict.{Accepted}
 use Rattle.rules.specs.Limits.{max_rows, max_functions}
 use Rattle.rules.specs.Row.{Table, row_width, table_of}
 use Rattle.rules.specs.Scan.{open_at, functions, function_row}

@@ -9,8 +9,7 @@ use lib.ListN.{length}
 use Rattle.rules.specs.declared.kind.Kind.{Kind}
 use Rattle.rules.specs.declared.refusal.Refusal.{Refusal}
 use Rattle.rules.specs.declared.refusal.Refusal.TheVariants.{WrongField, Misplaced, TooManyFunctions, TooManyParts}
-use Rattle.rules.specs.declared.refusal.Verdict.{Verdict}
-use Rattle.rules.specs.declared.refusal.Verdict.TheVariants.{Accepted, Refused}
+use Rattle.rules.specs.Verdict.{Verdict, Accepted, Refused}
 use Rattle.rules.specs.Limits.{max_functions}
 use Rattle.rules.specs.Row.{Table, kind_at, operands_at, fields_fit_lem}
 use Rattle.rules.specs.Scan.{Open, open_at, regions, functions, is_function_lem}

@@ -2,7 +2,7 @@
 -- nothing: these are definitions.
 use Rattle.std.specs.Prelude.{ℕ, ◌+◌, ◌*◌, ◌≤◌, ◌<◌, ◌≡◌, Bool, true, false, not, List, ◌∷◌, length, get_or, drop}
 use Rattle.rules.specs.declared.kind.Kind.TheVariants.{If}
-use Rattle.rules.specs.declared.refusal.Verdict.TheVariants.{Accepted}
+use Rattle.rules.specs.Verdict.{Accepted}
 use Rattle.rules.specs.Limits.{max_rows}
 use Rattle.rules.specs.Row.{Table, row_width, table_of, kind_at}
 use Rattle.rules.specs.Scan.{Open, regions, open_at, body_region, from_loop, is_end_of, is_else_of, functions}

@@ -3,9 +3,9 @@ ghost use Rattle.std.specs.Prelude.{◌≡◌, ◌+◌, ◌*◌, ◌≤◌, ◌<
 ghost use Rattle.rules.specs.Limits.{max_rows, max_constructs};
 ghost use Rattle.rules.specs.Row.{row_width};
 ghost use Rattle.rows.specs.First.{first_kind_lem};
-ghost use Rattle.walk.specs.Walked.{SeqOk, StepOk, RestOk};
+ghost use Rattle.walk.specs.Walked.{fields_verdict, SeqOk, StepOk, RestOk};
 
-use crate::answer::{Rest, Seq, Step, fitting, jump};
+use crate::answer::{Rest, Seq, Step, jump};
 use crate::limit::{full, no_region};
 use crate::link::link;
 use rows::dos::dos;
@@ -24,16 +24,17 @@ pub fn sequence(
     in_loop: bool,
     ends: &mut [u16],
     elses: &mut [u16],
-) -> Seq
+) -> Result<Seq, Refusal>
     requires rows_bound { row_width * base + length rows.now ≤ row_width * max_rows }
     requires ends_len { (length ends.old ≡ max_rows) × (length elses.old ≡ max_rows) }
     ensures { SeqOk rows.now base depth opened in_loop ends.old elses.old ends.new elses.new result }
 {
+    // Kept as a `while`: a construct is as many rows long as `construct` tells, so no iterator's step is known before.
     let mut at = 0;
     let mut regions = opened;
     while WIDTH * at + LAST < rows.len() {
         let from = WIDTH * at;
-        match construct(
+        let step = construct(
             &rows[from..],
             base + at,
             depth,
@@ -41,17 +42,28 @@ pub fn sequence(
             in_loop,
             ends,
             elses,
-        ) {
-            Step::Faulty(r) => return Seq::Broken(r),
-            Step::EndHere => return Seq::AtEnd(at, regions),
-            Step::ElseHere => return Seq::AtElse(at, regions),
+        )?;
+        match step {
+            Step::EndHere => return Ok(Seq::AtEnd(at, regions)),
+            Step::ElseHere => return Ok(Seq::AtElse(at, regions)),
             Step::Past(n, o) => {
-                at = at + n;
+                at += n;
                 regions = o;
             }
         }
     }
-    Seq::Broken(Refusal::Misplaced)
+    Err(Refusal::Misplaced)
+}
+
+// The fields of the row that the bytes begin with are as `kind` uses them, or the row is turned away.
+fn fields(kind: Kind, rows: &[u8]) -> Result<(), Refusal>
+    requires { 5 < length rows.now }
+    ensures { result ≡ fields_verdict kind rows.now }
+{
+    if fits(kind, rows) {
+        return Ok(());
+    }
+    Err(Refusal::WrongField)
 }
 
 // The construct that row `base` begins. Each arm tests the fields for its own kind, so that there is one jump by the kind.
@@ -64,38 +76,32 @@ fn construct(
     in_loop: bool,
     ends: &mut [u16],
     elses: &mut [u16],
-) -> Step
+) -> Result<Step, Refusal>
     requires rows_bound { row_width * base + length rows.now ≤ row_width * max_rows }
     requires ends_len { (length ends.old ≡ max_rows) × (length elses.old ≡ max_rows) }
     requires in_bounds { 5 < length rows.now }
     ensures { StepOk rows.now base depth opened in_loop ends.old elses.old ends.new elses.new result }
 {
     match kind(rows) {
-        Kind::Function => fitting(fits(Kind::Function, rows), Step::Faulty(Refusal::Misplaced)),
+        Kind::Function => fields(Kind::Function, rows).and(Err(Refusal::Misplaced)),
         Kind::Do => {
-            if fits(Kind::Do, rows) {
-                return Step::Past(dos(rows), opened);
-            }
-            Step::Faulty(Refusal::WrongField)
+            fields(Kind::Do, rows)?;
+            Ok(Step::Past(dos(rows), opened))
         }
         Kind::If => {
-            if fits(Kind::If, rows) {
-                return if_part(rows, base, depth, opened, in_loop, ends, elses);
-            }
-            Step::Faulty(Refusal::WrongField)
+            fields(Kind::If, rows)?;
+            if_part(rows, base, depth, opened, in_loop, ends, elses)
         }
-        Kind::Else => fitting(fits(Kind::Else, rows), Step::ElseHere),
+        Kind::Else => fields(Kind::Else, rows).and(Ok(Step::ElseHere)),
         Kind::Loop => {
-            if fits(Kind::Loop, rows) {
-                return loop_part(rows, base, depth, opened, in_loop, ends, elses);
-            }
-            Step::Faulty(Refusal::WrongField)
+            fields(Kind::Loop, rows)?;
+            loop_part(rows, base, depth, opened, in_loop, ends, elses)
         }
-        Kind::End => fitting(fits(Kind::End, rows), Step::EndHere),
-        Kind::Break => fitting(fits(Kind::Break, rows), jump(opened, in_loop)),
-        Kind::Continue => fitting(fits(Kind::Continue, rows), jump(opened, in_loop)),
-        Kind::Call => fitting(fits(Kind::Call, rows), Step::Past(1, opened)),
-        Kind::Unknown => Step::Faulty(Refusal::WrongField),
+        Kind::End => fields(Kind::End, rows).and(Ok(Step::EndHere)),
+        Kind::Break => fields(Kind::Break, rows).and(jump(opened, in_loop)),
+        Kind::Continue => fields(Kind::Continue, rows).and(jump(opened, in_loop)),
+        Kind::Call => fields(Kind::Call, rows).and(Ok(Step::Past(1, opened))),
+        Kind::Unknown => Err(Refusal::WrongField),
     }
 }
 
@@ -109,17 +115,17 @@ fn if_part(
     in_loop: bool,
     ends: &mut [u16],
     elses: &mut [u16],
-) -> Step
+) -> Result<Step, Refusal>
     requires rows_bound { row_width * base + length rows.now ≤ row_width * max_rows }
     requires ends_len { (length ends.old ≡ max_rows) × (length elses.old ≡ max_rows) }
     requires in_bounds { (5 < length rows.now) × (first_kind_lem rows.now ≡ Kind.If) }
     ensures { StepOk rows.now base depth opened in_loop ends.old elses.old ends.new elses.new result }
 {
     if full(depth, opened) {
-        return Step::Faulty(Refusal::TooManyParts);
+        return Err(Refusal::TooManyParts);
     }
     link(elses, base, 0);
-    match sequence(
+    let ended = sequence(
         &rows[WIDTH..],
         base + 1,
         depth + 1,
@@ -127,15 +133,15 @@ fn if_part(
         in_loop,
         ends,
         elses,
-    ) {
-        Seq::Broken(r) => Step::Faulty(r),
+    )?;
+    match ended {
         Seq::AtEnd(n, o) => {
             link(ends, base, base + 1 + n);
-            Step::Past(n + 2, o)
+            Ok(Step::Past(n + 2, o))
         }
         Seq::AtElse(n, o) => {
             let from = WIDTH * (n + 1);
-            match else_part(
+            let (k, p) = else_part(
                 &rows[from..],
                 base + 1 + n,
                 base,
@@ -144,10 +150,8 @@ fn if_part(
                 in_loop,
                 ends,
                 elses,
-            ) {
-                Rest::Torn(r) => Step::Faulty(r),
-                Rest::Rows(k, p) => Step::Past(n + 1 + k, p),
-            }
+            )?;
+            Ok(Step::Past(n + 1 + k, p))
         }
     }
 }
@@ -163,17 +167,17 @@ fn else_part(
     in_loop: bool,
     ends: &mut [u16],
     elses: &mut [u16],
-) -> Rest
+) -> Result<Rest, Refusal>
     requires rows_bound { (row_width * row + length rows.now ≤ row_width * max_rows) × (base < row) }
     requires ends_len { (length ends.old ≡ max_rows) × (length elses.old ≡ max_rows) × (depth < max_constructs) }
     requires in_bounds { 5 < length rows.now }
     ensures { RestOk rows.now row base depth opened in_loop ends.old elses.old ends.new elses.new result }
 {
     if no_region(opened) {
-        return Rest::Torn(Refusal::TooManyParts);
+        return Err(Refusal::TooManyParts);
     }
     link(elses, base, row);
-    match sequence(
+    let ended = sequence(
         &rows[WIDTH..],
         row + 1,
         depth + 1,
@@ -181,12 +185,12 @@ fn else_part(
         in_loop,
         ends,
         elses,
-    ) {
-        Seq::Broken(r) => Rest::Torn(r),
-        Seq::AtElse(_, _) => Rest::Torn(Refusal::Misplaced),
+    )?;
+    match ended {
+        Seq::AtElse(_, _) => Err(Refusal::Misplaced),
         Seq::AtEnd(n, o) => {
             link(ends, base, row + 1 + n);
-            Rest::Rows(n + 2, o)
+            Ok((n + 2, o))
         }
     }
 }
@@ -201,16 +205,16 @@ fn loop_part(
     in_loop: bool,
     ends: &mut [u16],
     elses: &mut [u16],
-) -> Step
+) -> Result<Step, Refusal>
     requires rows_bound { row_width * base + length rows.now ≤ row_width * max_rows }
     requires ends_len { (length ends.old ≡ max_rows) × (length elses.old ≡ max_rows) }
     requires in_bounds { (5 < length rows.now) × (first_kind_lem rows.now ≡ Kind.Loop) }
     ensures { StepOk rows.now base depth opened in_loop ends.old elses.old ends.new elses.new result }
 {
     if full(depth, opened) {
-        return Step::Faulty(Refusal::TooManyParts);
+        return Err(Refusal::TooManyParts);
     }
-    match sequence(
+    let ended = sequence(
         &rows[WIDTH..],
         base + 1,
         depth + 1,
@@ -218,12 +222,12 @@ fn loop_part(
         true,
         ends,
         elses,
-    ) {
-        Seq::Broken(r) => Step::Faulty(r),
-        Seq::AtElse(_, _) => Step::Faulty(Refusal::Misplaced),
+    )?;
+    match ended {
+        Seq::AtElse(_, _) => Err(Refusal::Misplaced),
         Seq::AtEnd(n, o) => {
             link(ends, base, base + 1 + n);
-            Step::Past(n + 2, o)
+            Ok(Step::Past(n + 2, o))
         }
     }
 }

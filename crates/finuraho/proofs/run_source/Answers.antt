@@ -3,5 +3,5 @@ use Rattle.rules.proofs.Calls.{run-source-stands}
 use mathlib.Core.Path.{sym, ◌∙◌}
 use Rattle.finuraho.proofs.run_source.Goals as goal
 
-pub returns-in-Accepted : goal.returns-in-Accepted
-returns-in-Accepted c = c.source_run.ensures ∙ sym (run-source-stands _ _ _ _ _ (own-chain (record { each = λ i. (c.type_inv.rows i).fits }) c.check.ensures c.in-Accepted.is))
+pub returns-in-Ok : goal.returns-in-Ok
+returns-in-Ok c = c.source_run.ensures ∙ sym (run-source-stands _ _ _ _ _ (own-chain (record { each = λ i. (c.type_inv.rows i).fits }) c.check.ensures c.in-Ok.is))

@@ -10,8 +10,7 @@ use borrow.Author.Tests.{le-ltb}
 use Rattle.rules.specs.declared.answer.Measured.{Measured}
 use Rattle.rules.specs.declared.sums.Sums.{Sums}
 use Rattle.rules.specs.declared.refusal.Refusal.TheVariants.{ShortOutput}
-use Rattle.rules.specs.declared.refusal.Verdict.{Verdict}
-use Rattle.rules.specs.declared.refusal.Verdict.TheVariants.{Accepted, Refused}
+use Rattle.rules.specs.Verdict.{Verdict, Accepted, Refused}
 use Rattle.rules.specs.Limits.{max_regions}
 use Rattle.rules.specs.Row.{table_of}
 use Rattle.rules.specs.Refusal.{number_of, refuse_if_lem}

@@ -7,9 +7,8 @@ use Prim.Native.Nat.{ℕ, ◌≤◌}
 use native.Mathlib.Omega.{arith}
 use lib.ListN.{length, take, drop}
 use lib.Seq.{take-append_seam}
-use Rattle.rules.specs.declared.strike.Strike.TheVariants.{None}
-use Rattle.rules.specs.declared.refusal.Verdict.{Verdict}
-use Rattle.rules.specs.declared.refusal.Verdict.TheVariants.{Accepted}
+use Rattle.rules.specs.Strike.{None}
+use Rattle.rules.specs.Verdict.{Verdict, Accepted}
 use Rattle.rules.specs.Row.{Table}
 use Rattle.rules.specs.Line.{Line}
 use Rattle.rules.specs.Run.{Answer, outcome_of_lem}
@@ -63,7 +62,7 @@ module _ {H : Type 0} (F : Form H) (ls : List Line) (t : Table) (vars : List ℕ
   as_slipped e n h g = by ((demand e).told n)
     where
       by : Told F ls t vars b k p → AsSlipped F ls t vars b k p got
-      by (beyond_m l q) = absurd (let z : ⊥ = omega arith in z)
+      by (beyond_m l q) = absurd (omega arith)
       by (wide l w q) = clash w g
       by (small l w q) = record { as_run = as_run e (slipped_at F ls t vars b k p) q.as_slipped q.no_alarm; at_matching = q.at_matching; in_steps = ap (λ x. x.steps) (seen-is (accepted e)) ∙ q.in_steps; that_do = q.that_do }
 

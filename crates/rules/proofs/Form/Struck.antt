@@ -9,8 +9,7 @@ use native.Mathlib.Nat.{add-zero, zero-add, suc-add}
 use native.Mathlib.Omega.{arith}
 use lib.Dec.{eqb, ltb}
 use borrow.Author.Tests.{eq-eqb, ne_eqb, eqb-true, eqb-false, ltb-true, ltb-false, lt-ltb, le-ltb, le-leb, lt-leb}
-use Rattle.rules.specs.declared.strike.Strike.{Strike}
-use Rattle.rules.specs.declared.strike.Strike.TheVariants.{None, Jump}
+use Rattle.rules.specs.Strike.{Strike, None, Jump}
 use Rattle.rules.specs.declared.step.Step.{Step}
 use Rattle.rules.specs.declared.step.Step.TheVariants.{Went, Alarm, Beyond, Overflow}
 use Rattle.rules.specs.Limits.{no_step}
@@ -21,7 +20,8 @@ use Rattle.rules.specs.Run.{Turn, on, ends, untaken, Answer, after, run, outcome
 use Rattle.rules.specs.Form.{Form, strike_by_lem, place_line, struck, step_of, striking_step_of, start_by, run_of}
 use Rattle.rules.specs.Match.{guard_between}
 use Rattle.rules.specs.Demands.{before, strikes, Struck, struck_shown, alarm_step, done_at, overflows_at, caught_from, Jumped}
-use Rattle.rules.proofs.Logic.{clash, and_left, and_right, not-true}
+use Rattle.std.proofs.lemmas.Bool.{not-true}
+use Rattle.rules.proofs.Logic.{clash, and_left, and_right}
 
 -- ---- a strike that names step j: every other step is as without it
 abbrev pub Named : {H : Type 0} → Form H → List Line → Strike → ℕ → Type 0

@@ -7,7 +7,7 @@ use Prim.Native.Nat.{ℕ, zero, suc, ◌+◌, ◌-◌, ◌≤◌, ◌<◌}
 use native.Mathlib.Nat.{add-zero}
 use native.Mathlib.Omega.{arith}
 use borrow.Author.Tests.{ne_eqb}
-use Rattle.rules.specs.declared.strike.Strike.TheVariants.{None, Jump}
+use Rattle.rules.specs.Strike.{None, Jump}
 use Rattle.rules.specs.Row.{Table}
 use Rattle.rules.specs.Line.{Line}
 use Rattle.rules.specs.Harden.{harden}

@@ -5,7 +5,7 @@ use mathlib.Core.Path.{◌≡◌, refl, sym, ap, ◌∙◌}
 use mathlib.Core.List.{List, [], ◌∷◌, ◌++◌}
 use Prim.Native.Nat.{ℕ, zero, suc, ◌+◌}
 use native.Mathlib.Omega.{arith}
-use Rattle.rules.specs.declared.strike.Strike.TheVariants.{None}
+use Rattle.rules.specs.Strike.{None}
 use Rattle.rules.specs.declared.step.Step.{Step}
 use Rattle.rules.specs.Row.{Table}
 use Rattle.rules.specs.Harden.{harden}

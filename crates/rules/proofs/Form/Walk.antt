@@ -9,7 +9,7 @@ use native.Mathlib.Omega.{arith}
 use lib.ListN.{length, drop, length-append}
 use lib.Seq.{drop-append_seam}
 use Rattle.rules.specs.declared.step.Step.TheVariants.{Went}
-use Rattle.rules.specs.declared.strike.Strike.TheVariants.{None}
+use Rattle.rules.specs.Strike.{None}
 use Rattle.rules.specs.Line.{Line}
 use Rattle.rules.specs.State.{State, go_to, retraced}
 use Rattle.rules.specs.Run.{Turn, on, ends, untaken, after, run, outcome_of_lem}

@@ -15,8 +15,7 @@ use Rattle.rules.specs.declared.kind.Kind.{Kind}
 use Rattle.rules.specs.declared.kind.Kind.TheVariants.{Function, Do, If, Else, Loop, End, Break, Continue, Call, Unknown}
 use Rattle.rules.specs.declared.refusal.Refusal.{Refusal}
 use Rattle.rules.specs.declared.refusal.Refusal.TheVariants.{NoWholeRows, TooManyRows, WrongField, Misplaced, TooManyFunctions, TooManyParts, NoSuchFunction, ShortOutput, ShortRoom, NotHardened, RepeatedCase, NotFinished}
-use Rattle.rules.specs.declared.refusal.Verdict.{Verdict}
-use Rattle.rules.specs.declared.refusal.Verdict.TheVariants.{Accepted, Refused}
+use Rattle.rules.specs.Verdict.{Verdict, Accepted, Refused}
 use Rattle.rules.specs.Limits.{max_rows}
 use Rattle.rules.specs.Row.{Table, row_at}
 use Rattle.rules.specs.Scan.{function_count, is_end_lem}
@@ -257,11 +256,11 @@ module _ (g : GivenTable) where
     where
       by : (r : ℕ) → Found beyond (length g) 0 r → r < length g → calls_verdict (chain_of g) (length (chain_of g)) ≡ Refused NoSuchFunction
       by r (hit h a u f) l = calls-some r (length g) l (omega arith) (λ m k. f m (omega arith) k) h
-      by r (miss q f) l = absurd (let z : ⊥ = omega arith in z)
+      by r (miss q f) l = absurd (omega arith)
 
   pub calls-all : length g ≤ calling_row g (function_count (chain_of g)) → calls_verdict (chain_of g) (length (chain_of g)) ≡ Accepted
   calls-all l = by (calling_row g (function_count (chain_of g))) (found beyond (length g) 0) l
     where
       by : (r : ℕ) → Found beyond (length g) 0 r → length g ≤ r → calls_verdict (chain_of g) (length (chain_of g)) ≡ Accepted
-      by r (hit h a u f) l = absurd (let z : ⊥ = omega arith in z)
+      by r (hit h a u f) l = absurd (omega arith)
       by r (miss q f) l = calls-none (length g) (omega arith) (λ m k. f m (omega arith) (omega arith))

@@ -1,6 +1,6 @@
 use mathlib.Core.Path.{ap, sym, ◌∙◌}
 use native.Mathlib.Omega.{arith}
-use Rattle.rules.specs.declared.refusal.Verdict.TheVariants.{Accepted}
+use Rattle.rules.specs.Verdict.{Accepted}
 use Rattle.rules.specs.Calls.{counters_after}
 use Rattle.strike.specs.Struck.{accepted_run}
 use Rattle.finuraho.specs.Given.{hardened_runs}

@@ -1,16 +1,19 @@
-use Prim.Native.Nat.{ℕ, ◌+◌, ◌<◌}
-use native.Mathlib.Omega.{arith}
-use Rattle.guard.proofs.Returns.{call-alarm, call_deep, call_opens}
+use mathlib.Core.Path.{ap, ◌∙◌}
+use Prim.Native.Nat.{◌+◌}
+use borrow.Author.Tests.{eq-eqb, ne_eqb, lt-ltb, le-ltb}
+use Rattle.guard.specs.Call.{shifting, call_of}
 use Rattle.guard.proofs.call.call.Goals as goal
 
-shallow : {d : ℕ} → d + 1 < 16 → d < 15
-shallow h = omega arith
-
 pub returns-then-wrong : goal.returns-then-wrong
-returns-then-wrong c = call-alarm _ _ _ _ _ _ _ c.index-i.ensures.0 _ c.stay.ensures c.if-wrong.true
+unfolding call_of
+returns-then-wrong c = simp (← c.get-held.ensures, ne_eqb _ _ c.if-wrong.true, c.stay.ensures)
 
 pub returns-then-full : goal.returns-then-full
-returns-then-full c = call_deep _ _ _ _ _ _ _ c.index-i.ensures.0 _ c.stay-then-full.ensures c.if-wrong.false c.if-full.true
+unfolding call_of
+returns-then-full c = simp (← c.get-held.ensures, eq-eqb _ _ c.if-wrong.false, le-ltb (c.args.h.depth + 1) 16 c.if-full.true, c.stay-then-full.ensures)
 
 pub returns : goal.returns
-returns c = call_opens _ _ _ _ _ _ _ c.index-i.ensures.0 _ _ _ _ _ c.if-wrong.false c.if-full.false c.index-go.ensures c.opening.ensures c.fresh.ensures
+unfolding call_of
+returns c =
+    ap (λ x. shifting x c.fresh.new.words) c.opening.ensures
+    ∙ simp (c.fresh.ensures, c.put.ensures, ← c.get-held.ensures, eq-eqb _ _ c.if-wrong.false, lt-ltb (c.args.h.depth + 1) 16 c.if-full.false)

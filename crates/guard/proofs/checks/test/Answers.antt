@@ -1,14 +1,15 @@
-use Rattle.guard.proofs.Tests.{test-held, test-failed}
 use Rattle.guard.specs.Guard.{test_of}
-use borrow.Author.Tests.{ne_eqb}
+use borrow.Author.Tests.{ne_eqb, eq-eqb}
 use Rattle.guard.proofs.checks.test.Goals as goal
 
-pub returns-then-outer-e : goal.returns-then-outer-e
+pub returns-then-outer-l : goal.returns-then-outer-l
 unfolding test_of
-returns-then-outer-e c = simp (← c.index-i.ensures.0, ne_eqb _ _ c.if-outer-e.true)
+returns-then-outer-l c = simp (← c.get-outer.ensures, ne_eqb _ _ c.if-outer-l.true)
 
 pub returns-then-holds : goal.returns-then-holds
-returns-then-holds c = test-held _ _ _ _ _ _ _ c.index-i.ensures.0 c.if-outer-e.false c.if-holds.true c.put.ensures
+unfolding test_of
+returns-then-holds c = simp (← c.get-outer.ensures, eq-eqb _ _ c.if-outer-l.false, c.if-holds.true, c.put-then-holds.ensures, c.put.ensures)
 
 pub returns : goal.returns
-returns c = test-failed _ _ _ _ _ _ _ c.index-i.ensures.0 c.if-outer-e.false c.if-holds.false c.put-2.ensures
+unfolding test_of
+returns c = simp (← c.get-outer.ensures, eq-eqb _ _ c.if-outer-l.false, c.if-holds.false, c.put-2.ensures, c.put.ensures)

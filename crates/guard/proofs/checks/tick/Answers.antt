@@ -2,10 +2,10 @@ use Rattle.guard.specs.Guard.{tick_of}
 use borrow.Author.Tests.{ne_eqb, eq-eqb}
 use Rattle.guard.proofs.checks.tick.Goals as goal
 
-pub returns-then-held-e : goal.returns-then-held-e
+pub returns-then-held-l : goal.returns-then-held-l
 unfolding tick_of
-returns-then-held-e c = simp (← c.index-i.ensures.0, ne_eqb _ _ c.if-held-e.true)
+returns-then-held-l c = simp (← c.get-held.ensures, ne_eqb _ _ c.if-held-l.true)
 
 pub returns : goal.returns
 unfolding tick_of
-returns c = simp (← c.index-i.ensures.0, eq-eqb _ _ c.if-held-e.false)
+returns c = simp (← c.get-held.ensures, eq-eqb _ _ c.if-held-l.false, c.put.ensures)

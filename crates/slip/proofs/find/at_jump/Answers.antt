@@ -9,7 +9,7 @@ pub returns-in_default : goal.returns-in_default
 returns-in_default c = run-ended _ _ _ _ _ _ c.if-budget-step.false _ c.run_lines-x.ensures c.in_default.not-Went
 
 pub out_of-requires : goal.out_of-requires
-out_of-requires c = (c.requires.0, going-left _ _ c.requires.0 _ _ _ c.requires.1 c.if-budget-step.false _ c.run_lines-x.ensures _ c.in-Went.is)
+out_of-requires c = going-left _ _ c.args.table.now.ready _ _ _ c.requires c.if-budget-step.false _ c.run_lines-x.ensures _ c.in-Went.is
 
 pub returns : goal.returns
 returns c = run-there _ _ _ _ _ _ c.if-budget-step.false _ c.run_lines-x.ensures _ c.in-Went.is c.out_of.ensures

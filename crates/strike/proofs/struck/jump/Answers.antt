@@ -9,7 +9,7 @@ pub returns-in_default : goal.returns-in_default
 returns-in_default c = jump-stopped _ _ _ _ _ _ c.if-budget-step.false _ c.run_lines-x.ensures c.in_default.not-Went
 
 pub land-requires : goal.land-requires
-land-requires c = (c.requires.0, going-left _ _ c.requires.0 _ _ _ c.requires.1 c.if-budget-step.false _ c.run_lines-x.ensures _ c.in-Went.is)
+land-requires c = going-left _ _ c.args.table.now.ready _ _ _ c.requires c.if-budget-step.false _ c.run_lines-x.ensures _ c.in-Went.is
 
 pub returns : goal.returns
 returns c = c.land.ensures ∙ jump-there _ _ _ _ _ _ c.if-budget-step.false _ c.run_lines-x.ensures _ c.in-Went.is

@@ -1,8 +1,7 @@
 use mathlib.Core.Path.{◌≡◌, sym, ap, ◌∙◌}
 use mathlib.Core.List.{List}
 use Prim.Native.Nat.{ℕ}
-use Rattle.rules.specs.declared.strike.Strike.{Strike}
-use Rattle.rules.specs.declared.strike.Strike.TheVariants.{None, Jump}
+use Rattle.rules.specs.Strike.{Strike, None, Jump}
 use Rattle.machine.specs.Step.{Map, Parts}
 use Rattle.machine.specs.Run.{run_of}
 use Rattle.strike.specs.Struck.{jump_of, struck_of}
@@ -19,5 +18,5 @@ by_jump bs m b k place p j e = ap (λ x. struck_of bs m b x p) (sym e)
 pub returns-in-None : goal.returns-in-None
 returns-in-None c = c.run_lines.ensures ∙ by-none _ _ _ _ _ c.in-None.is
 
-pub returns-in-Jump : goal.returns-in-Jump
-returns-in-Jump c = c.jump.ensures ∙ by_jump _ _ _ _ _ _ _ c.in-Jump.is
+pub returns-in-Some : goal.returns-in-Some
+returns-in-Some c = c.jump.ensures ∙ by_jump _ _ _ _ _ _ _ c.in-Some.is
