@@ -1,5 +1,6 @@
 -- Small words and texts, by computation: what a word begins with, and each way in which a line of four digits can be malformed.
-use Rattle.std.specs.Prelude.{◌≡◌, Some, None, [], ◌∷◌, refl}
+use Rattle.std.specs.Prelude.{◌≡◌, ◌==◌, nat_eq, true, false, Some, None, position, [], ◌∷◌, refl}
+use Rattle.std.specs.Cmp.Lexicographic.{pointwise}
 use Rattle.console.specs.declared.malformed.Wrong.TheVariants.{CarriageReturn, Long, Uppercase, Space, Other, Empty, Short}
 use Rattle.console.specs.Word.{begins, skip_of}
 use Rattle.console.specs.Malformed.{wrong_end_lem, wrong_digit_lem, wrong_byte_lem, at_first_lem, behind_byte, next_seen, look_on}
@@ -20,6 +21,20 @@ longer_name = refl
 no_name : skip_of (118 ∷ []) [] ≡ Some (118 ∷ [])
 unfolding skip_of begins
 no_name = refl
+
+-- a word that begins with another is not that one, as slices are compared
+same : pointwise nat_eq (118 ∷ 49 ∷ []) (118 ∷ 49 ∷ []) ≡ true
+same = refl
+
+begins_only : pointwise nat_eq (118 ∷ 49 ∷ []) (118 ∷ []) ≡ false
+begins_only = refl
+
+-- `=` in `v1=1`, and where there is none
+equals_sign : position (λ x. x == 61) (118 ∷ 49 ∷ 61 ∷ 49 ∷ []) ≡ Some 2
+equals_sign = refl
+
+no_sign : position (λ x. x == 61) (118 ∷ 49 ∷ []) ≡ None
+no_sign = refl
 
 -- `01af` and a newline
 whole : look_on 4 at_first_lem (48 ∷ 49 ∷ 97 ∷ 102 ∷ 10 ∷ []) ≡ record { line = 2; column = 0; wrong = None }
