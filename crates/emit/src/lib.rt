@@ -10,6 +10,7 @@ ghost use Rattle.layout.specs.Spot.{Ends, Elses, Heads};
 ghost use Rattle.line.specs.Line.{struct};
 ghost use Rattle.emit.specs.Emit.{row_line, Makes, Holds, Emitted, rows_bytes, Room};
 
+use layout::scope::Scope;
 use layout::{row, spot};
 use line::Line;
 use rules::kind::Kind;
@@ -18,22 +19,22 @@ pub mod lines;
 
 // Writes the one line of row i. Where it goes is looked up here, for each kind by itself: looked up once for all kinds, their writing is
 // compiled into one piece, which is slower.
-fn one(rows: &[u8], map: &[u16], i: usize, first: usize, l: Line, out: &mut [u8])
+fn one(rows: &[u8], map: &[Scope], i: usize, first: usize, l: Line, out: &mut [u8])
     requires surveyed { (Surveyed rows.now map.now) × (Makes rows.now i 1) × (Holds rows.now i first out.old) }
     requires l_value { l ≡ struct (row_line (table_of rows.now) i 0) }
     ensures { Emitted rows.now i first out.old out.new }
 {
-    let at = Line::WIDTH * (row::index(spot::line_of(rows, map, i)) - first);
+    let at = Line::WIDTH * (usize::from(spot::line_of(rows, map, i)) - first);
     l.write(out, at);
 }
 
 // Writes the two lines of row i.
-fn two(rows: &[u8], map: &[u16], i: usize, first: usize, l: Line, k: Line, out: &mut [u8])
+fn two(rows: &[u8], map: &[Scope], i: usize, first: usize, l: Line, k: Line, out: &mut [u8])
     requires surveyed { (Surveyed rows.now map.now) × (Makes rows.now i 2) × (Holds rows.now i first out.old) }
     requires l_value { (l ≡ struct (row_line (table_of rows.now) i 0)) × (k ≡ struct (row_line (table_of rows.now) i 1)) }
     ensures { Emitted rows.now i first out.old out.new }
 {
-    let at = Line::WIDTH * (row::index(spot::line_of(rows, map, i)) - first);
+    let at = Line::WIDTH * (usize::from(spot::line_of(rows, map, i)) - first);
     l.write(out, at);
     k.write(out, at + Line::WIDTH);
 }
@@ -41,7 +42,7 @@ fn two(rows: &[u8], map: &[u16], i: usize, first: usize, l: Line, k: Line, out: 
 // Writes the lines of row i to out, which begins with line `first`.
 fn emit(
     rows: &[u8],
-    map: &[u16],
+    map: &[Scope],
     bases: &[u16],
     values: &[u16],
     ends: &[u16],
@@ -56,7 +57,7 @@ fn emit(
     ensures { Emitted rows.now i first out.old out.new }
 {
     match row::kind(rows, i) {
-        Kind::Function => {}
+        Kind::Function | Kind::Unknown => {}
         Kind::Do => {
             let l = lines::do_line(rows, i);
             let k = lines::tick_line(rows, map, values, i);
@@ -91,14 +92,13 @@ fn emit(
             let k = lines::back_line(rows, map, values, ends, heads, i);
             two(rows, map, i, first, l, k, out);
         }
-        Kind::Unknown => {}
     }
 }
 
 // Writes the lines of `count` rows from row `from` on to the front of out.
 pub fn emit_rows(
     rows: &[u8],
-    map: &[u16],
+    map: &[Scope],
     bases: &[u16],
     values: &[u16],
     ends: &[u16],
@@ -112,9 +112,8 @@ pub fn emit_rows(
     requires ends { (Ends rows.now ends.now) × (Elses rows.now elses.now) × (Heads rows.now heads.now) }
     ensures { out.new ≡ over (rows_bytes (table_of rows.now) from count) out.old }
 {
-    let first = row::index(spot::line_of(rows, map, from));
-    let mut k = 0;
-    while k < count {
+    let first = usize::from(spot::line_of(rows, map, from));
+    for k in 0..count {
         emit(
             rows,
             map,
@@ -127,6 +126,5 @@ pub fn emit_rows(
             first,
             out,
         );
-        k += 1;
     }
 }

@@ -9,6 +9,7 @@ ghost use Rattle.layout.specs.Spot.{Inside, InLoop, Opens, Grows, Ends, Elses, H
 ghost use Rattle.line.specs.Line.{struct};
 ghost use Rattle.emit.specs.Emit.{row_line, plain_test_lem, else_test_lem, TurnsAt};
 
+use layout::scope::Scope;
 use layout::{row, spot};
 use line::Line;
 
@@ -21,7 +22,7 @@ pub fn do_line(rows: &[u8], i: usize) -> Line
 }
 
 // The tick that follows it.
-pub fn tick_line(rows: &[u8], map: &[u16], values: &[u16], i: usize) -> Line
+pub fn tick_line(rows: &[u8], map: &[Scope], values: &[u16], i: usize) -> Line
     requires surveyed { (Surveyed rows.now map.now) × (Valued rows.now values.now) }
     requires inside { (Inside rows.now i) × (kind_at (table_of rows.now) i ≡ Kind.Do) }
     ensures { result ≡ struct (row_line (table_of rows.now) i 1) }
@@ -33,7 +34,7 @@ pub fn tick_line(rows: &[u8], map: &[u16], values: &[u16], i: usize) -> Line
 // The test of a loop, or of an if without an else.
 fn plain_test(
     rows: &[u8],
-    map: &[u16],
+    map: &[Scope],
     bases: &[u16],
     values: &[u16],
     ends: &[u16],
@@ -52,7 +53,7 @@ fn plain_test(
 }
 
 // The test of an if whose else row is row x.
-fn else_test(rows: &[u8], map: &[u16], bases: &[u16], values: &[u16], x: usize, i: usize) -> Line
+fn else_test(rows: &[u8], map: &[Scope], bases: &[u16], values: &[u16], x: usize, i: usize) -> Line
     requires surveyed { (Surveyed rows.now map.now) × (Based rows.now bases.now) × (Valued rows.now values.now) }
     requires inside { (Inside rows.now i) × (Grows rows.now i) × (TurnsAt rows.now i x) }
     ensures { result ≡ struct (else_test_lem (table_of rows.now) i) }
@@ -78,7 +79,7 @@ fn else_test(rows: &[u8], map: &[u16], bases: &[u16], values: &[u16], x: usize, 
 // The test of the if in row i.
 pub fn if_line(
     rows: &[u8],
-    map: &[u16],
+    map: &[Scope],
     bases: &[u16],
     values: &[u16],
     ends: &[u16],
@@ -90,7 +91,7 @@ pub fn if_line(
     requires inside { (Inside rows.now i) × (kind_at (table_of rows.now) i ≡ Kind.If) }
     ensures { result ≡ struct (row_line (table_of rows.now) i 0) }
 {
-    let x = row::index(elses[i]);
+    let x = usize::from(elses[i]);
     if x == 0 {
         return plain_test(rows, map, bases, values, ends, i);
     }
@@ -100,7 +101,7 @@ pub fn if_line(
 // The test of the loop in row i.
 pub fn loop_line(
     rows: &[u8],
-    map: &[u16],
+    map: &[Scope],
     bases: &[u16],
     values: &[u16],
     ends: &[u16],
@@ -114,7 +115,7 @@ pub fn loop_line(
 }
 
 // The leave of the then part that ends at the else in row i.
-pub fn else_line(rows: &[u8], map: &[u16], values: &[u16], ends: &[u16], i: usize) -> Line
+pub fn else_line(rows: &[u8], map: &[Scope], values: &[u16], ends: &[u16], i: usize) -> Line
     requires surveyed { (Surveyed rows.now map.now) × (Valued rows.now values.now) }
     requires ends { (Ends rows.now ends.now) × (Inside rows.now i) × (kind_at (table_of rows.now) i ≡ Kind.Else) }
     ensures { result ≡ struct (row_line (table_of rows.now) i 0) }
@@ -127,7 +128,7 @@ pub fn else_line(rows: &[u8], map: &[u16], values: &[u16], ends: &[u16], i: usiz
 }
 
 // The leave of an if or a loop, or the ret of a function, at the end in row i.
-pub fn end_line(rows: &[u8], map: &[u16], values: &[u16], i: usize) -> Line
+pub fn end_line(rows: &[u8], map: &[Scope], values: &[u16], i: usize) -> Line
     requires surveyed { (Surveyed rows.now map.now) × (Valued rows.now values.now) }
     requires inside { (Inside rows.now i) × (kind_at (table_of rows.now) i ≡ Kind.End) }
     ensures { result ≡ struct (row_line (table_of rows.now) i 0) }
@@ -159,7 +160,7 @@ pub fn end_line(rows: &[u8], map: &[u16], values: &[u16], i: usize) -> Line
 }
 
 // The out of the break in row i.
-pub fn break_line(rows: &[u8], map: &[u16], values: &[u16], ends: &[u16], i: usize) -> Line
+pub fn break_line(rows: &[u8], map: &[Scope], values: &[u16], ends: &[u16], i: usize) -> Line
     requires surveyed { (Surveyed rows.now map.now) × (Valued rows.now values.now) }
     requires ends { (Ends rows.now ends.now) × (InLoop rows.now i) × (kind_at (table_of rows.now) i ≡ Kind.Break) }
     ensures { result ≡ struct (row_line (table_of rows.now) i 0) }
@@ -173,7 +174,7 @@ pub fn break_line(rows: &[u8], map: &[u16], values: &[u16], ends: &[u16], i: usi
 }
 
 // The out of the continue in row i.
-pub fn continue_line(rows: &[u8], map: &[u16], values: &[u16], i: usize) -> Line
+pub fn continue_line(rows: &[u8], map: &[Scope], values: &[u16], i: usize) -> Line
     requires surveyed { (Surveyed rows.now map.now) × (Valued rows.now values.now) }
     requires in_loop { (InLoop rows.now i) × (kind_at (table_of rows.now) i ≡ Kind.Continue) }
     ensures { result ≡ struct (row_line (table_of rows.now) i 0) }
@@ -188,7 +189,7 @@ pub fn continue_line(rows: &[u8], map: &[u16], values: &[u16], i: usize) -> Line
 // The call in row i.
 pub fn call_line(
     rows: &[u8],
-    map: &[u16],
+    map: &[Scope],
     bases: &[u16],
     values: &[u16],
     heads: &[u16],
@@ -207,7 +208,7 @@ pub fn call_line(
 // The back that follows it.
 pub fn back_line(
     rows: &[u8],
-    map: &[u16],
+    map: &[Scope],
     values: &[u16],
     ends: &[u16],
     heads: &[u16],

@@ -10,7 +10,7 @@ ghost use Rattle.layout.specs.Spot.{Ends, Elses, Heads};
 ghost use Rattle.hardener.specs.Pass.{fitting, Batch, Fit, MadeIs, PassedIs};
 
 use crate::compare;
-use layout::scope::MAP;
+use layout::scope::{MAP, Scope};
 use layout::{row, spot};
 use line::Line;
 use rules::limits::{FUNCTIONS, ROWS};
@@ -45,7 +45,7 @@ fn fits(comparing: bool, size: usize, given: usize, room: usize) -> bool
 // Makes the lines of all rows: whether they agree with the given ones.
 fn make(
     rows: &[u8],
-    map: &[u16],
+    map: &[Scope],
     bases: &[u16],
     values: &[u16],
     ends: &[u16],
@@ -66,8 +66,8 @@ fn make(
         emit::emit_rows(
             rows, map, bases, values, ends, elses, heads, from, count, out,
         );
-        let first = Line::WIDTH * row::index(spot::line_of(rows, map, from));
-        let past = Line::WIDTH * row::index(spot::line_of(rows, map, from + count));
+        let first = Line::WIDTH * usize::from(spot::line_of(rows, map, from));
+        let past = Line::WIDTH * usize::from(spot::line_of(rows, map, from + count));
         if !compare::agrees(comparing, out, lines, first, past) {
             return false;
         }
@@ -91,11 +91,11 @@ pub fn pass(
     requires out_len { comparing ≡ true → length out.old ≡ 1280 }
     ensures { PassedIs comparing rows.now lines.now out.old out.new result }
 {
-    let mut map = [0u16; MAP];
+    let mut map = [Scope::OUTERMOST; MAP];
     let mut bases = [0u16; ROWS + 1];
     let mut values = [0u16; ROWS];
     layout::lay_out(rows, &mut map, &mut bases, &mut values);
-    let size = Line::WIDTH * row::index(spot::line_of(rows, &map, rows.len() / row::WIDTH));
+    let size = Line::WIDTH * usize::from(spot::line_of(rows, &map, rows.len() / row::WIDTH));
     if !fits(comparing, size, lines.len(), out.len()) {
         return None;
     }

@@ -9,6 +9,7 @@ ghost use Rattle.layout.specs.Scope.{Surveyed};
 ghost use Rattle.layout.specs.Number.{Based, Valued};
 ghost use Rattle.layout.specs.Spot.{Near, Inside, InLoop, Opens, Grows, SpotIs, child_of_lem, in_body, is_loop_lem, OpenerIs, LoopIs, Head, CalleeIs, end_of_body, Ends, Heads};
 
+use crate::scope::Scope;
 use crate::{row, scope};
 use rules::kind::Kind;
 
@@ -28,7 +29,7 @@ fn local(region: u16, body: u16) -> u8
 }
 
 // Where row i stands.
-pub fn spot_of(rows: &[u8], map: &[u16], values: &[u16], i: usize) -> Spot
+pub fn spot_of(rows: &[u8], map: &[Scope], values: &[u16], i: usize) -> Spot
     requires { (Surveyed rows.now map.now) × (Valued rows.now values.now) × (Inside rows.now i) }
     ensures { SpotIs rows.now i result }
 {
@@ -40,16 +41,16 @@ pub fn spot_of(rows: &[u8], map: &[u16], values: &[u16], i: usize) -> Spot
 }
 
 // The base of the region that row i opens.
-pub fn base_of(rows: &[u8], map: &[u16], bases: &[u16], i: usize) -> u16
+pub fn base_of(rows: &[u8], map: &[Scope], bases: &[u16], i: usize) -> u16
     requires { (Surveyed rows.now map.now) × (Based rows.now bases.now) × (i < length rows.now / 6) }
     ensures { result ≡ base (table_of rows.now) (regions (table_of rows.now) i) }
 {
     let here = scope::stand(rows, map, i);
-    bases[row::index(here.opened)]
+    bases[usize::from(here.opened)]
 }
 
 // The region that row i opens, by its number in the function.
-pub fn child_of(rows: &[u8], map: &[u16], i: usize) -> u8
+pub fn child_of(rows: &[u8], map: &[Scope], i: usize) -> u8
     requires { (Surveyed rows.now map.now) × (Grows rows.now i) }
     ensures { result ≡ child_of_lem (table_of rows.now) i }
 {
@@ -58,7 +59,7 @@ pub fn child_of(rows: &[u8], map: &[u16], i: usize) -> u8
 }
 
 // The number of row i's first line.
-pub fn line_of(rows: &[u8], map: &[u16], i: usize) -> u16
+pub fn line_of(rows: &[u8], map: &[Scope], i: usize) -> u16
     requires { (Surveyed rows.now map.now) × (i ≤ length rows.now / 6) }
     ensures { result ≡ line_of (table_of rows.now) i }
 {
@@ -67,7 +68,7 @@ pub fn line_of(rows: &[u8], map: &[u16], i: usize) -> u16
 }
 
 // The number of the first line of the row after row i.
-pub fn line_after(rows: &[u8], map: &[u16], i: usize) -> u16
+pub fn line_after(rows: &[u8], map: &[Scope], i: usize) -> u16
     requires { (Surveyed rows.now map.now) × (i < length rows.now / 6) }
     ensures { result ≡ line_of (table_of rows.now) (suc i) }
 {
@@ -75,15 +76,15 @@ pub fn line_after(rows: &[u8], map: &[u16], i: usize) -> u16
 }
 
 // The number of the line past all that row i opens.
-pub fn line_past(rows: &[u8], map: &[u16], ends: &[u16], i: usize) -> u16
+pub fn line_past(rows: &[u8], map: &[Scope], ends: &[u16], i: usize) -> u16
     requires { (Surveyed rows.now map.now) × (Ends rows.now ends.now) × (Opens rows.now i) }
     ensures { result ≡ line_of (table_of rows.now) (suc (end_of (table_of rows.now) i)) }
 {
-    line_after(rows, map, row::index(ends[i]))
+    line_after(rows, map, usize::from(ends[i]))
 }
 
 // Whether row i stands in its function's body and in no other part.
-pub fn in_body(rows: &[u8], map: &[u16], i: usize) -> bool
+pub fn in_body(rows: &[u8], map: &[Scope], i: usize) -> bool
     requires { (Surveyed rows.now map.now) × (Inside rows.now i) }
     ensures { result ≡ in_body (table_of rows.now) i }
 {
@@ -96,54 +97,43 @@ pub fn is_loop(rows: &[u8], i: usize) -> bool
     requires { i < length rows.now / 6 }
     ensures { result ≡ is_loop_lem (kind_at (table_of rows.now) i) }
 {
-    match row::kind(rows, i) {
-        Kind::Function => false,
-        Kind::Do => false,
-        Kind::If => false,
-        Kind::Else => false,
-        Kind::Loop => true,
-        Kind::End => false,
-        Kind::Break => false,
-        Kind::Continue => false,
-        Kind::Call => false,
-        Kind::Unknown => false,
-    }
+    matches!(row::kind(rows, i), Kind::Loop)
 }
 
 // The row that opened the part that row i stands in.
-pub fn opener_of(rows: &[u8], map: &[u16], i: usize) -> usize
+pub fn opener_of(rows: &[u8], map: &[Scope], i: usize) -> usize
     requires { (Surveyed rows.now map.now) × (Inside rows.now i) }
     ensures { OpenerIs rows.now i result }
 {
     let here = scope::stand(rows, map, i);
-    row::index(here.opener)
+    usize::from(here.opener)
 }
 
 // The row of the innermost loop around row i.
-pub fn loop_of(rows: &[u8], map: &[u16], i: usize) -> usize
+pub fn loop_of(rows: &[u8], map: &[Scope], i: usize) -> usize
     requires { (Surveyed rows.now map.now) × (InLoop rows.now i) }
     ensures { LoopIs rows.now i result }
 {
     let here = scope::stand(rows, map, i);
-    row::index(here.repeat)
+    usize::from(here.repeat)
 }
 
 // The row of the function that row i calls.
-pub fn callee_of(rows: &[u8], map: &[u16], heads: &[u16], i: usize) -> usize
+pub fn callee_of(rows: &[u8], map: &[Scope], heads: &[u16], i: usize) -> usize
     requires surveyed { (Surveyed rows.now map.now) × (Heads rows.now heads.now) }
     requires i_in_bounds { (i < length rows.now / 6) × (kind_at (table_of rows.now) i ≡ Kind.Call) }
     ensures { CalleeIs rows.now (operands_at (table_of rows.now) i).n result }
 {
     let f = row::operands_of(rows, i);
-    row::index(heads[row::index(f.n)])
+    usize::from(heads[usize::from(f.n)])
 }
 
 // What the body of the function that row i opens ends at.
-pub fn end_value(rows: &[u8], map: &[u16], values: &[u16], ends: &[u16], i: usize) -> u16
+pub fn end_value(rows: &[u8], map: &[Scope], values: &[u16], ends: &[u16], i: usize) -> u16
     requires surveyed { (Surveyed rows.now map.now) × (Valued rows.now values.now) }
     requires ends { (Ends rows.now ends.now) × (Head rows.now i) }
     ensures { result ≡ end_of_body (table_of rows.now) i }
 {
-    let last = spot_of(rows, map, values, row::index(ends[i]));
+    let last = spot_of(rows, map, values, usize::from(ends[i]));
     last.e + 1
 }

@@ -1,5 +1,5 @@
 -- What "this table is accepted" says of each of its rows. Assumes nothing.
-use mathlib.Core.Logic.{◌⊎◌, inl, inr, ◌≢◌}
+use mathlib.Core.Logic.{◌⊎◌, inl, inr}
 use mathlib.Core.Path.{◌≡◌, refl, sym, ap, ◌∙◌}
 use mathlib.Core.Bool.{Bool, true, false}
 use mathlib.Core.List.{List, [], ◌∷◌}
@@ -131,12 +131,9 @@ proper-bytes bs e =
 
 -- whole rows, and at least one
 pub whole-rows : (bs : List ℕ) → no_whole_rows bs ≡ false → (0 < length bs / row_width) × (row_width * (length bs / row_width) ≡ length bs)
-whole-rows bs h = let n = by (eqb-false _ _ (or_parts (eqb (length bs) 0) _ h).0) in
+whole-rows bs h = let n = eqb-false _ _ (or_parts (eqb (length bs) 0) _ h).0 in
     (omega (arith, n, r), omega (arith, r))
   where
-    by : (length bs ≡ 0 → ⊥) → length bs ≢ 0
-    by x = x
-
     r : length bs % row_width ≡ 0
     r = eqb-true _ _ (not-false _ (or_parts (eqb (length bs) 0) _ h).1)
 

@@ -51,7 +51,7 @@ between ls a b e = by (guard_from_lem ls a (b - a)) refl e
 -- and back: a guard in either direction lies between
 guard-there : (ls : List Line) (k d x : ℕ) → k ≤ x → x < k + d → is_guard (line_at ls x) ≡ true → guard_from_lem ls k d ≡ true
 unfolding guard_from_lem
-guard-there ls k zero x a b g = absurd (let z : ⊥ = omega arith in z)
+guard-there ls k zero x a b g = absurd (omega arith)
 guard-there ls k (suc d) x a b g = by (eq-or-lt_of_le a) (λ l. guard-there ls (suc k) d x l (omega arith) g)
   where
     by : (k ≡ x) ⊎ (k < x) → (k < x → guard_from_lem ls (suc k) d ≡ true) → is_guard (line_at ls k) || guard_from_lem ls (suc k) d ≡ true

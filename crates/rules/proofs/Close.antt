@@ -2,7 +2,7 @@
 -- Assumes that the table is accepted, where it says so.
 use mathlib.Core.Logic.{◌≢◌, ◌⊎◌, inl, inr}
 use mathlib.Core.Path.{◌≡◌, refl, sym, ap, ◌∙◌, subst}
-use mathlib.Core.Bool.{true, false}
+use mathlib.Core.Bool.{true, false, and-false}
 use mathlib.Core.List.{List, [], ◌∷◌}
 use Prim.Native.Nat.{ℕ, suc, ◌+◌, ◌-◌, ◌≤◌, ◌<◌}
 use native.Mathlib.Nat.{le_refl, eq-or-lt_of_le}
@@ -15,7 +15,6 @@ use Rattle.rules.specs.declared.kind.Kind.TheVariants.{Function, Do, If, Else, L
 use Rattle.rules.specs.Row.{Table, kind_at}
 use Rattle.rules.specs.Scan.{Part, Open, Shape, pushes, turns, closes, stays, shape_of, turned, open_after_lem, regions, open_at, opener_of, is_opener, is_end_lem, is_else, is_end_of, is_else_of, end_of, else_of, has_else}
 use Rattle.rules.specs.Value.{takes, value}
-use Rattle.std.proofs.lemmas.Bool
 use Rattle.rules.proofs.Logic.{clash, and_left, and_right}
 use Rattle.rules.proofs.Search.{Found, hit, miss, found}
 use Rattle.rules.proofs.Accepted.{Proper}
@@ -70,7 +69,7 @@ pub record EndIs (t : Table) (i j : ℕ) : Type 0 where
   pub inside : j < length t
 
 not-end-outside : (t : Table) (i j : ℕ) → open_at t j ≡ [] → is_end_of t i j ≡ false
-not-end-outside t i j q = rw q (Bool.and_right (is_end_lem (kind_at t j)) false refl)
+not-end-outside t i j q = rw q (and-false (is_end_lem (kind_at t j)))
 
 pub end_is : (t : Table) (i : ℕ) (p : Part) → Proper t → i < length t → shape_of (kind_at t i) ≡ pushes p → EndIs t i (end_of t i)
 unfolding end_of
@@ -165,7 +164,7 @@ else_is t i l c = by (else_of t i) (ltb-true (else_of t i) (length t) c) (found 
   where
     by : (r : ℕ) → r < length t → Found (is_else_of t i) (length t - i) (suc i) r → Turned t i r
     by r b (hit h a d f) = turned_is t i r h
-    by r b (miss q f) = absurd (let z : ⊥ = omega arith in z)
+    by r b (miss q f) = absurd (omega arith)
 
 -- ---- what opened a part that is closed does not come back
 abbrev pub NoOpener : ℕ → List Open → Type 0

@@ -25,7 +25,7 @@ fn name(kind: Kind) -> &'static str {
 pub fn list<W: fmt::Write>(rows: &[u8], h: Registers, page: &mut W) -> fmt::Result
     requires { Inside rows.now h.at }
 {
-    let kind = row::kind(rows, row::index(h.at));
+    let kind = row::kind(rows, usize::from(h.at));
     front::list(h, "row", h.at, page)?;
     writeln!(page, " {}", name(kind))
 }

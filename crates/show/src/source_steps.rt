@@ -48,7 +48,7 @@ fn with_row(rows: &[u8], h: Registers, calls: u16) -> u16
     requires { (Inside rows.now h.at) × (calls < 65535) }
     ensures { result ≡ calls + call_at (table_of rows.now) h.at }
 {
-    if is_call(row::kind(rows, row::index(h.at))) {
+    if is_call(row::kind(rows, usize::from(h.at))) {
         return calls + 1;
     }
     calls

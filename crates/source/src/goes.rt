@@ -13,7 +13,7 @@ ghost use Rattle.layout.specs.Scope.{Surveyed};
 ghost use Rattle.layout.specs.Spot.{Inside, Opens, Ends, Elses, Heads};
 ghost use Rattle.source.specs.Goes.{end_goes_lem, go_of_lem, code_of, Known};
 
-use layout::scope::MAP;
+use layout::scope::{MAP, Scope};
 use layout::{row, scope, spot};
 use rules::kind::Kind;
 use rules::limits::{FUNCTIONS, ROWS};
@@ -66,7 +66,7 @@ fn if_go(rows: &[u8], ends: &[u16], elses: &[u16], i: usize) -> u16
 }
 
 // To nowhere from the end of a function, to the test from the end of a loop, past the end of an if.
-fn end_go(rows: &[u8], map: &[u16], i: usize) -> u16
+fn end_go(rows: &[u8], map: &[Scope], i: usize) -> u16
     requires { (Surveyed rows.now map.now) × (Inside rows.now i) }
     ensures { result ≡ end_goes_lem (table_of rows.now) i (part_of (open_at (table_of rows.now) i)) }
 {
@@ -86,7 +86,7 @@ fn op_of(rows: &[u8], i: usize) -> u16
     ensures { result ≡ (operands_at (table_of rows.now) i).op }
 {
     let o = row::operands_of(rows, i);
-    o.op as u16
+    u16::from(o.op)
 }
 
 // What a row does and where it goes, in one word.
@@ -98,13 +98,13 @@ fn in_one(code: u16, go: u16) -> u16
 }
 
 // The word of row i.
-fn row_word(rows: &[u8], map: &[u16], ends: &[u16], elses: &[u16], heads: &[u16], i: usize) -> u16
+fn row_word(rows: &[u8], map: &[Scope], ends: &[u16], elses: &[u16], heads: &[u16], i: usize) -> u16
     requires surveyed { (Surveyed rows.now map.now) × (i < length rows.now / 6) }
     requires ends { (Ends rows.now ends.now) × (Elses rows.now elses.now) × (Heads rows.now heads.now) }
     ensures { result ≡ 4096 * code_of (table_of rows.now) i + go_of_lem (table_of rows.now) i }
 {
     match row::kind(rows, i) {
-        Kind::Function => in_one(NEXT, 0),
+        Kind::Function | Kind::Unknown => in_one(NEXT, 0),
         Kind::Do => in_one(op_of(rows, i) + SET, 0),
         Kind::If => in_one(op_of(rows, i) + EQUAL, if_go(rows, ends, elses, i)),
         Kind::Else => in_one(GO, past(rows, ends, spot::opener_of(rows, map, i))),
@@ -113,14 +113,13 @@ fn row_word(rows: &[u8], map: &[u16], ends: &[u16], elses: &[u16], heads: &[u16]
         Kind::Break => in_one(GO, past(rows, ends, spot::loop_of(rows, map, i))),
         Kind::Continue => in_one(GO, spot::loop_of(rows, map, i) as u16),
         Kind::Call => in_one(CALL, (spot::callee_of(rows, map, heads, i) + 1) as u16),
-        Kind::Unknown => in_one(NEXT, 0),
     }
 }
 
 // What every row does and where it goes, from the scopes of the rows and the links.
 fn fill(
     rows: &[u8],
-    map: &[u16],
+    map: &[Scope],
     ends: &[u16],
     elses: &[u16],
     heads: &[u16],
@@ -131,10 +130,8 @@ fn fill(
     ensures { Known rows.now goes.new }
 {
     let n = rows.len() / row::WIDTH;
-    let mut i = 0;
-    while i < n {
+    for i in 0..n {
         goes[i] = row_word(rows, map, ends, elses, heads, i);
-        i += 1;
     }
 }
 
@@ -150,7 +147,7 @@ pub fn find(
     requires goes_len { length goes.old ≡ max_rows }
     ensures { Known rows.now goes.new }
 {
-    let mut map = [0u16; MAP];
+    let mut map = [Scope::OUTERMOST; MAP];
     scope::survey(rows, &mut map);
     fill(rows, &map, ends, elses, heads, goes);
 }

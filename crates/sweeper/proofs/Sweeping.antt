@@ -54,9 +54,12 @@ not-false true e = refl
 not-false false e = absurd (cc)
 
 -- what is known is the rest of the trace
+pub rest_is : {bs : List ℕ} {b : ℕ} {tr vs : List ℕ} {k : ℕ} {m : Machine} {known ws : List ℕ} (w : Before bs vs b tr k m known ws) → known ≡ take (length tr - w.at) (drop w.at tr)
+rest_is {tr = tr} w = w.known_is ∙ sym (from_there tr w.at)
+
 pub as_rest : {bs : List ℕ} {b : ℕ} {tr vs : List ℕ} {k left : ℕ} {m : Machine} {known ws : List ℕ} (w : Before bs vs b tr k m known ws) → (r : Narrow) → NarrowIs (lines_in bs) m ws known left r
     → NarrowIs (lines_in bs) m ws (take (length tr - w.at) (drop w.at tr)) left r
-as_rest {bs} {b} {tr} {vs} {k} {left} {m} {known} {ws} w r n = subst (λ x. NarrowIs (lines_in bs) m ws x left r) (w.known_is ∙ sym (from_there tr w.at)) n
+as_rest {bs} {b} {tr} {vs} {k} {left} {m} {known} {ws} w r n = subst (λ x. NarrowIs (lines_in bs) m ws x left r) (rest_is w) n
 
 -- what was other stays so, whatever comes later
 more_other : (f : ℕ → Counts) (j d : ℕ) → any_other (sum_counts j f) ≡ true → any_other (sum_counts (j + d) f) ≡ true

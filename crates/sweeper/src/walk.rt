@@ -1,5 +1,5 @@
 // The walk over the steps of an unstruck run whose trace is known. What is done at each of them is the caller's.
-ghost use Rattle.std.specs.Prelude.{◌≡◌, ℕ, suc, true, false, List, length};
+ghost use Rattle.std.specs.Prelude.{◌≡◌, ℕ, suc, true, false, List, [], length};
 ghost use Rattle.rules.specs.Limits.{counter_words};
 ghost use Rattle.sweeper.specs.Walk.{unstruck, Before};
 
@@ -13,6 +13,9 @@ use state::machine::{Machine, afresh, begun};
 
 // What is asked of a sweep. It is shown each step in turn, with the machine that stands before it, the rest of the trace and the counters.
 pub trait Asked {
+    // What it asks for, in numbers, where it could ask for something else: that stays.
+    ghost asks: { Self → List ℕ } = { λ _. [] };
+
     // What it holds once so many steps were struck, of this table, these variables and this budget.
     ghost struck: { List ℕ → List ℕ → ℕ → ℕ → Self → Type 0 };
 
@@ -28,6 +31,7 @@ pub trait Asked {
     ) -> bool
         requires before { Before run.now.table.now.lines.now run.now.variables run.now.budget run.now.trace.now step machine known.now counters.now }
         requires held { struck run.now.table.now.lines.now run.now.variables run.now.budget step self.old }
+        ensures same { asks self.new ≡ asks self.old }
         ensures on { result ≡ true → struck run.now.table.now.lines.now run.now.variables run.now.budget (suc step) self.new }
         ensures over { result ≡ false → struck run.now.table.now.lines.now run.now.variables run.now.budget (unstruck run.now.table.now.lines.now run.now.variables run.now.budget).steps self.new };
 }
@@ -36,7 +40,8 @@ pub trait Asked {
 pub fn walk<A: Asked>(run: &Unstruck, counters: &mut [u16], spare: &mut Spare, asked: &mut A)
     requires words { length counters.old ≡ counter_words }
     requires held { A.struck run.now.table.now.lines.now run.now.variables run.now.budget 0 asked.old }
-    ensures { A.struck run.now.table.now.lines.now run.now.variables run.now.budget (unstruck run.now.table.now.lines.now run.now.variables run.now.budget).steps asked.new }
+    ensures same { A.asks asked.new ≡ A.asks asked.old }
+    ensures all { A.struck run.now.table.now.lines.now run.now.variables run.now.budget (unstruck run.now.table.now.lines.now run.now.variables run.now.budget).steps asked.new }
 {
     fresh(counters, 0, 1);
     let mut m = begun(0, run.variables);

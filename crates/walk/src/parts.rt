@@ -29,6 +29,7 @@ pub fn sequence(
     requires ends_len { (length ends.old ≡ max_rows) × (length elses.old ≡ max_rows) }
     ensures { SeqOk rows.now base depth opened in_loop ends.old elses.old ends.new elses.new result }
 {
+    // Kept as a `while`: a construct is as many rows long as `construct` tells, so no iterator's step is known before.
     let mut at = 0;
     let mut regions = opened;
     while WIDTH * at + LAST < rows.len() {

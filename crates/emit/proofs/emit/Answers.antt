@@ -1,14 +1,10 @@
-use mathlib.Core.Path.{refl, sym, ◌∙◌}
-use Rattle.rules.specs.declared.kind.Kind.TheVariants.{Function, Unknown}
+use mathlib.Core.Path.{sym, ◌∙◌}
 use Rattle.layout.proofs.ByKind.{in-do, in-if, in-else, in-loop, in_end, in-break, in-continue, in-call}
-use Rattle.emit.proofs.Emits.{makes, none_out}
+use Rattle.emit.proofs.Emits.{makes_none, none_out}
 use Rattle.emit.proofs.emit.Goals as goal
 
 pub returns-in-Function : goal.returns-in-Function
-returns-in-Function c = none_out (makes Function c.requires.laid.1 c.kind.ensures c.in-Function.is refl)
-
-pub returns-in-Unknown : goal.returns-in-Unknown
-returns-in-Unknown c = none_out (makes Unknown c.requires.laid.1 c.kind.ensures c.in-Unknown.is refl)
+returns-in-Function c = none_out (makes_none c.requires.laid.1 c.kind.ensures c.in-Function.is)
 
 pub tick_line-k-requires-clause-inside : goal.tick_line-k-requires-clause-inside
 tick_line-k-requires-clause-inside c = (in-do c.requires.laid.0.surveyed c.requires.laid.1 c.kind.ensures c.in-Do.is, sym c.kind.ensures ∙ c.in-Do.is)

@@ -8,7 +8,7 @@ pub loop-k-init : goal.loop-k-init
 loop-k-init c = emit-start c.requires.laid.1
 
 pub loop-k-preserved : goal.loop-k-preserved
-loop-k-preserved c = emit_more c.loop-k.invariant (omega arith) (c.index-first.ensures ∙ c.line_of.ensures) c.emit.ensures (search rules)
+loop-k-preserved c = emit_more c.loop-k.invariant (omega arith) (c.from-first.ensures ∙ c.line_of.ensures) c.emit.ensures (search rules)
 
 pub emit-requires-clause-laid : goal.emit-requires-clause-laid
-emit-requires-clause-laid c = (c.requires.laid.0, omega (arith, c.requires.laid.1.rows), emit-holds c.loop-k.invariant (omega arith) (c.index-first.ensures ∙ c.line_of.ensures))
+emit-requires-clause-laid c = (c.requires.laid.0, omega (arith, c.requires.laid.1.rows), emit-holds c.loop-k.invariant (omega arith) (c.from-first.ensures ∙ c.line_of.ensures))

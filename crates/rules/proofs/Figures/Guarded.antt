@@ -3,7 +3,7 @@
 use mathlib.Core.Path.{◌≡◌, refl, ap, ◌∙◌}
 use mathlib.Core.Bool.{Bool, true, false, cond, ◌&&◌}
 use mathlib.Core.List.{List, [], ◌∷◌}
-use Prim.Native.Nat.{ℕ, zero, suc, ◌+◌, ◌-◌, ◌≤◌, ◌<◌, min}
+use Prim.Native.Nat.{ℕ, zero, suc, ◌+◌, ◌≤◌, ◌<◌, min}
 use native.Mathlib.Nat.{le_refl, not-suc-le-zero}
 use native.Mathlib.Decide.{le_ind, dec_lt}
 use native.Mathlib.Omega.{arith}
@@ -47,15 +47,9 @@ unfolding regions_in
 count_is ls n r below above zero = omega arith
 count_is ls n r below above (suc g) = by (dec_lt g r) (count_is ls n r below above g)
   where
-    one : (b : Bool) → b ≡ true → ◌≡◌ {A = ℕ} (cond b 1 0) 1
-    one b e = rw e
-
-    none : (b : Bool) → b ≡ false → ◌≡◌ {A = ℕ} (cond b 1 0) 0
-    none b e = rw e
-
     by : Dec (g < r) → regions_in ls n g ≡ min g r → regions_in ls n g + cond (has_region ls n g (length ls)) 1 0 ≡ min (suc g) r
-    by (yes h) ih = omega (arith, ih, one (has_region ls n g (length ls)) (below g h))
-    by (no h) ih = omega (arith, ih, none (has_region ls n g (length ls)) (above g (omega arith)))
+    by (yes h) ih = rw (below g h) (omega (arith, ih))
+    by (no h) ih = rw (above g (omega arith)) (omega (arith, ih))
 
 -- ---- the lines of a row
 test-guards : (t : Table) (i : ℕ) (fs : List Open) (b : Bool) (g : ℕ) → guards g (test_of t i fs b) ≡ eqb (own_region fs) g
@@ -71,10 +65,7 @@ inner-guards t i fs g loop_body e = refl
 
 -- the body's own region is 0, which a ret guards
 end-guards : (t : Table) (i : ℕ) (f : Open) (fs : List Open) (g : ℕ) → Formed t (f ∷ fs) → guards g (end_line t i (f ∷ fs) f.part) ≡ eqb (own_region (f ∷ fs)) g
-end-guards t i f [] g m = ap (λ p. guards g (end_line t i (f ∷ []) p)) m.0 ∙ ap (λ x. eqb x g) (itself f.region)
-  where
-    itself : (x : ℕ) → 0 ≡ x - x
-    itself x = omega arith
+end-guards t i f [] g m = ap (λ p. guards g (end_line t i (f ∷ []) p)) m.0 ∙ ap (λ x. eqb x g) (omega arith)
 end-guards t i f (h ∷ hs) g m = inner-guards t i (f ∷ h ∷ hs) g f.part m.0
 
 -- none guards another region
@@ -82,30 +73,27 @@ module _ (t : Table) (i : ℕ) (f : Open) (fs : List Open) (g : ℕ) (m : Formed
   off : eqb (own_region (f ∷ fs)) g ≡ false
   off = ne_eqb (own_region (f ∷ fs)) g ne
 
-  too_many : {A : Type 0} (x c : ℕ) → c ≤ x → x < c → A
-  too_many x c a b = absurd (let z : ⊥ = omega arith in z)
-
   pub row-off : (k : Kind) (ph : ℕ) → ph < line_count k → guards g (line_at (row_lines t i (f ∷ fs) k) ph) ≡ false
   unfolding row_lines
   row-off Function ph l = absurd (not-suc-le-zero l)
   row-off Do zero l = refl
   row-off Do (suc zero) l = off
-  row-off Do (suc (suc x)) l = too_many (suc (suc x)) 2 (omega arith) l
+  row-off Do (suc (suc x)) l = absurd (omega arith)
   row-off If zero l = test-guards t i (f ∷ fs) (has_else t i) g ∙ off
-  row-off If (suc x) l = too_many (suc x) 1 (omega arith) l
+  row-off If (suc x) l = absurd (omega arith)
   row-off Else zero l = off
-  row-off Else (suc x) l = too_many (suc x) 1 (omega arith) l
+  row-off Else (suc x) l = absurd (omega arith)
   row-off Loop zero l = test-guards t i (f ∷ fs) false g ∙ off
-  row-off Loop (suc x) l = too_many (suc x) 1 (omega arith) l
+  row-off Loop (suc x) l = absurd (omega arith)
   row-off End zero l = end-guards t i f fs g m ∙ off
-  row-off End (suc x) l = too_many (suc x) 1 (omega arith) l
+  row-off End (suc x) l = absurd (omega arith)
   row-off Break zero l = off
-  row-off Break (suc x) l = too_many (suc x) 1 (omega arith) l
+  row-off Break (suc x) l = absurd (omega arith)
   row-off Continue zero l = off
-  row-off Continue (suc x) l = too_many (suc x) 1 (omega arith) l
+  row-off Continue (suc x) l = absurd (omega arith)
   row-off Call zero l = off
   row-off Call (suc zero) l = off
-  row-off Call (suc (suc x)) l = too_many (suc (suc x)) 2 (omega arith) l
+  row-off Call (suc (suc x)) l = absurd (omega arith)
   row-off Unknown ph l = absurd (not-suc-le-zero l)
 
 -- the line of a row that ends its region guards it

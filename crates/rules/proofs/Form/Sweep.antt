@@ -75,7 +75,7 @@ module _ {H : Type 0} (F : Form H) (ls : List Line) (vs : List ℕ) (b : ℕ) wh
         by false e =
             let q : b ≡ k + (b - k) = omega (arith, in-budget) in
             let r : unstruck_run F ls vs b ≡ before F ls vs k = ap (λ y. unstruck_run F ls vs y) q ∙ run-over (striking_step_of F ls None) k (b - k) 0 (start_by F vs) (eqb-false _ _ e) in
-            absurd (let z : ⊥ = omega (arith, l, ap (λ y. y.steps) r, run-bound (striking_step_of F ls None) k 0 (start_by F vs)) in z)
+            absurd (omega (arith, l, ap (λ y. y.steps) r, run-bound (striking_step_of F ls None) k 0 (start_by F vs)))
 
     pub hits : b ≤ no_step → strikes F ls vs b k ≡ true
     unfolding in-budget

@@ -1,8 +1,8 @@
 use mathlib.Core.Path.{refl}
 use native.Mathlib.Omega.{arith}
-use Rattle.rules.specs.declared.kind.Kind.TheVariants.{Function, Do, If, Else, Loop, End, Break, Continue, Call, Unknown}
+use Rattle.rules.specs.declared.kind.Kind.TheVariants.{Do, If, Else, Loop, End, Break, Continue, Call}
 use Rattle.layout.proofs.ByKind.{in-else, in_end, in-break, in-continue}
-use Rattle.source.proofs.Targets.{function-goes, do-goes, if-goes, else-goes, loop-goes, end_goes, break-goes, continue-goes, call-goes, unknown-goes, small-code, small-go, word-is}
+use Rattle.source.proofs.Targets.{next-word, do-goes, if-goes, else-goes, loop-goes, end_goes, break-goes, continue-goes, call-goes, small-code, small-go, word-is}
 use Rattle.source.proofs.goes.row_word.Goals as goal
 
 pub overflow_add-op_of : goal.overflow_add-op_of
@@ -45,7 +45,7 @@ pub loop_of-requires-in-Continue : goal.loop_of-requires-in-Continue
 loop_of-requires-in-Continue c = (c.requires.surveyed.0, in-continue c.requires.surveyed.0 c.requires.surveyed.1 c.kind.ensures c.in-Continue.is)
 
 pub returns-in-Function : goal.returns-in-Function
-returns-in-Function c = word-is _ _ c.kind.ensures Function c.in-Function.is refl (function-goes _ _ c.kind.ensures c.in-Function.is) c.in_one.ensures
+returns-in-Function c = next-word _ _ c.kind.ensures c.in-Function.is c.in_one.ensures
 
 pub returns-in-Do : goal.returns-in-Do
 returns-in-Do c = word-is _ _ c.kind.ensures Do c.in-Do.is c.op_of.ensures (do-goes _ _ c.kind.ensures c.in-Do.is) c.in_one-in-Do.ensures
@@ -70,6 +70,3 @@ returns-in-Continue c = word-is _ _ c.kind.ensures Continue c.in-Continue.is ref
 
 pub returns-in-Call : goal.returns-in-Call
 returns-in-Call c = word-is _ _ c.kind.ensures Call c.in-Call.is refl (call-goes _ _ c.kind.ensures c.in-Call.is c.callee_of.ensures) c.in_one-in-Call.ensures
-
-pub returns-in-Unknown : goal.returns-in-Unknown
-returns-in-Unknown c = word-is _ _ c.kind.ensures Unknown c.in-Unknown.is refl (unknown-goes _ _ c.kind.ensures c.in-Unknown.is) c.in_one-in-Unknown.ensures
