@@ -138,5 +138,3 @@ module _ {bs : List ℕ} {at : ℕ} (v : CallsTo bs at) where
       le = omega arith;
       good = ap (calls_verdict (table_of bs)) (add-one at) ∙ calls-one (table_of bs) at false v.good (beyond-is bs at n h q ∙ sym ok ∙ m);
     }
-
-pub ruleset calling = (calls-start, calls-done, calls-beyond, calls-on)

@@ -5,7 +5,6 @@ ghost use Rattle.rules.specs.Row.{row_width, table_of};
 ghost use Rattle.rules.specs.Scan.{function_count};
 ghost use Rattle.rules.specs.Check.{calls_verdict};
 ghost use Rattle.rules.specs.Links.{Checked};
-ghost use Rattle.rules.specs.Calls.{zeros};
 ghost use Rattle.rows.specs.First.{first_kind_lem};
 ghost use Rattle.table.specs.Checking.{stray_cause, OneOk, AllOk};
 
@@ -87,6 +86,7 @@ fn functions(
     requires ends_len { (length ends.old ≡ max_rows) × (length elses.old ≡ max_rows) × (length heads.old ≡ max_functions) }
     ensures { AllOk rows.now ends.new elses.new heads.new result }
 {
+    // Kept as a `while`: a function is as many rows long as `function` tells, so no iterator's step is known before.
     let mut at = 0;
     let mut count = 0;
     while WIDTH * at + LAST < rows.len() {
@@ -103,29 +103,13 @@ fn calls(rows: &[u8], count: usize) -> Result<(), Refusal>
     requires { count ≡ function_count (table_of rows.now) }
     ensures { result ≡ calls_verdict (table_of rows.now) (length (table_of rows.now)) }
 {
-    let mut at = 0;
-    while WIDTH * at + LAST < rows.len() {
+    for at in 0..rows.len() / WIDTH {
         let from = WIDTH * at;
         if calls_beyond(&rows[from..], count) {
             return Err(Refusal::NoSuchFunction);
         }
-        at = at + 1;
     }
     Ok(())
-}
-
-// A word for each row, for its links.
-pub fn row_words() -> [u16; ROWS]
-    ensures { result ≡ zeros max_rows }
-{
-    [0; ROWS]
-}
-
-// A word for each function, for its row.
-pub fn function_words() -> [u16; FUNCTIONS]
-    ensures { result ≡ zeros max_functions }
-{
-    [0; FUNCTIONS]
 }
 
 // The verdict of the bytes as a source table, and where it is accepted its links.

@@ -18,16 +18,12 @@ use Rattle.walk.specs.Answer.{SeqAnswer, Broken, AtEnd, AtElse, StepAnswer, Faul
 -- up to the row `at`, with o' regions opened
 pub record SeqTo (xs : List ℕ) (base d o : ℕ) (b : Bool) (e₀ l₀ e l : List ℕ) (at o' : ℕ) : Type 0 where
   pub le : 6 * at ≤ length xs
-  pub ends_room : length e ≡ length e₀
-  pub elses_room : length l ≡ length l₀
   pub leads : (bs : List ℕ) (h : Open) (hs : List Open) (n : ℕ) → Inside bs xs base h hs d o b n e₀ l₀
       → Inside bs (drop (6 * at) xs) (base + at) h hs d o' b n e l
 
 pub to_start : {xs : List ℕ} {base d o : ℕ} {b : Bool} {e l : List ℕ} → SeqTo xs base d o b e l e l 0 o
 to_start {base = base} = record {
   le = omega arith;
-  ends_room = refl;
-  elses_room = refl;
   leads = λ bs h hs n w. inside-at w refl (sym (add-zero base)) refl refl;
 }
 
@@ -65,12 +61,10 @@ module _ {xs : List ℕ} {base d o : ℕ} {b : Bool} {e₀ l₀ e l : List ℕ} 
       leads = λ bs h hs n w. s.leads bs h hs n (v.leads bs h hs n w);
     }
 
-    pub to-past : {k o'' : ℕ} → r ≡ Past k o'' → length e' ≡ length e → length l' ≡ length l → SeqTo xs base d o b e₀ l₀ e' l' (at + k) o''
+    pub to-past : {k o'' : ℕ} → r ≡ Past k o'' → SeqTo xs base d o b e₀ l₀ e' l' (at + k) o''
     unfolding step_rows
-    to-past {k} m p q = let s = step-at xs (6 * at) ok m in record {
+    to-past {k} m = let s = step-at xs (6 * at) ok m in record {
       le = omega (arith, v.le, s.fit, length-drop (6 * at) xs);
-      ends_room = omega (arith, v.ends_room);
-      elses_room = omega (arith, v.elses_room);
       leads = λ bs h hs n w. inside-at (s.leads bs h hs n (v.leads bs h hs n w)) (drops xs (6 * at) (6 * k) (6 * (at + k)) (omega arith)) (omega arith) refl refl;
     }
 

@@ -7,7 +7,7 @@ ghost use Rattle.walk.specs.Walked.{fields_verdict, SeqOk, StepOk, RestOk};
 
 use crate::answer::{Rest, Seq, Step, jump};
 use crate::limit::{full, no_region};
-use crate::link::link;
+use crate::link::{RowLinks, link};
 use rows::dos::dos;
 use rows::first::{fits, kind};
 use rows::{LAST, WIDTH};
@@ -22,26 +22,17 @@ pub fn sequence(
     depth: usize,
     opened: usize,
     in_loop: bool,
-    ends: &mut [u16],
-    elses: &mut [u16],
+    links: &mut RowLinks,
 ) -> Result<Seq, Refusal>
     requires rows_bound { row_width * base + length rows.now ≤ row_width * max_rows }
-    requires ends_len { (length ends.old ≡ max_rows) × (length elses.old ≡ max_rows) }
-    ensures { SeqOk rows.now base depth opened in_loop ends.old elses.old ends.new elses.new result }
+    ensures { SeqOk rows.now base depth opened in_loop links.old.ends links.old.elses links.new.ends links.new.elses result }
 {
+    // Kept as a `while`: a construct is as many rows long as `construct` tells, so no iterator's step is known before.
     let mut at = 0;
     let mut regions = opened;
     while WIDTH * at + LAST < rows.len() {
         let from = WIDTH * at;
-        let step = construct(
-            &rows[from..],
-            base + at,
-            depth,
-            regions,
-            in_loop,
-            ends,
-            elses,
-        )?;
+        let step = construct(&rows[from..], base + at, depth, regions, in_loop, links)?;
         match step {
             Step::EndHere => return Ok(Seq::AtEnd(at, regions)),
             Step::ElseHere => return Ok(Seq::AtElse(at, regions)),
@@ -73,13 +64,11 @@ fn construct(
     depth: usize,
     opened: usize,
     in_loop: bool,
-    ends: &mut [u16],
-    elses: &mut [u16],
+    links: &mut RowLinks,
 ) -> Result<Step, Refusal>
     requires rows_bound { row_width * base + length rows.now ≤ row_width * max_rows }
-    requires ends_len { (length ends.old ≡ max_rows) × (length elses.old ≡ max_rows) }
     requires in_bounds { 5 < length rows.now }
-    ensures { StepOk rows.now base depth opened in_loop ends.old elses.old ends.new elses.new result }
+    ensures { StepOk rows.now base depth opened in_loop links.old.ends links.old.elses links.new.ends links.new.elses result }
 {
     match kind(rows) {
         Kind::Function => fields(Kind::Function, rows).and(Err(Refusal::Misplaced)),
@@ -89,12 +78,12 @@ fn construct(
         }
         Kind::If => {
             fields(Kind::If, rows)?;
-            if_part(rows, base, depth, opened, in_loop, ends, elses)
+            if_part(rows, base, depth, opened, in_loop, links)
         }
         Kind::Else => fields(Kind::Else, rows).and(Ok(Step::ElseHere)),
         Kind::Loop => {
             fields(Kind::Loop, rows)?;
-            loop_part(rows, base, depth, opened, in_loop, ends, elses)
+            loop_part(rows, base, depth, opened, in_loop, links)
         }
         Kind::End => fields(Kind::End, rows).and(Ok(Step::EndHere)),
         Kind::Break => fields(Kind::Break, rows).and(jump(opened, in_loop)),
@@ -112,44 +101,32 @@ fn if_part(
     depth: usize,
     opened: usize,
     in_loop: bool,
-    ends: &mut [u16],
-    elses: &mut [u16],
+    links: &mut RowLinks,
 ) -> Result<Step, Refusal>
     requires rows_bound { row_width * base + length rows.now ≤ row_width * max_rows }
-    requires ends_len { (length ends.old ≡ max_rows) × (length elses.old ≡ max_rows) }
     requires in_bounds { (5 < length rows.now) × (first_kind_lem rows.now ≡ Kind.If) }
-    ensures { StepOk rows.now base depth opened in_loop ends.old elses.old ends.new elses.new result }
+    ensures { StepOk rows.now base depth opened in_loop links.old.ends links.old.elses links.new.ends links.new.elses result }
 {
     if full(depth, opened) {
         return Err(Refusal::TooManyParts);
     }
-    link(elses, base, 0);
+    link(&mut links.elses, base, 0);
     let ended = sequence(
         &rows[WIDTH..],
         base + 1,
         depth + 1,
         opened + 1,
         in_loop,
-        ends,
-        elses,
+        links,
     )?;
     match ended {
         Seq::AtEnd(n, o) => {
-            link(ends, base, base + 1 + n);
+            link(&mut links.ends, base, base + 1 + n);
             Ok(Step::Past(n + 2, o))
         }
         Seq::AtElse(n, o) => {
             let from = WIDTH * (n + 1);
-            let (k, p) = else_part(
-                &rows[from..],
-                base + 1 + n,
-                base,
-                depth,
-                o,
-                in_loop,
-                ends,
-                elses,
-            )?;
+            let (k, p) = else_part(&rows[from..], base + 1 + n, base, depth, o, in_loop, links)?;
             Ok(Step::Past(n + 1 + k, p))
         }
     }
@@ -164,31 +141,29 @@ fn else_part(
     depth: usize,
     opened: usize,
     in_loop: bool,
-    ends: &mut [u16],
-    elses: &mut [u16],
+    links: &mut RowLinks,
 ) -> Result<Rest, Refusal>
     requires rows_bound { (row_width * row + length rows.now ≤ row_width * max_rows) × (base < row) }
-    requires ends_len { (length ends.old ≡ max_rows) × (length elses.old ≡ max_rows) × (depth < max_constructs) }
+    requires depth_bound { depth < max_constructs }
     requires in_bounds { 5 < length rows.now }
-    ensures { RestOk rows.now row base depth opened in_loop ends.old elses.old ends.new elses.new result }
+    ensures { RestOk rows.now row base depth opened in_loop links.old.ends links.old.elses links.new.ends links.new.elses result }
 {
     if no_region(opened) {
         return Err(Refusal::TooManyParts);
     }
-    link(elses, base, row);
+    link(&mut links.elses, base, row);
     let ended = sequence(
         &rows[WIDTH..],
         row + 1,
         depth + 1,
         opened + 1,
         in_loop,
-        ends,
-        elses,
+        links,
     )?;
     match ended {
         Seq::AtElse(_, _) => Err(Refusal::Misplaced),
         Seq::AtEnd(n, o) => {
-            link(ends, base, row + 1 + n);
+            link(&mut links.ends, base, row + 1 + n);
             Ok((n + 2, o))
         }
     }
@@ -202,30 +177,20 @@ fn loop_part(
     depth: usize,
     opened: usize,
     in_loop: bool,
-    ends: &mut [u16],
-    elses: &mut [u16],
+    links: &mut RowLinks,
 ) -> Result<Step, Refusal>
     requires rows_bound { row_width * base + length rows.now ≤ row_width * max_rows }
-    requires ends_len { (length ends.old ≡ max_rows) × (length elses.old ≡ max_rows) }
     requires in_bounds { (5 < length rows.now) × (first_kind_lem rows.now ≡ Kind.Loop) }
-    ensures { StepOk rows.now base depth opened in_loop ends.old elses.old ends.new elses.new result }
+    ensures { StepOk rows.now base depth opened in_loop links.old.ends links.old.elses links.new.ends links.new.elses result }
 {
     if full(depth, opened) {
         return Err(Refusal::TooManyParts);
     }
-    let ended = sequence(
-        &rows[WIDTH..],
-        base + 1,
-        depth + 1,
-        opened + 1,
-        true,
-        ends,
-        elses,
-    )?;
+    let ended = sequence(&rows[WIDTH..], base + 1, depth + 1, opened + 1, true, links)?;
     match ended {
         Seq::AtElse(_, _) => Err(Refusal::Misplaced),
         Seq::AtEnd(n, o) => {
-            link(ends, base, base + 1 + n);
+            link(&mut links.ends, base, base + 1 + n);
             Ok(Step::Past(n + 2, o))
         }
     }
