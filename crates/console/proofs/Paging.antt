@@ -4,7 +4,7 @@ use native.Mathlib.Nat.{add-mod}
 use lib.Seq.{drop-append-le}
 use Rattle.io.specs.Digits.{last_digits, IsDigitCount}
 use Rattle.text.proofs.Putting.{puts_none, puts-more}
-use Rattle.console.specs.Page.{Stored, LostOnTheWay, Printed, Named, Flushed}
+use Rattle.console.specs.Page.{Stored, Printed, Named}
 
 whole-and-whole : (a b : ℕ) → a % 65536 ≡ 0 → b % 65536 ≡ 0 → (a + b) % 65536 ≡ 0
 whole-and-whole a b e f = rw (add-mod a b 65536, e, f)
@@ -104,9 +104,6 @@ pub record Upto (word : List ℕ) (held : Option ℕ) (before after : List ℕ) 
   pub within : Within held
   pub printed : Printed (take i word) held before after next
 
-pub upto-none : {word : List ℕ} {held : Option ℕ} {text : List ℕ} → Within held → Upto word held text text held 0
-upto-none {word} {held} {text} h = record { within = h; printed = printed-none held text h }
-
 module _ {word : List ℕ} {held then : Option ℕ} {before after : List ℕ} {i : ℕ} (u : Upto word held before after then i) where
   pub upto-more : i < length word → {more : List ℕ} {next : Option ℕ} → Printed (get_or word i 0 ∷ []) then after more next
       → Upto word held before more next (i + 1)
@@ -115,9 +112,6 @@ module _ {word : List ℕ} {held then : Option ℕ} {before after : List ℕ} {i
         within = u.within;
         printed = rw (add-one, take-suc word i 0 h) (printed-more _ _ held then _ before after _ u.within u.printed p);
       }
-
-  pub upto_all : length word ≤ i → Printed word held before after then
-  upto_all h = rw (take_all i word h) at u.printed
 
 -- ---- numbers
 pub number-printed : {x k : ℕ} {held : Option ℕ} {d before after : List ℕ} {next : Option ℕ} → IsDigitCount 10 1 x k → d ≡ last_digits 10 k x

@@ -8,6 +8,6 @@ mod malformed;
 pub mod number;
 pub mod output;
 pub mod page;
-pub mod print;
+pub mod standard_error;
 pub mod start;
 pub mod word;

@@ -79,7 +79,7 @@ impl<'a, P: Print> Page<'a, P> {
         let Some(at) = self.held else {
             return;
         };
-        self.held = if output::answer_front(self.rt, at, &self.text) {
+        self.held = if output::answer(self.rt, &self.text[..at]) {
             Some(0)
         } else {
             None

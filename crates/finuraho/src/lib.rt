@@ -24,7 +24,6 @@ mod switched;
 use rows::WIDTH;
 use rules::answer::{AnyOther, Fault, Measured, Ran, Swept, Wrote};
 use rules::limits::VARIABLES;
-use rules::number;
 use rules::refusal::Refusal;
 use table::links::TableLinks;
 
@@ -48,7 +47,7 @@ pub fn fault(rows: &[u8]) -> Fault
 {
     match fault::find(rows, &mut []) {
         Err(f) => Fault {
-            number: number::of_refusal(f.cause),
+            number: u8::from(f.cause),
             row: f.row,
         },
         Ok(_) => Fault {
@@ -101,7 +100,7 @@ fn refused(r: Refusal) -> Wrote
     ensures { result ≡ refused_with r }
 {
     Wrote {
-        number: number::of_refusal(r),
+        number: u8::from(r),
         length: 0,
     }
 }
@@ -124,7 +123,7 @@ pub fn check_hardened(lines: &[u8]) -> u8
     if reader::is_hardened(lines) {
         return 0;
     }
-    number::of_refusal(Refusal::NotHardened)
+    u8::from(Refusal::NotHardened)
 }
 
 // Copies an answer to the front of the output, where it fits there.

@@ -1,4 +1,5 @@
-// The counters: word 64 * depth + r is region r's counter of the open function at that depth.
+// The counters: word 64 * depth + r is region r's counter of the open function at that depth. Words and depth come apart, each function asking
+// that they fit (`Room`): a fact about words that are lent to be written can't stand in a struct yet, and a call changes the depth.
 ghost use Rattle.std.specs.Prelude.{◌≡◌, ◌+◌, ◌*◌, ◌≤◌, ◌<◌, length};
 ghost use Rattle.rules.specs.Limits.{counter_words, max_open, max_regions};
 ghost use Rattle.rules.specs.Calls.{zeros};
@@ -32,7 +33,8 @@ pub fn put(words: &mut [u16], depth: u16, r: u8, v: u16)
     requires { (depth < max_open) × (r < max_regions) × (counter_words ≤ length words.old) }
     ensures { words.new ≡ with_counter words.old depth r v }
 {
-    words[index(depth, r)] = v;
+    let i = index(depth, r);
+    words[i] = v;
 }
 
 // The n words from word `from` on become 0.

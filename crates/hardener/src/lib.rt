@@ -13,7 +13,6 @@ ghost use Rattle.hardener.specs.Answer.{written};
 
 use rules::answer::Wrote;
 use rules::limits::{FUNCTIONS, ROWS};
-use rules::number;
 use rules::refusal::Refusal;
 
 pub mod compare;
@@ -33,7 +32,7 @@ pub fn harden_linked(
 {
     match pass::pass(rows, ends, elses, heads, false, &[], out) {
         None => Wrote {
-            number: number::of_refusal(Refusal::ShortOutput),
+            number: u8::from(Refusal::ShortOutput),
             length: 0,
         },
         Some(length) => Wrote { number: 0, length },

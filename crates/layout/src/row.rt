@@ -17,13 +17,6 @@ pub fn kind(rows: &[u8], i: usize) -> Kind
     Kind::from(rows[WIDTH * i])
 }
 
-// A word as an index.
-pub fn index(x: u16) -> usize
-    ensures { result ≡ x }
-{
-    x as usize
-}
-
 // What row i has beside its kind.
 pub fn operands_of(rows: &[u8], i: usize) -> Operands
     requires { i < length rows.now / 6 }

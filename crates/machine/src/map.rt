@@ -16,13 +16,11 @@ fn pass(lines: &[u8], line: u16, function: u8, starts: &mut [u16; FUNCTIONS + 1]
     requires { (line_width * line + line_width ≤ length lines.now) × (line < 65535) × (function < max_functions) }
     ensures { passed result starts.new ≡ passed_of (line_kind_at lines.now line) line function starts.old }
 {
-    let kind = read::kind_at(lines, line);
-    let LineKind::Ret = kind else {
+    let LineKind::Ret = read::kind_at(lines, line) else {
         return function;
     };
     let next = function + 1;
-    let n = next as usize;
-    starts[n] = line + 1;
+    starts[next as usize] = line + 1;
     next
 }
 
@@ -33,12 +31,9 @@ pub fn survey(lines: &[u8], starts: &mut [u16; FUNCTIONS + 1], owners: &mut [u8;
     let count = (lines.len() / Line::WIDTH) as u16;
     starts[0] = 0;
     let mut function: u8 = 0;
-    let mut line: u16 = 0;
-    while line < count {
-        let k = line as usize;
-        owners[k] = function;
+    for line in 0..count {
+        owners[line as usize] = function;
         function = pass(lines, line, function, starts);
-        line += 1;
     }
 }
 

@@ -11,7 +11,8 @@ use rules::step::Step;
 use state::machine;
 use state::machine::{Machine, Stopped};
 
-// Takes the machine apart, so that its registers stay in those of the processor, and puts it together where it stops.
+// Takes the machine apart, so that its registers stay in those of the processor, and puts it together where it stops. The counters and slots
+// are lent beside it, and `Going` speaks of all three: a fact about what is lent to be written can't stand in a struct yet.
 pub fn run_lines(
     table: &Runnable,
     start: Machine,
@@ -26,8 +27,7 @@ pub fn run_lines(
     let mut functions = start.functions;
     let mut variables = start.variables;
     let mut h = start.registers;
-    let mut left = budget as usize;
-    while 0 < left {
+    for _ in 0..budget {
         let steps = h.steps + 1;
         let t = step::line(
             table.lines,
@@ -48,7 +48,6 @@ pub fn run_lines(
             return machine::at_end(s, resumes, functions, variables, e);
         };
         h = machine::standing(n, k, steps);
-        left -= 1;
     }
     machine::at_end(Step::Went(h.at), resumes, functions, variables, h)
 }

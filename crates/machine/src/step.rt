@@ -32,8 +32,8 @@ fn test_line(l: Line, h: Registers, variables: &[u16; VARIABLES], counters: &mut
     stay(s, h)
 }
 
-// `starts` has the first line of each function and `owners` the function of each line. The loop is the one caller, so that this is
-// compiled into it.
+// `starts` has the first line of each function and `owners` the function of each line. They come one by one and not as a `Runnable`, since a
+// step asks less of them: `CanStep`. The loop is the one caller, so that this is compiled into it.
 pub fn line(
     lines: &[u8],
     starts: &[u16; FUNCTIONS + 1],

@@ -5,7 +5,6 @@
 
 ghost use Rattle.std.specs.Prelude.{◌≡◌, length};
 
-use console::input::Read;
 use console::page::Page;
 use console::{input, output, start};
 use line::Line;
@@ -27,12 +26,8 @@ Reads a source table, 12 hexadecimal digits to a line, and prints the figures of
 fn measure(rt: &(impl Input + Print)) {
     let mut chunk = io::buffer();
     let mut rows = io::large_buffer();
-    match input::take_rows(rt, &mut chunk, &mut rows) {
-        Read::Bytes(n) => {
-            let all = output::within(n, &rows);
-            answer(rt, finuraho::measure(&rows[..all]));
-        }
-        Read::Nothing => {}
+    if let Some(n) = input::take_rows(rt, &mut chunk, &mut rows) {
+        answer(rt, finuraho::measure(&rows[..n]));
     }
 }
 

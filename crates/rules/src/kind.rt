@@ -32,6 +32,7 @@ pub enum Kind {
     Break,
     Continue,
     Call,
+    // Of no kind, or with a wrong field. A case and no None: the definitions go over the kinds with it (specs/Row.antt).
     Unknown,
 }
 

@@ -3,16 +3,11 @@ use Rattle.std.specs.Prelude.{ℕ, ◌≡◌, ◌≢◌, Bool, true, false, cond
 use Rattle.rules.specs.declared.ending.Ending.{Ending}
 use Rattle.rules.specs.declared.ending.Ending.TheVariants.{Alarmed, Same, Other, Unfinished}
 use Rattle.rules.specs.Limits.{counter_words}
-use Rattle.rules.specs.Line.{lines_in}
-use Rattle.rules.specs.Function.{ret_value}
 use Rattle.rules.specs.Run.{outcome_of_lem}
 use Rattle.rules.specs.Calls.{over, zeros}
 use Rattle.rules.specs.Sweep.{any_other}
 use Rattle.rules.specs.SweepCall.{unstruck_of, counts_of}
-use Rattle.machine.specs.Stands.{Located}
 use Rattle.rules.specs.declared.ending.Counts.{Counts}
-use Rattle.sweeper.specs.declared.table.Prepared as Prepared
-use Rattle.sweeper.specs.declared.table.Prepared.TheVariants as prepared
 
 -- a run that ends so is finished
 abbrev pub is_finish_lem : Ending → Bool
@@ -38,14 +33,15 @@ traced_of bs vs b slots =
     traced (length (unstruck_of bs vs b).state.trace) (over (unstruck_of bs vs b).state.trace slots)
 
 -- where it finishes it is recorded; else nothing is changed
-abbrev pub PreparedBy : (lines vars : List ℕ) → (budget : ℕ) → (slots words slots' words' : List ℕ) → Prepared.Prepared → Type 0
-PreparedBy bs vs b slots words slots' words' prepared.NotFinished = (outcome_in bs vs b ≢ 1) × (slots' ≡ slots) × (words' ≡ words)
-PreparedBy bs vs b slots words slots' words' (prepared.Traced home n) =
-    (outcome_in bs vs b ≡ 1) × (home ≡ ret_value (lines_in bs) 0) × (traced n slots' ≡ traced_of bs vs b slots)
+abbrev pub PreparedBy : (lines vars : List ℕ) → (budget : ℕ) → (slots words slots' words' : List ℕ) → Option ℕ → Type 0
+PreparedBy bs vs b slots words slots' words' None = (outcome_in bs vs b ≢ 1) × (slots' ≡ slots) × (words' ≡ words)
+PreparedBy bs vs b slots words slots' words' (Some n) = (outcome_in bs vs b ≡ 1) × (traced n slots' ≡ traced_of bs vs b slots)
 
-pub record PreparedIs (lines vars : List ℕ) (budget : ℕ) (slots words starts owners slots' words' : List ℕ) (r : Prepared.Prepared) : Type 0 where
-  pub located : Located (lines_in lines) starts owners
-  pub is : PreparedBy lines vars budget slots words slots' words' r
+-- what is asked has been shown all steps, and the words are 0; else nothing is changed
+abbrev pub AnsweredBy : {A : Type 0} → (struck : ℕ → A → Type 0) → (lines vars : List ℕ) → (budget : ℕ) → (slots words slots' words' : List ℕ) → Option A → Type 0
+AnsweredBy S bs vs b slots words slots' words' None = (outcome_in bs vs b ≢ 1) × (slots' ≡ slots) × (words' ≡ words)
+AnsweredBy S bs vs b slots words slots' words' (Some x) =
+    (outcome_in bs vs b ≡ 1) × (slots' ≡ over (unstruck_of bs vs b).state.trace slots) × (words' ≡ zeros counter_words) × S (unstruck_of bs vs b).steps x
 
 -- ---- the answers, with the slots and the words after them
 pub record Sweeping : Type 0 where

@@ -8,7 +8,6 @@ use crate::table;
 use rules::answer::{AnyOther, Swept};
 use rules::ending::Counts;
 use rules::limits::{COUNTERS, VARIABLES};
-use rules::number;
 use rules::refusal::Refusal;
 
 // A number added later returns as 1 does: it, and zeros.
@@ -16,7 +15,7 @@ pub fn refused(r: Refusal) -> Swept
     ensures { result ≡ refused_swept r }
 {
     Swept {
-        number: number::of_refusal(r),
+        number: u8::from(r),
         alarms: 0,
         same: 0,
         other: 0,
@@ -28,7 +27,7 @@ pub fn refused_any(r: Refusal) -> AnyOther
     ensures { result ≡ refused_any_lem r }
 {
     AnyOther {
-        number: number::of_refusal(r),
+        number: u8::from(r),
         other: false,
     }
 }

@@ -21,8 +21,8 @@ not-ret Ret k = absurd (k refl)
 pub returns-in_default : goal.returns-in_default
 unfolding passed_of
 returns-in_default c = ap (λ b. cond b (passed (c.args.function + 1) (set c.args.starts.now (c.args.function + 1) (c.args.line + 1))) (passed c.args.function c.args.starts.now))
-    (sym (ap ends_function_lem (sym c.kind_at-kind.ensures) ∙ not-ret c.kind_at-kind.result c.in_default.not-Ret))
+    (sym (ap ends_function_lem (sym c.kind_at.ensures) ∙ not-ret c.kind_at.result c.in_default.not-Ret))
 
 pub returns : goal.returns
 unfolding passed_of
-returns c = sym (ap (λ kd. passed_of kd c.args.line c.args.function c.args.starts.now) (sym c.kind_at-kind.ensures ∙ c.in-Ret.is))
+returns c = sym (ap (λ kd. passed_of kd c.args.line c.args.function c.args.starts.now) (sym c.kind_at.ensures ∙ c.in-Ret.is))

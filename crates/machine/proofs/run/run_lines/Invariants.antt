@@ -1,10 +1,8 @@
+use Prim.Native.Nat.{◌-◌}
 use Rattle.machine.specs.Step.{parts_of}
 use Rattle.machine.proofs.Runs.{Running}
 use Rattle.machine.specs.Runnable.{map_in}
 use Rattle.machine.proofs.run.run_lines.Given as goal
 
-abbrev pub invariant-loop-left : goal.invariant-loop-left
-invariant-loop-left l = Running l.table.lines.now (map_in l.table) l.budget (parts_of l.initial.h l.initial.resumes l.initial.functions l.initial.variables l.initial.counters l.initial.trace) l.left (parts_of l.h l.resumes l.functions l.variables l.counters l.trace)
-
-abbrev pub decreases-loop-left : goal.decreases-loop-left
-decreases-loop-left l = l.left
+abbrev pub invariant-loop : goal.invariant-loop
+invariant-loop l = Running l.table.lines.now (map_in l.table) l.budget (parts_of l.initial.h l.initial.resumes l.initial.functions l.initial.variables l.initial.counters l.initial.trace) (l.budget - l.counter) (parts_of l.h l.resumes l.functions l.variables l.counters l.trace)
