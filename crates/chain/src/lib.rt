@@ -8,9 +8,10 @@ ghost use Rattle.chain.specs.Linked.{LinkedOk};
 
 use fault::find;
 use rows::WIDTH;
-use rules::limits::{FUNCTIONS, ROWS};
+use rules::limits::ROWS;
 use rules::refusal::Refusal;
 use table::check::check;
+use table::links::TableLinks;
 
 // The bytes of the longest chain.
 pub const SIZE: usize = ROWS * WIDTH;
@@ -19,15 +20,13 @@ pub const SIZE: usize = ROWS * WIDTH;
 pub fn link(
     rows: &[u8],
     chain: &mut [u8],
-    ends: &mut [u16; ROWS],
-    elses: &mut [u16; ROWS],
-    heads: &mut [u16; FUNCTIONS],
+    links: &mut TableLinks,
 ) -> Result<usize, Refusal>
     requires { length chain.old ≡ row_width * max_rows }
-    ensures { LinkedOk rows.now chain.new ends.new elses.new heads.new result }
+    ensures { LinkedOk rows.now chain.new links.new.rows.ends links.new.rows.elses links.new.heads result }
 {
     let count = find(rows, chain)?;
     let size = WIDTH * count;
-    check(&chain[..size], ends, elses, heads)?;
+    check(&chain[..size], links)?;
     Ok(size)
 }

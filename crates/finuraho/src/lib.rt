@@ -23,17 +23,16 @@ mod switched;
 
 use rows::WIDTH;
 use rules::answer::{AnyOther, Fault, Measured, Ran, Swept, Wrote};
-use rules::limits::{FUNCTIONS, ROWS, VARIABLES};
+use rules::limits::VARIABLES;
 use rules::refusal::Refusal;
+use table::links::TableLinks;
 
 // The number that the bytes get as a source table: 0 where hardening accepts them.
 pub fn check(rows: &[u8]) -> u8
     ensures { result ≡ check_call rows.now }
 {
-    let mut ends = [0; ROWS];
-    let mut elses = [0; ROWS];
-    let mut heads = [0; FUNCTIONS];
-    match table::check::check(rows, &mut ends, &mut elses, &mut heads) {
+    let mut links = TableLinks::new();
+    match table::check::check(rows, &mut links) {
         Ok(()) => 0,
         Err(_) => {
             let f = fault(rows);
@@ -110,12 +109,10 @@ fn refused(r: Refusal) -> Wrote
 pub fn harden(rows: &[u8], out: &mut [u8]) -> Wrote
     ensures { HardenPromise rows.now out.old (writes result out.new) }
 {
-    let mut ends = [0; ROWS];
-    let mut elses = [0; ROWS];
-    let mut heads = [0; FUNCTIONS];
-    match table::check::check(rows, &mut ends, &mut elses, &mut heads) {
-        Err(_) => switched::harden(rows, &mut ends, &mut elses, &mut heads, out),
-        Ok(()) => hardener::harden_linked(rows, &ends, &elses, &heads, out),
+    let mut links = TableLinks::new();
+    match table::check::check(rows, &mut links) {
+        Err(_) => switched::harden(rows, &mut links, out),
+        Ok(()) => hardener::harden_linked(rows, &links.rows.ends, &links.rows.elses, &links.heads, out),
     }
 }
 
@@ -158,14 +155,12 @@ pub fn read_back(lines: &[u8], out: &mut [u8]) -> Wrote
 pub fn run_source(rows: &[u8], variables: [u16; VARIABLES], budget: u16, trace: &mut [u16]) -> Ran
     ensures { runs result trace.new ≡ run_source_call rows.now variables budget trace.old }
 {
-    let mut ends = [0; ROWS];
-    let mut elses = [0; ROWS];
-    let mut heads = [0; FUNCTIONS];
-    match table::check::check(rows, &mut ends, &mut elses, &mut heads) {
+    let mut links = TableLinks::new();
+    match table::check::check(rows, &mut links) {
         Err(_) => switched::run_source(
-            rows, &mut ends, &mut elses, &mut heads, variables, budget, trace,
+            rows, &mut links, variables, budget, trace,
         ),
-        Ok(()) => run::source_run(rows, &ends, &elses, &heads, variables, budget, trace),
+        Ok(()) => run::source_run(rows, &links.rows.ends, &links.rows.elses, &links.heads, variables, budget, trace),
     }
 }
 

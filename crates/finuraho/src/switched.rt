@@ -6,29 +6,26 @@ ghost use Rattle.finuraho.specs.Given.{writes, runs};
 use crate::{refused, run};
 use chain::{SIZE, link};
 use rules::answer::{Ran, Wrote};
-use rules::limits::{FUNCTIONS, ROWS, VARIABLES};
+use rules::limits::VARIABLES;
+use table::links::TableLinks;
 
 pub fn harden(
     rows: &[u8],
-    ends: &mut [u16; ROWS],
-    elses: &mut [u16; ROWS],
-    heads: &mut [u16; FUNCTIONS],
+    links: &mut TableLinks,
     out: &mut [u8],
 ) -> Wrote
     ensures { writes result out.new ≡ harden_call rows.now out.old }
 {
     let mut chain = [0u8; SIZE];
-    match link(rows, &mut chain, ends, elses, heads) {
+    match link(rows, &mut chain, links) {
         Err(r) => refused(r),
-        Ok(n) => hardener::harden_linked(&chain[..n], ends, elses, heads, out),
+        Ok(n) => hardener::harden_linked(&chain[..n], &links.rows.ends, &links.rows.elses, &links.heads, out),
     }
 }
 
 pub fn run_source(
     rows: &[u8],
-    ends: &mut [u16; ROWS],
-    elses: &mut [u16; ROWS],
-    heads: &mut [u16; FUNCTIONS],
+    links: &mut TableLinks,
     variables: [u16; VARIABLES],
     budget: u16,
     trace: &mut [u16],
@@ -36,13 +33,13 @@ pub fn run_source(
     ensures { runs result trace.new ≡ run_source_call rows.now variables budget trace.old }
 {
     let mut chain = [0u8; SIZE];
-    match link(rows, &mut chain, ends, elses, heads) {
+    match link(rows, &mut chain, links) {
         Err(r) => run::refused(r, variables),
         Ok(n) => run::source_run(
             &chain[..n],
-            ends,
-            elses,
-            heads,
+            &links.rows.ends,
+            &links.rows.elses,
+            &links.heads,
             variables,
             budget,
             trace,

@@ -5,17 +5,15 @@ ghost use Rattle.rules.specs.Refusal.{is_accepted};
 ghost use Rattle.rules.specs.Check.{verdict_of};
 ghost use Rattle.rules.specs.Harden.{hardened_bytes};
 
-use rules::limits::{FUNCTIONS, ROWS};
 use table::check;
+use table::links::TableLinks;
 
 pub fn hardens_to(rows: &[u8], lines: &[u8]) -> bool
     ensures { result ≡ is_accepted (verdict_of rows.now) && same (hardened_bytes rows.now) lines.now }
 {
-    let mut ends = [0; ROWS];
-    let mut elses = [0; ROWS];
-    let mut heads = [0; FUNCTIONS];
-    match check::check(rows, &mut ends, &mut elses, &mut heads) {
+    let mut links = TableLinks::new();
+    match check::check(rows, &mut links) {
         Err(_) => false,
-        Ok(()) => hardener::hardens_to_lines(rows, &ends, &elses, &heads, lines),
+        Ok(()) => hardener::hardens_to_lines(rows, &links.rows.ends, &links.rows.elses, &links.heads, lines),
     }
 }

@@ -18,6 +18,7 @@ use rows::kind::is_call;
 use rules::limits::{FUNCTIONS, ROWS, VARIABLES};
 use rules::step::Step;
 use source::{goes, run};
+use table::links::TableLinks;
 use state::machine::{Machine, Registers, Stopped, begun};
 use std::fmt;
 
@@ -125,9 +126,7 @@ fn tell_accepted<W: fmt::Write>(
 // A table with a switch, whose rows are those of its chain. Nothing is listed where the table is refused.
 fn tell_switched<W: fmt::Write>(
     rows: &[u8],
-    ends: &mut [u16; ROWS],
-    elses: &mut [u16; ROWS],
-    heads: &mut [u16; FUNCTIONS],
+    links: &mut TableLinks,
     variables: [u16; VARIABLES],
     budget: u16,
     show: bool,
@@ -138,14 +137,14 @@ fn tell_switched<W: fmt::Write>(
     ensures { CallsTold rows.now budget variables page.old page.new result }
 {
     let mut chain = [0u8; SIZE];
-    match link(rows, &mut chain, ends, elses, heads) {
+    match link(rows, &mut chain, links) {
         Err(_) => 0,
         Ok(n) => {
             tell_accepted(
                 &chain[..n],
-                ends,
-                elses,
-                heads,
+                &links.rows.ends,
+                &links.rows.elses,
+                &links.heads,
                 variables,
                 budget,
                 show,
@@ -168,15 +167,21 @@ pub fn tell<W: fmt::Write>(
     requires { budget ≤ length trace.old }
     ensures { CallsTold rows.now budget variables page.old page.new result }
 {
-    let mut ends = [0u16; ROWS];
-    let mut elses = [0u16; ROWS];
-    let mut heads = [0u16; FUNCTIONS];
-    match table::check::check(rows, &mut ends, &mut elses, &mut heads) {
+    let mut links = TableLinks::new();
+    match table::check::check(rows, &mut links) {
         Err(_) => tell_switched(
-            rows, &mut ends, &mut elses, &mut heads, variables, budget, show, trace, page,
+            rows, &mut links, variables, budget, show, trace, page,
         ),
         Ok(()) => tell_accepted(
-            rows, &ends, &elses, &heads, variables, budget, show, trace, page,
+            rows,
+            &links.rows.ends,
+            &links.rows.elses,
+            &links.heads,
+            variables,
+            budget,
+            show,
+            trace,
+            page,
         ),
     }
 }

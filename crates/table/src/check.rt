@@ -8,13 +8,14 @@ ghost use Rattle.rules.specs.Links.{Checked};
 ghost use Rattle.rows.specs.First.{first_kind_lem};
 ghost use Rattle.table.specs.Checking.{stray_cause, OneOk, AllOk};
 
+use crate::links::TableLinks;
 use rows::first::{calls_beyond, first_kind};
 use rows::{LAST, WIDTH};
 use rules::kind::Kind;
 use rules::limits::{FUNCTIONS, ROWS};
 use rules::refusal::Refusal;
 use walk::answer::Seq;
-use walk::link::link;
+use walk::link::{RowLinks, link};
 use walk::parts::sequence;
 
 // Why a row outside of every function that opens none is turned away.
@@ -32,24 +33,22 @@ fn body(
     rows: &[u8],
     base: usize,
     count: usize,
-    ends: &mut [u16],
-    elses: &mut [u16],
-    heads: &mut [u16],
+    links: &mut RowLinks,
+    heads: &mut [u16; FUNCTIONS],
 ) -> Result<usize, Refusal>
     requires rows_bound { row_width * base + length rows.now ≤ row_width * max_rows }
-    requires ends_len { (length ends.old ≡ max_rows) × (length elses.old ≡ max_rows) × (length heads.old ≡ max_functions) }
     requires in_bounds { (5 < length rows.now) × (first_kind_lem rows.now ≡ Kind.Function) }
-    ensures { OneOk rows.now base count ends.old elses.old heads.old ends.new elses.new heads.new result }
+    ensures { OneOk rows.now base count links.old.ends links.old.elses heads.old links.new.ends links.new.elses heads.new result }
 {
     if count >= FUNCTIONS {
         return Err(Refusal::TooManyFunctions);
     }
     link(heads, count, base);
-    let ended = sequence(&rows[WIDTH..], base + 1, 0, 1, false, ends, elses)?;
+    let ended = sequence(&rows[WIDTH..], base + 1, 0, 1, false, links)?;
     match ended {
         Seq::AtElse(_, _) => Err(Refusal::Misplaced),
         Seq::AtEnd(n, _) => {
-            link(ends, base, base + 1 + n);
+            link(&mut links.ends, base, base + 1 + n);
             Ok(n + 2)
         }
     }
@@ -60,17 +59,15 @@ fn function(
     rows: &[u8],
     base: usize,
     count: usize,
-    ends: &mut [u16],
-    elses: &mut [u16],
-    heads: &mut [u16],
+    links: &mut RowLinks,
+    heads: &mut [u16; FUNCTIONS],
 ) -> Result<usize, Refusal>
     requires rows_bound { row_width * base + length rows.now ≤ row_width * max_rows }
-    requires ends_len { (length ends.old ≡ max_rows) × (length elses.old ≡ max_rows) × (length heads.old ≡ max_functions) }
     requires in_bounds { 5 < length rows.now }
-    ensures { OneOk rows.now base count ends.old elses.old heads.old ends.new elses.new heads.new result }
+    ensures { OneOk rows.now base count links.old.ends links.old.elses heads.old links.new.ends links.new.elses heads.new result }
 {
     match first_kind(rows) {
-        Kind::Function => body(rows, base, count, ends, elses, heads),
+        Kind::Function => body(rows, base, count, links, heads),
         other => Err(stray(other)),
     }
 }
@@ -78,20 +75,22 @@ fn function(
 // The functions of the table, one after the other: how many there are.
 fn functions(
     rows: &[u8],
-    ends: &mut [u16],
-    elses: &mut [u16],
-    heads: &mut [u16],
+    links: &mut RowLinks,
+    heads: &mut [u16; FUNCTIONS],
 ) -> Result<usize, Refusal>
     requires rows_len_bound { length rows.now ≤ row_width * max_rows }
-    requires ends_len { (length ends.old ≡ max_rows) × (length elses.old ≡ max_rows) × (length heads.old ≡ max_functions) }
-    ensures { AllOk rows.now ends.new elses.new heads.new result }
+    ensures { AllOk rows.now links.new.ends links.new.elses heads.new result }
 {
+    // The proof wants the words to be as many as rows may be; an array behind a `&mut` tells its length only as a slice.
+    let (ends, elses): (&[u16], &[u16]) = (&links.ends, &links.elses);
+    prove!(ends.len() == ROWS);
+    prove!(elses.len() == ROWS);
     // Kept as a `while`: a function is as many rows long as `function` tells, so no iterator's step is known before.
     let mut at = 0;
     let mut count = 0;
     while WIDTH * at + LAST < rows.len() {
         let from = WIDTH * at;
-        let long = function(&rows[from..], at, count, ends, elses, heads)?;
+        let long = function(&rows[from..], at, count, links, heads)?;
         at += long;
         count += 1;
     }
@@ -113,13 +112,8 @@ fn calls(rows: &[u8], count: usize) -> Result<(), Refusal>
 }
 
 // The verdict of the bytes as a source table, and where it is accepted its links.
-pub fn check(
-    rows: &[u8],
-    ends: &mut [u16; ROWS],
-    elses: &mut [u16; ROWS],
-    heads: &mut [u16; FUNCTIONS],
-) -> Result<(), Refusal>
-    ensures { Checked rows.now result ends.new elses.new heads.new }
+pub fn check(rows: &[u8], links: &mut TableLinks) -> Result<(), Refusal>
+    ensures { Checked rows.now result links.new.rows.ends links.new.rows.elses links.new.heads }
 {
     if rows.len() == 0 {
         return Err(Refusal::NoWholeRows);
@@ -130,6 +124,6 @@ pub fn check(
     if rows.len() / WIDTH > ROWS {
         return Err(Refusal::TooManyRows);
     }
-    let count = functions(rows, ends, elses, heads)?;
+    let count = functions(rows, &mut links.rows, &mut links.heads)?;
     calls(rows, count)
 }
