@@ -1,36 +1,38 @@
--- What the walk over the steps keeps of a column, and what each step adds to it. Assumes nothing.
-use mathlib.Core.Path.{◌≡◌, refl, sym, ap, ◌∙◌}
+-- What each step of the walk adds to a column. Assumes nothing.
+use mathlib.Core.Path.{◌≡◌, refl, sym, ap, ◌∙◌, subst}
 use mathlib.Core.Bool.{Bool, true, false, cond, ◌&&◌}
-use mathlib.Core.List.{List, []}
-use Prim.Native.Nat.{ℕ, suc, ◌+◌, ◌-◌, ◌<◌, max}
-use native.Mathlib.Nat.{max-zero}
+use mathlib.Core.List.{List, [], ◌∷◌}
+use Prim.Native.Nat.{ℕ, suc, ◌+◌, ◌-◌, ◌<◌}
 use native.Mathlib.Omega.{arith}
 use lib.Dec.{eqb}
-use lib.ListN.{length, get_or, set, take, drop, length-set}
+use lib.ListN.{length, get_or, set, take, drop, replicate, length-set, length-replicate, get_or-replicate}
 use lib.Seq.{get_or-set_same, get_or-set_other}
 use borrow.Author.Tests.{eq-eqb, ne_eqb, eqb-true, eqb-false}
-use Rattle.rules.specs.declared.step.Step.TheVariants.{Went}
 use Rattle.rules.specs.Limits.{max_lines}
 use Rattle.rules.specs.Line.{lines_in}
 use Rattle.rules.specs.Function.{finish_of, last_place}
 use Rattle.rules.specs.Settled.{across}
-use Rattle.rules.specs.Calls.{zeros}
 use Rattle.rules.specs.Sweep.{struck_ending}
 use Rattle.state.specs.declared.machine.Machine.{Machine}
-use Rattle.state.specs.declared.machine.Stopped.{Stopped}
-use Rattle.state.specs.Machine.{machine_afresh}
-use Rattle.state.proofs.Ends.{IsEnd}
-use Rattle.guard.proofs.Zeroed.{length-zeros}
 use Rattle.machine.specs.Step.{Map}
-use Rattle.machine.specs.Run.{parts_in, stopped_with, run_of}
-use Rattle.machine.proofs.Own.{zeros-at}
-use Rattle.compare.specs.Compared.{piece_steps, ends_at}
+use Rattle.compare.specs.Compared.{ends_at}
+use Rattle.compare.proofs.Begins.{from_there}
 use Rattle.sweeper.proofs.Settling.{place_is}
 use Rattle.sweeper.proofs.Walking as Walking
-use Rattle.sweeper.proofs.Walking.{form, unstruck, state_of, from_there}
-use Rattle.sweeper.proofs.Sweeping.{Sweeping, stands-before, sweep-on, walked_all}
-use Rattle.cells.specs.Worst.{rank, strike_rank, worst_to, ColumnIs}
-use Rattle.cells.specs.Struck.{PlaceOf, ends_there_lem, StruckIs}
+use Rattle.sweeper.specs.Walk.{form, unstruck, state_of}
+use Rattle.sweeper.proofs.Sweeping.{Sweeping, stands-before}
+use Rattle.cells.specs.declared.rank.Rank.{Rank}
+use Rattle.cells.specs.declared.rank.Rank.TheVariants.{Never, Alarmed, Same, Unfinished, Other}
+use Rattle.cells.specs.Worst.{rank, worse, strike_rank, worst_to, ColumnIs}
+use Rattle.cells.specs.Struck.{PlaceOf, ends_there_lem, StruckIs, Marked}
+
+-- a strike that never was makes nothing worse
+worse-never : (x : Rank) → worse x Never ≡ x
+worse-never Never = refl
+worse-never Alarmed = refl
+worse-never Same = refl
+worse-never Unfinished = refl
+worse-never Other = refl
 
 module _ {bs : List ℕ} {mp : Map} {b : ℕ} {tr vs : List ℕ} {k left : ℕ} {m : Machine} {ws : List ℕ} {at : ℕ} (w : Sweeping bs mp b tr vs k left m ws at) (f p : ℕ) (pl : PlaceOf (lines_in bs) f p) where
   abbrev known : List ℕ
@@ -45,19 +47,19 @@ module _ {bs : List ℕ} {mp : Map} {b : ℕ} {tr vs : List ℕ} {k left : ℕ} 
       x refl (ends_at (lines_in bs) known left x (state_of bs vs k)) (Walking.ends_is bs vs b k left m ws at wk tr w.finishes.trace_is known (from_there tr at)) left wk.left_is
       p (omega (arith, pl.place_in, ap (last_place (lines_in bs)) s-f))
 
-  module _ (r : ℕ) (si : StruckIs bs mp.starts m ws known left f p r) where
+  module _ (r : Rank) (si : StruckIs bs mp.starts m ws known left f p r) where
     function_is : m.registers.function ≡ (state_of bs vs k).running.function
     function_is = (w.walking.stood.stands []).function_is
 
     at_is : m.registers.at ≡ (state_of bs vs k).running.at
     at_is = (w.walking.stood.stands []).at_is
 
-    rank_is : r ≡ cond (eqb (state_of bs vs k).running.function f) (rank (struck_ending (form bs) (lines_in bs) vs b k p)) 0
+    rank_is : r ≡ cond (eqb (state_of bs vs k).running.function f) (rank (struck_ending (form bs) (lines_in bs) vs b k p)) Never
     rank_is = si.is (state_of bs vs k) w.walking.stood ∙ by (eqb (state_of bs vs k).running.function f) refl
       where
         by : (v : Bool) → eqb (state_of bs vs k).running.function f ≡ v
-            → cond (eqb m.registers.function f) (rank (ends_there_lem bs mp.starts m known left (get_or mp.starts m.registers.function 0 + p) (state_of bs vs k))) 0
-            ≡ cond v (rank (struck_ending (form bs) (lines_in bs) vs b k p)) 0
+            → cond (eqb m.registers.function f) (rank (ends_there_lem bs mp.starts m known left (get_or mp.starts m.registers.function 0 + p) (state_of bs vs k))) Never
+            ≡ cond v (rank (struck_ending (form bs) (lines_in bs) vs b k p)) Never
         by true q =
             let z = eqb-true (state_of bs vs k).running.function f q in
             rw (eq-eqb m.registers.function f (function_is ∙ z)) (ap rank (ends_there z))
@@ -68,79 +70,58 @@ module _ {bs : List ℕ} {mp : Map} {b : ℕ} {tr vs : List ℕ} {k left : ℕ} 
     unfolding strike_rank
     here = rw (eq-eqb (state_of bs vs k).running.at m.registers.at (sym at_is)) (both (eqb (state_of bs vs k).running.function f) ∙ sym rank_is)
       where
-        both : (v : Bool) → cond (v && true) (rank (struck_ending (form bs) (lines_in bs) vs b k p)) 0 ≡ cond v (rank (struck_ending (form bs) (lines_in bs) vs b k p)) 0
+        both : (v : Bool) → cond (v && true) (rank (struck_ending (form bs) (lines_in bs) vs b k p)) Never ≡ cond v (rank (struck_ending (form bs) (lines_in bs) vs b k p)) Never
         both true = refl
         both false = refl
 
-    elsewhere : (y : ℕ) → (y ≡ m.registers.at → ⊥) → strike_rank (form bs) (lines_in bs) vs b f y p k ≡ 0
+    elsewhere : (y : ℕ) → (y ≡ m.registers.at → ⊥) → strike_rank (form bs) (lines_in bs) vs b f y p k ≡ Never
     unfolding strike_rank
     elsewhere y ne = rw (ne_eqb (state_of bs vs k).running.at y (λ z. ne (sym z ∙ sym at_is))) (both (eqb (state_of bs vs k).running.function f))
       where
-        both : (v : Bool) → cond (v && false) (rank (struck_ending (form bs) (lines_in bs) vs b k p)) 0 ≡ 0
+        both : (v : Bool) → cond (v && false) (rank (struck_ending (form bs) (lines_in bs) vs b k p)) Never ≡ Never
         both true = refl
         both false = refl
 
-    marked : (column : List ℕ) → length column ≡ max_lines → ((y : ℕ) → y < max_lines → get_or column y 0 ≡ worst_to k (strike_rank (form bs) (lines_in bs) vs b f y p))
-        → m.registers.at < max_lines → (x : ℕ) → x ≡ max (get_or column m.registers.at 0) r
-        → (y : ℕ) → y < max_lines → get_or (set column m.registers.at x) y 0 ≡ worst_to (suc k) (strike_rank (form bs) (lines_in bs) vs b f y p)
+    pub marked : (column : List Rank) → length column ≡ max_lines → ((y : ℕ) → y < max_lines → get_or column y Never ≡ worst_to k (strike_rank (form bs) (lines_in bs) vs b f y p))
+        → m.registers.at < max_lines → (x : Rank) → x ≡ worse (get_or column m.registers.at Never) r
+        → (y : ℕ) → y < max_lines → get_or (set column m.registers.at x) y Never ≡ worst_to (suc k) (strike_rank (form bs) (lines_in bs) vs b f y p)
     unfolding worst_to
     marked column long was l x xe y yl = by (eqb y m.registers.at) refl
       where
-        by : (v : Bool) → eqb y m.registers.at ≡ v → get_or (set column m.registers.at x) y 0 ≡ max (worst_to k (strike_rank (form bs) (lines_in bs) vs b f y p)) (strike_rank (form bs) (lines_in bs) vs b f y p k)
+        by : (v : Bool) → eqb y m.registers.at ≡ v → get_or (set column m.registers.at x) y Never ≡ worse (worst_to k (strike_rank (form bs) (lines_in bs) vs b f y p)) (strike_rank (form bs) (lines_in bs) vs b f y p k)
         by true q =
             let e = eqb-true y m.registers.at q in
-            rw e (get_or-set_same column m.registers.at x 0 (omega (arith, l, long)) ∙ xe ∙ ap (λ c. max c r) (was m.registers.at l) ∙ ap (max (worst_to k (strike_rank (form bs) (lines_in bs) vs b f m.registers.at p))) (sym here))
+            rw e (get_or-set_same column m.registers.at x Never (omega (arith, l, long)) ∙ xe ∙ ap (λ c. worse c r) (was m.registers.at l) ∙ ap (worse (worst_to k (strike_rank (form bs) (lines_in bs) vs b f m.registers.at p))) (sym here))
         by false q =
             let e = eqb-false y m.registers.at q in
-            get_or-set_other column m.registers.at y x 0 e ∙ was y yl ∙ sym (ap (max (worst_to k (strike_rank (form bs) (lines_in bs) vs b f y p))) (elsewhere y e) ∙ max-zero (worst_to k (strike_rank (form bs) (lines_in bs) vs b f y p)))
+            get_or-set_other column m.registers.at y x Never e ∙ was y yl ∙ sym (ap (worse (worst_to k (strike_rank (form bs) (lines_in bs) vs b f y p))) (elsewhere y e) ∙ worse-never (worst_to k (strike_rank (form bs) (lines_in bs) vs b f y p)))
 
--- ---- what the loop keeps
-pub record Marking (bs : List ℕ) (mp : Map) (b : ℕ) (tr vs : List ℕ) (f p left : ℕ) (m : Machine) (ws : List ℕ) (at : ℕ) (column : List ℕ) : Type 0 where
-  pub k : ℕ
-  pub sweeping : Sweeping bs mp b tr vs k left m ws at
-  pub place : PlaceOf (lines_in bs) f p
-  pub long : length column ≡ max_lines
-  pub cells_are : (y : ℕ) → y < max_lines → get_or column y 0 ≡ worst_to k (strike_rank (form bs) (lines_in bs) vs b f y p)
-
-pub mark-starts : (bs : List ℕ) (mp : Map) (b : ℕ) (tr vs : List ℕ) (f p left : ℕ) (m : Machine) (ws : List ℕ) (at : ℕ) → Sweeping bs mp b tr vs 0 left m ws at → PlaceOf (lines_in bs) f p
-    → (column : List ℕ) → column ≡ zeros max_lines → Marking bs mp b tr vs f p left m ws at column
+-- ---- the start
+pub mark-starts : (bs vs : List ℕ) (b f p : ℕ) → PlaceOf (lines_in bs) f p → Marked (lines_in bs) vs b 0 f p (replicate max_lines Never)
 unfolding worst_to
-mark-starts bs mp b tr vs f p left m ws at w pl column e =
-    record {
-      k = 0;
-      sweeping = w;
-      place = pl;
-      long = ap length e ∙ length-zeros max_lines;
-      cells_are = λ y l. ap (λ x. get_or x y 0) e ∙ zeros-at max_lines y l;
-    }
+mark-starts bs vs b f p pl = record { place = pl; long = length-replicate max_lines Never; each = λ y l. get_or-replicate max_lines y Never Never l }
 
-module _ {bs : List ℕ} {mp : Map} {b : ℕ} {tr vs : List ℕ} {f p left : ℕ} {m : Machine} {ws : List ℕ} {at : ℕ} {column : List ℕ} (w : Marking bs mp b tr vs f p left m ws at column) where
+-- ---- one step more
+module _ {bs : List ℕ} {mp : Map} {b : ℕ} {tr vs : List ℕ} {k left : ℕ} {m : Machine} {ws : List ℕ} {at : ℕ} (w : Sweeping bs mp b tr vs k left m ws at) where
   -- the line where the run stands is one of the table
   pub stands-in : m.registers.at < max_lines
   stands-in =
-      let st = w.sweeping.walking.stood in
-      let so = w.sweeping.ready.sound in
-      omega (arith, (stands-before w.sweeping).before_end, ap (finish_of (lines_in bs)) (st.stands []).function_is, so.finish_in (state_of bs vs w.k).running.function (st.stands []).inside.known, so.within.few_lines)
+      let st = w.walking.stood in
+      let so = w.ready.sound in
+      omega (arith, (stands-before w).before_end, ap (finish_of (lines_in bs)) (st.stands []).function_is, so.finish_in (state_of bs vs k).running.function (st.stands []).inside.known, so.within.few_lines)
 
-  module _ (r : ℕ) (si : StruckIs bs mp.starts m ws (take (length tr - at) (drop at tr)) left f p r) (x : ℕ) (xe : x ≡ max (get_or column m.registers.at 0) r) where
-    cells-on : (y : ℕ) → y < max_lines → get_or (set column m.registers.at x) y 0 ≡ worst_to (suc w.k) (strike_rank (form bs) (lines_in bs) vs b f y p)
-    cells-on = marked w.sweeping f p w.place r si column w.long w.cells_are stands-in x xe
+  pub mark_on : {f p : ℕ} {column : List Rank} → Marked (lines_in bs) vs b k f p column → {known : List ℕ} → known ≡ take (length tr - at) (drop at tr) → (r : Rank) → StruckIs bs mp.starts m ws known left f p r
+      → (x : Rank) → x ≡ worse (get_or column m.registers.at Never) r → Marked (lines_in bs) vs b (suc k) f p (set column m.registers.at x)
+  mark_on {f} {p} {column} d q r si x xe =
+      record {
+        place = d.place;
+        long = length-set column m.registers.at x ∙ d.long;
+        each = marked w f p d.place r (subst (λ y. StruckIs bs mp.starts m ws y left f p r) q si) column d.long d.each stands-in x xe;
+      }
 
-    module _ (rows : List ℕ) (long : length rows ≡ piece_steps) (z : Stopped) (ws' rows' : List ℕ) (e : stopped_with z ws' rows' ≡ run_of bs mp 1 (parts_in m ws rows)) where
-      pub mark_on : (i : ℕ) → z.step ≡ Went i → (m' : Machine) → m' ≡ machine_afresh z.machine
-          → Marking bs mp b tr vs f p (left - 1) m' ws' (at + z.machine.registers.traced) (set column m.registers.at x)
-      mark_on i q m' me =
-          record {
-            k = suc w.k;
-            sweeping = sweep-on w.sweeping rows long z ws' rows' e i q m' me;
-            place = w.place;
-            long = length-set column m.registers.at x ∙ w.long;
-            cells_are = cells-on;
-          }
-
-      pub marked_all : IsEnd z.step → ColumnIs (lines_in bs) vs b f p (set column m.registers.at x)
-      marked_all h =
-          record {
-            long = length-set column m.registers.at x ∙ w.long;
-            each = λ y l. cells-on y l ∙ ap (λ n. worst_to n (strike_rank (form bs) (lines_in bs) vs b f y p)) (sym (walked_all w.sweeping rows long z ws' rows' e h));
-          }
+-- ---- all of them
+pub column-is : (bs vs : List ℕ) (b f' p' : ℕ) (column : List Rank) → Marked (lines_in bs) vs b (unstruck bs vs b).steps f' p' column → (f p : ℕ) → ◌≡◌ {A = List ℕ} (f' ∷ p' ∷ []) (f ∷ p ∷ []) → ColumnIs (lines_in bs) vs b f p column
+column-is bs vs b f' p' column d f p e =
+    let q : f' ≡ f = cc in
+    let z : p' ≡ p = cc in
+    subst (λ y. ColumnIs (lines_in bs) vs b y p column) q (subst (λ y. ColumnIs (lines_in bs) vs b f' y column) z (record { long = d.long; each = d.each }))

@@ -22,6 +22,8 @@ use Rattle.compare.specs.Compared.{ends_at}
 use Rattle.compare.specs.Narrow.{NarrowIs}
 use Rattle.sweeper.specs.Steps.{last_of}
 use Rattle.sweeper.proofs.Settling.{dos_in}
+use Rattle.cells.specs.declared.rank.Rank.{Rank}
+use Rattle.cells.specs.declared.rank.Rank.TheVariants.{Never}
 use Rattle.cells.specs.Worst.{rank}
 use Rattle.cells.specs.Struck.{PlaceOf, InLines, ends_there_lem, EndingIs, StruckIs}
 
@@ -86,10 +88,10 @@ module _ (bs ss : List ℕ) (m : Machine) (ws known : List ℕ) (left y : ℕ) w
 
 -- ---- the strike's rank
 module _ (bs ss : List ℕ) (m : Machine) (ws known : List ℕ) (left f p : ℕ) where
-  pub struck-never : (m.registers.function ≡ f → ⊥) → StruckIs bs ss m ws known left f p 0
+  pub struck-never : (m.registers.function ≡ f → ⊥) → StruckIs bs ss m ws known left f p Never
   struck-never e = record { is = λ s st. rw (ne_eqb m.registers.function f e) refl }
 
-  pub struck-there : m.registers.function ≡ f → (y : ℕ) → y ≡ get_or ss f 0 + p → (e : Ending) → EndingIs bs ss m ws known left y e → (r : ℕ) → r ≡ rank e → StruckIs bs ss m ws known left f p r
+  pub struck-there : m.registers.function ≡ f → (y : ℕ) → y ≡ get_or ss f 0 + p → (e : Ending) → EndingIs bs ss m ws known left y e → (r : Rank) → r ≡ rank e → StruckIs bs ss m ws known left f p r
   struck-there q y ye e ei r re =
       record {
         is = λ s st. rw (eq-eqb m.registers.function f q)

@@ -1,78 +1,68 @@
 // A column of the map: every strike to one place of a function, by the line that it goes out of.
-ghost use Rattle.std.specs.Prelude.{◌≡◌, true, length};
-ghost use Rattle.rules.specs.Limits.{counter_words, max_lines};
+ghost use Rattle.std.specs.Prelude.{◌≡◌, [], ◌∷◌, length};
+ghost use Rattle.rules.specs.Limits.{counter_words};
 ghost use Rattle.rules.specs.Line.{lines_in};
-ghost use Rattle.rules.specs.ReadBack.{is_hardened_lem};
-ghost use Rattle.rules.specs.Calls.{zeros};
-ghost use Rattle.machine.specs.Step.{map_of};
-ghost use Rattle.machine.specs.Stands.{Ready};
-ghost use Rattle.compare.specs.Compared.{piece_steps};
-ghost use Rattle.sweeper.specs.Steps.{Finishes};
 ghost use Rattle.cells.specs.Worst.{ColumnIs};
-ghost use Rattle.cells.specs.Struck.{PlaceOf};
+ghost use Rattle.cells.specs.Struck.{PlaceOf, Marked};
 
-use crate::{rank, struck};
-use guard::counters::fresh;
-use machine::run;
-use rules::limits::{FUNCTIONS, LINES, VARIABLES};
-use rules::step::Step;
-use state::machine::{afresh, begun};
+use crate::rank::Rank;
+use crate::struck;
+use compare::spare::Spare;
+use rules::limits::LINES;
+use state::machine::Machine;
+use sweeper::unstruck::Unstruck;
+use sweeper::walk::{Asked, walk};
 
-// No strike is noted yet.
-fn no_cells() -> [u8; LINES]
-    ensures { result ≡ zeros max_lines }
-{
-    [rank::NEVER; LINES]
+// A cell for each line of the table, and the place that all strikes go to.
+#[derive(Drop)]
+struct Column {
+    function: u8,
+    place: u16,
+    cells: [Rank; LINES],
 }
 
-// The cells by line, one for each line of the table: the unstruck run is walked, and each of its steps struck.
+impl Asked for Column {
+    ghost asks = { λ it. it.function ∷ it.place ∷ [] };
+
+    ghost struck = { λ lines vars b k it. Marked (lines_in lines) vars b k it.function it.place it.cells };
+
+    fn strike(
+        &mut self,
+        run: &Unstruck,
+        step: u16,
+        machine: Machine,
+        known: &[u16],
+        counters: &[u16],
+        spare: &mut Spare,
+    ) -> bool {
+        let left = run.budget - step;
+        let function = self.function;
+        let place = self.place;
+        let r = struck::rank_of(
+            run.table, machine, function, place, left, known, counters, spare,
+        );
+        let y = machine.registers.at as usize;
+        self.cells[y] = self.cells[y].worse(r);
+        true
+    }
+}
+
+// The cells by line: the unstruck run is walked, and each of its steps struck.
 pub fn cells(
-    lines: &[u8],
-    starts: &[u16; FUNCTIONS + 1],
-    owners: &[u8; LINES + 1],
-    home: u16,
-    variables: [u16; VARIABLES],
-    budget: u16,
-    trace: &[u16],
+    run: &Unstruck,
     function: u8,
     place: u16,
     counters: &mut [u16],
-    spare: &mut [u16],
-    rows: &mut [u16],
-) -> [u8; LINES]
-    requires { (Ready lines.now (map_of starts.now owners.now home)) × (is_hardened_lem lines.now ≡ true) × (Finishes (lines_in lines.now) variables budget trace.now) × (PlaceOf (lines_in lines.now) function place) × (length counters.old ≡ counter_words) × (length spare.old ≡ counter_words) × (length rows.old ≡ piece_steps) }
-    ensures { ColumnIs (lines_in lines.now) variables budget function place result }
+    spare: &mut Spare,
+) -> [Rank; LINES]
+    requires { (PlaceOf (lines_in run.now.table.now.lines.now) function place) × (length counters.old ≡ counter_words) }
+    ensures { ColumnIs (lines_in run.now.table.now.lines.now) run.now.variables run.now.budget function place result }
 {
-    fresh(counters, 0, 1);
-    let mut column = no_cells();
-    let mut m = begun(0, variables);
-    let mut at = 0;
-    let mut left = budget;
-    while 0 < left {
-        let r = struck::rank_of(
-            lines,
-            starts,
-            owners,
-            home,
-            m,
-            function,
-            place,
-            left,
-            &trace[at..],
-            counters,
-            spare,
-            rows,
-        );
-        let y = m.registers.at as usize;
-        column[y] = rank::worse(column[y], r);
-        let x = run::step(lines, starts, owners, home, m, counters, rows);
-        let s = x.step;
-        let Step::Went(_) = s else {
-            return column;
-        };
-        at += x.machine.registers.traced as usize;
-        m = afresh(x.machine);
-        left -= 1;
-    }
-    column
+    let mut column = Column {
+        function,
+        place,
+        cells: [Rank::Never; LINES],
+    };
+    walk(run, counters, spare, &mut column);
+    column.cells
 }

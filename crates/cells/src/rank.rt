@@ -1,36 +1,37 @@
-// How bad an ending is, in a byte.
-ghost use Rattle.std.specs.Prelude.{◌≡◌, max};
-ghost use Rattle.cells.specs.Worst.{rank};
+// How bad an ending is.
+ghost use Rattle.std.specs.Prelude.{◌≡◌};
+ghost use Rattle.cells.specs.Worst.{rank, worse};
 
 use rules::ending::Ending;
 
-// The pair was never struck.
-pub const NEVER: u8 = 0;
+// From the best to the worst: the worse of two is the greater.
+#[derive(Clone, Copy, PartialEq, Eq, PartialOrd, Ord)]
+pub enum Rank {
+    // The pair was never struck.
+    Never,
+    Alarmed,
+    Same,
+    Unfinished,
+    Other,
+}
 
-pub const ALARMED: u8 = 1;
-
-pub const SAME: u8 = 2;
-
-pub const UNFINISHED: u8 = 3;
-
-pub const OTHER: u8 = 4;
-
-pub fn of_ending(e: Ending) -> u8
-    ensures { result ≡ rank e }
-{
-    match e {
-        Ending::Alarmed => ALARMED,
-        Ending::Same => SAME,
-        Ending::Unfinished => UNFINISHED,
-        Ending::Other => OTHER,
+impl Rank {
+    pub fn worse(self, other: Rank) -> Rank
+        ensures { result ≡ worse self other }
+    {
+        self.max(other)
     }
 }
 
-pub fn worse(x: u8, y: u8) -> u8
-    ensures { result ≡ max x y }
-{
-    if x < y {
-        return y;
+impl From<Ending> for Rank {
+    ghost from_gives = { λ e r. r ≡ rank e };
+
+    fn from(e: Ending) -> Rank {
+        match e {
+            Ending::Alarmed => Rank::Alarmed,
+            Ending::Same => Rank::Same,
+            Ending::Unfinished => Rank::Unfinished,
+            Ending::Other => Rank::Other,
+        }
     }
-    x
 }

@@ -14,18 +14,16 @@ use Rattle.rules.specs.Given.{given_verdict}
 use Rattle.rules.specs.Links.{Checked}
 use Rattle.rules.proofs.Switch.Chain.{chain-accepted}
 use Rattle.rules.proofs.Switch.Bound.{few_chained}
-use Rattle.fault.specs.declared.Found.{Found}
-use Rattle.fault.specs.declared.Found.TheVariants.{Faulty, Chain}
-use Rattle.fault.specs.Found.{HasChain, FoundOk}
-use Rattle.chain.specs.declared.Linked.{Linked}
-use Rattle.chain.specs.declared.Linked.TheVariants as linked
-use Rattle.chain.specs.Linked.{ChainLinked, LinkedOk}
+use Rattle.std.specs.Prelude.{Ok, Err}
+use Rattle.fault.specs.declared.pass.TableFault.{TableFault}
+use Rattle.fault.specs.Found.{Found, HasChain, FoundOk}
+use Rattle.chain.specs.Linked.{Linked, ChainLinked, LinkedOk}
 
 module _ {rows chain : List ℕ} {x : Found} (ok : FoundOk rows chain x) where
-  pub link-refused : {c : Refusal} {row : ℕ} {ends elses heads : List ℕ} → x ≡ Faulty c row → LinkedOk rows chain ends elses heads (linked.Refused c)
+  pub link-refused : {f : TableFault} {ends elses heads : List ℕ} → x ≡ Err f → LinkedOk rows chain ends elses heads (Err f.cause)
   link-refused m = record { leads = (subst (FoundOk rows chain) m ok).leads.refused }
 
-  module _ {n : ℕ} (m : x ≡ Chain n) (long : length chain ≡ row_width * max_rows) where
+  module _ {n : ℕ} (m : x ≡ Ok n) (long : length chain ≡ row_width * max_rows) where
     found : HasChain rows n chain
     found = (subst (FoundOk rows chain) m ok).leads
 
@@ -38,10 +36,17 @@ module _ {rows chain : List ℕ} {x : Found} (ok : FoundOk rows chain x) where
         let q = found.rows_are in
         sym (found.written (omega (arith, long, few_chained rows found.accepted))) ∙ ap (λ k. take (row_width * k) chain) (sym q)
 
+    good : verdict_of (take (row_width * n) chain) ≡ Accepted
+    good = ap verdict_of (sym front) ∙ chain-accepted rows found.accepted
+
+    -- the check of the chain turns nothing away
+    pub link-checked : {v : Verdict} {c : Refusal} {ends elses heads : List ℕ} {r : Linked} → Checked (take (row_width * n) chain) v ends elses heads → v ≡ Err c
+        → LinkedOk rows chain ends elses heads r
+    link-checked k m = let e : Err _ ≡ Accepted = sym m ∙ k.verdict_is ∙ good in cc
+
     pub link-found : {v : Verdict} {ends elses heads : List ℕ} → Checked (take (row_width * n) chain) v ends elses heads
-        → LinkedOk rows chain ends elses heads (linked.Bytes (row_width * n))
+        → LinkedOk rows chain ends elses heads (Ok (row_width * n))
     link-found {v} k =
-        let good : verdict_of (take (row_width * n) chain) ≡ Accepted = ap verdict_of (sym front) ∙ chain-accepted rows found.accepted in
         record {
           leads = record {
             within = omega (arith, long, chain_fits);
@@ -53,8 +58,8 @@ module _ {rows chain : List ℕ} {x : Found} (ok : FoundOk rows chain x) where
 
 -- ---- by what `link` answers
 module _ {rows chain ends elses heads : List ℕ} {x : Linked} (ok : LinkedOk rows chain ends elses heads x) where
-  pub linked-refused : {c : Refusal} → x ≡ linked.Refused c → given_verdict rows ≡ Refused c
+  pub linked-refused : {c : Refusal} → x ≡ Err c → given_verdict rows ≡ Refused c
   linked-refused m = (subst (LinkedOk rows chain ends elses heads) m ok).leads
 
-  pub linked-chain : {n : ℕ} → x ≡ linked.Bytes n → ChainLinked rows chain ends elses heads n
+  pub linked-chain : {n : ℕ} → x ≡ Ok n → ChainLinked rows chain ends elses heads n
   linked-chain m = (subst (LinkedOk rows chain ends elses heads) m ok).leads

@@ -6,7 +6,7 @@ ghost use Rattle.rules.specs.Limits.{max_rows};
 ghost use Rattle.rules.specs.Row.{row_width};
 ghost use Rattle.chain.specs.Linked.{LinkedOk};
 
-use fault::{Found, find};
+use fault::find;
 use rows::WIDTH;
 use rules::limits::{FUNCTIONS, ROWS};
 use rules::refusal::Refusal;
@@ -15,30 +15,19 @@ use table::check::check;
 // The bytes of the longest chain.
 pub const SIZE: usize = ROWS * WIDTH;
 
-// Why the table is turned away; or how many bytes its chain has.
-#[derive(Drop)]
-pub enum Linked {
-    Refused(Refusal),
-    Bytes(usize),
-}
-
-// Finds the chain, which stands at the front of `chain` afterwards, and its links.
+// Finds the chain, which stands at the front of `chain` afterwards, and its links: how many bytes it has.
 pub fn link(
     rows: &[u8],
     chain: &mut [u8],
     ends: &mut [u16; ROWS],
     elses: &mut [u16; ROWS],
     heads: &mut [u16; FUNCTIONS],
-) -> Linked
+) -> Result<usize, Refusal>
     requires { length chain.old ≡ row_width * max_rows }
     ensures { LinkedOk rows.now chain.new ends.new elses.new heads.new result }
 {
-    match find(rows, chain) {
-        Found::Faulty(r, _) => Linked::Refused(r),
-        Found::Chain(n) => {
-            let size = WIDTH * n;
-            check(&chain[..size], ends, elses, heads);
-            Linked::Bytes(size)
-        }
-    }
+    let count = find(rows, chain)?;
+    let size = WIDTH * count;
+    check(&chain[..size], ends, elses, heads)?;
+    Ok(size)
 }

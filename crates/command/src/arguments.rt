@@ -4,28 +4,36 @@ ghost use Rattle.std.specs.Prelude.{◌≡◌, ◌≤◌, length};
 use crate::word;
 use crate::word::Word;
 use crate::wrong::Expected;
-use console::number::Number;
-use console::word::is;
-use rules::limits::{NO_STEP, VARIABLES};
+use rules::limits::VARIABLES;
 use std::env::{Env, FillError};
 
-// A budget, a jump, a function, `trace`, `show`, `list` and `map` are given once at most. A sweep has no jump, `trace` or `show`, a run no
-// `list`, `map` or function.
+// What is run: a table's rows, its lines, or its lines once with each jump.
+#[derive(Clone, Copy, PartialEq, Eq)]
+pub enum Mode {
+    Source,
+    Hardened,
+    Sweep,
+}
+
+// Before which step, and to which place.
+#[derive(Clone, Copy)]
+pub struct Jump {
+    pub step: u16,
+    pub place: u16,
+}
+
+// Each is given once at most. A sweep has no jump, `trace` or `show`, a run no `list`, `map` or function.
 #[derive(Clone, Copy)]
 pub struct Asked {
-    pub hardened: bool,
-    pub sweep: bool,
+    pub mode: Mode,
     pub trace: bool,
     pub show: bool,
     pub list: bool,
     pub map: bool,
-    pub named: bool,
-    pub budgeted: bool,
-    pub struck: bool,
-    pub budget: u16,
-    pub step: u16,
-    pub place: u16,
-    pub function: u8,
+    pub budget: Option<u16>,
+    pub jump: Option<Jump>,
+    pub function: Option<u8>,
+    pub variables: [Option<u16>; VARIABLES],
 }
 
 // What was expected in a word's place, and how many of its bytes the buffer holds.
@@ -35,41 +43,150 @@ pub struct Fault {
     pub length: usize,
 }
 
-#[derive(Clone, Copy)]
-pub enum Given {
-    Wrong(Fault),
-    Right(Asked),
-}
+impl Asked {
+    // Nothing but what is run.
+    pub fn begun(mode: Mode) -> Self {
+        Asked {
+            mode,
+            trace: false,
+            show: false,
+            list: false,
+            map: false,
+            budget: None,
+            jump: None,
+            function: None,
+            variables: [None; VARIABLES],
+        }
+    }
 
-// What is asked with one word more, or what was expected in its place.
-#[derive(Clone, Copy)]
-pub enum Taken {
-    Wrong(Expected),
-    Right(Asked),
+    // The largest budget where none is given.
+    pub fn budget_or_most(&self) -> u16 {
+        self.budget.unwrap_or(u16::MAX)
+    }
+
+    // A variable that is not given is 0.
+    pub fn variables_or_zero(&self) -> [u16; VARIABLES] {
+        self.variables.map(|x| x.unwrap_or(0))
+    }
+
+    fn with(self, word: Word) -> Result<Self, Expected> {
+        match word {
+            Word::Budget(x) => self.with_budget(x),
+            Word::Variable(k, value) => self.with_variable(k, value),
+            Word::Jump(jump) => self.with_jump(jump),
+            Word::Trace => self.with_trace(),
+            Word::Show => self.with_show(),
+            Word::List => self.with_list(),
+            Word::Map => self.with_map(),
+            Word::Function(f) => self.with_function(f),
+        }
+    }
+
+    fn with_budget(self, x: u16) -> Result<Self, Expected> {
+        if self.budget.is_some() {
+            return Err(Expected::OneBudget);
+        }
+        Ok(Asked {
+            budget: Some(x),
+            ..self
+        })
+    }
+
+    fn with_jump(self, jump: Jump) -> Result<Self, Expected> {
+        if self.mode != Mode::Hardened {
+            return Err(Expected::NoJump);
+        }
+        if self.jump.is_some() {
+            return Err(Expected::OneJump);
+        }
+        Ok(Asked {
+            jump: Some(jump),
+            ..self
+        })
+    }
+
+    fn with_trace(self) -> Result<Self, Expected> {
+        if self.trace {
+            return Err(Expected::OneTrace);
+        }
+        Ok(Asked {
+            trace: true,
+            ..self
+        })
+    }
+
+    fn with_show(self) -> Result<Self, Expected> {
+        if self.show {
+            return Err(Expected::OneShow);
+        }
+        Ok(Asked { show: true, ..self })
+    }
+
+    fn with_list(self) -> Result<Self, Expected> {
+        if self.list {
+            return Err(Expected::OneList);
+        }
+        if self.map {
+            return Err(Expected::ListOrMap);
+        }
+        Ok(Asked { list: true, ..self })
+    }
+
+    fn with_map(self) -> Result<Self, Expected> {
+        if self.map {
+            return Err(Expected::OneMap);
+        }
+        if self.list {
+            return Err(Expected::ListOrMap);
+        }
+        Ok(Asked { map: true, ..self })
+    }
+
+    fn with_function(self, f: u8) -> Result<Self, Expected> {
+        if self.function.is_some() {
+            return Err(Expected::OneFunction);
+        }
+        Ok(Asked {
+            function: Some(f),
+            ..self
+        })
+    }
+
+    fn with_variable(self, k: u16, value: Option<u16>) -> Result<Self, Expected> {
+        let i = usize::from(k);
+        if VARIABLES <= i {
+            return Err(Expected::Any);
+        }
+        let x = value.ok_or(Expected::Variable(k))?;
+        if self.variables[i].is_some() {
+            return Err(Expected::OneVariable(k));
+        }
+        let mut asked = self;
+        asked.variables[i] = Some(x);
+        Ok(asked)
+    }
 }
 
 // Reads each word into the buffer, where the first wrong one stays.
-pub fn read(rt: &impl Env, buffer: &mut [u8], variables: &mut [u16; VARIABLES]) -> Given
+pub fn read(rt: &impl Env, buffer: &mut [u8]) -> Result<Asked, Fault>
     requires { 4096 ≡ length buffer.old }
 {
     match rt.arg(1, buffer) {
-        Ok(n) => read_first(rt, n, buffer, variables),
-        Err(FillError::NotPresent) => wrong(Expected::Run, 0),
-        Err(FillError::TooLong) => wrong(Expected::Shorter, 4096),
+        Ok(n) => read_first(rt, n, buffer),
+        Err(FillError::NotPresent) => Err(wrong(Expected::Run, 0)),
+        Err(FillError::TooLong) => Err(wrong(Expected::Shorter, 4096)),
     }
 }
 
 // The first word has this length.
-fn read_first(rt: &impl Env, n: usize, buffer: &mut [u8], variables: &mut [u16; VARIABLES]) -> Given
+fn read_first(rt: &impl Env, n: usize, buffer: &mut [u8]) -> Result<Asked, Fault>
     requires { (4096 ≡ length buffer.old) × (n ≤ 4096) }
 {
-    if is(&buffer[..n], b"source") {
-        return read_rest(rt, 2, begun(false), buffer, variables);
+    match &buffer[..n] {
+        b"source" => read_rest(rt, 2, Asked::begun(Mode::Source), buffer),
+        b"hardened" => read_rest(rt, 2, Asked::begun(Mode::Hardened), buffer),
+        _ => Err(wrong(Expected::Run, n)),
     }
-    if is(&buffer[..n], b"hardened") {
-        return read_rest(rt, 2, begun(true), buffer, variables);
-    }
-    wrong(Expected::Run, n)
 }
 
 // The words from the one with this number on, which is 2 in a run and 1 in a sweep.
@@ -78,187 +195,39 @@ pub fn read_rest(
     first: usize,
     start: Asked,
     buffer: &mut [u8],
-    variables: &mut [u16; VARIABLES],
-) -> Given
+) -> Result<Asked, Fault>
     requires { 4096 ≡ length buffer.old }
 {
-    let mut seen = [0u8; VARIABLES];
     let mut asked = start;
     for i in first..usize::MAX {
         let n = match rt.arg(i, buffer) {
             Ok(n) => n,
-            Err(FillError::NotPresent) => return Given::Right(asked),
-            Err(FillError::TooLong) => return wrong(Expected::Shorter, 4096),
+            Err(FillError::NotPresent) => return Ok(asked),
+            Err(FillError::TooLong) => return Err(wrong(Expected::Shorter, 4096)),
         };
-        let w = word::read(&buffer[..n], asked.sweep);
-        match take(w, asked, variables, &mut seen) {
-            Taken::Wrong(e) => return wrong(e, n),
-            Taken::Right(a) => asked = a,
+        match take(&buffer[..n], asked) {
+            Ok(more) => asked = more,
+            Err(e) => return Err(wrong(fitting(e, asked.mode), n)),
         }
     }
-    Given::Right(asked)
+    Ok(asked)
 }
 
-fn wrong(expected: Expected, length: usize) -> Given {
-    Given::Wrong(Fault { expected, length })
+fn wrong(expected: Expected, length: usize) -> Fault {
+    Fault { expected, length }
 }
 
-// No jump, and the largest budget.
-pub fn begun(hardened: bool) -> Asked {
-    Asked {
-        hardened,
-        sweep: false,
-        trace: false,
-        show: false,
-        list: false,
-        map: false,
-        named: false,
-        budgeted: false,
-        struck: false,
-        budget: 65535,
-        step: NO_STEP,
-        place: 0,
-        function: 0,
-    }
-}
-
-fn take(w: Word, a: Asked, variables: &mut [u16; VARIABLES], seen: &mut [u8; VARIABLES]) -> Taken {
-    match w {
-        Word::Budget(x) => take_budget(x, a),
-        Word::Variable(k, v) => take_variable(k, v, a, variables, seen),
-        Word::Jump(k, p) => take_jump(k, p, a),
-        Word::Trace => take_trace(a),
-        Word::Show => take_show(a),
-        Word::List => take_list(a),
-        Word::Map => take_map(a),
-        Word::Function(f) => take_function(f, a),
-        Word::Wrong(e) => Taken::Wrong(fitting(e, a)),
-    }
+fn take(text: &[u8], asked: Asked) -> Result<Asked, Expected> {
+    let word = word::read(text, asked.mode)?;
+    asked.with(word)
 }
 
 // What a sweep, a hardened run or a source run expects there. A source run has no jump.
-fn fitting(e: Expected, a: Asked) -> Expected {
-    if a.sweep {
-        return in_sweep(e);
-    }
-    if a.hardened {
-        return in_hardened(e);
-    }
-    match e {
-        Expected::Jump => Expected::NoJump,
+fn fitting(e: Expected, mode: Mode) -> Expected {
+    match (mode, e) {
+        (Mode::Sweep, Expected::Any) => Expected::AnyOrList,
+        (Mode::Hardened, Expected::Any) => Expected::AnyOrJump,
+        (Mode::Source, Expected::Jump) => Expected::NoJump,
         _ => e,
     }
-}
-
-fn in_sweep(e: Expected) -> Expected {
-    match e {
-        Expected::Any => Expected::AnyOrList,
-        _ => e,
-    }
-}
-
-fn in_hardened(e: Expected) -> Expected {
-    match e {
-        Expected::Any => Expected::AnyOrJump,
-        _ => e,
-    }
-}
-
-fn take_budget(x: u16, a: Asked) -> Taken {
-    if a.budgeted {
-        return Taken::Wrong(Expected::OneBudget);
-    }
-    let mut b = a;
-    b.budgeted = true;
-    b.budget = x;
-    Taken::Right(b)
-}
-
-fn take_jump(step: u16, place: u16, a: Asked) -> Taken {
-    if !a.hardened {
-        return Taken::Wrong(Expected::NoJump);
-    }
-    if a.struck {
-        return Taken::Wrong(Expected::OneJump);
-    }
-    let mut b = a;
-    b.struck = true;
-    b.step = step;
-    b.place = place;
-    Taken::Right(b)
-}
-
-fn take_trace(a: Asked) -> Taken {
-    if a.trace {
-        return Taken::Wrong(Expected::OneTrace);
-    }
-    let mut b = a;
-    b.trace = true;
-    Taken::Right(b)
-}
-
-fn take_show(a: Asked) -> Taken {
-    if a.show {
-        return Taken::Wrong(Expected::OneShow);
-    }
-    let mut b = a;
-    b.show = true;
-    Taken::Right(b)
-}
-
-fn take_list(a: Asked) -> Taken {
-    if a.list {
-        return Taken::Wrong(Expected::OneList);
-    }
-    if a.map {
-        return Taken::Wrong(Expected::ListOrMap);
-    }
-    let mut b = a;
-    b.list = true;
-    Taken::Right(b)
-}
-
-fn take_map(a: Asked) -> Taken {
-    if a.map {
-        return Taken::Wrong(Expected::OneMap);
-    }
-    if a.list {
-        return Taken::Wrong(Expected::ListOrMap);
-    }
-    let mut b = a;
-    b.map = true;
-    Taken::Right(b)
-}
-
-fn take_function(f: u8, a: Asked) -> Taken {
-    if a.named {
-        return Taken::Wrong(Expected::OneFunction);
-    }
-    let mut b = a;
-    b.named = true;
-    b.function = f;
-    Taken::Right(b)
-}
-
-// `seen` has a 1 for each variable that was given.
-fn take_variable(
-    k: u16,
-    value: Number,
-    a: Asked,
-    variables: &mut [u16; VARIABLES],
-    seen: &mut [u8; VARIABLES],
-) -> Taken {
-    if 15 < k {
-        return Taken::Wrong(fitting(Expected::Any, a));
-    }
-    let Number::Value(x) = value else {
-        return Taken::Wrong(Expected::Variable(k));
-    };
-    let i = k as usize;
-    if seen[i] != 0 {
-        return Taken::Wrong(Expected::OneVariable(k));
-    }
-    seen[i] = 1;
-    variables[i] = x;
-    Taken::Right(a)
 }

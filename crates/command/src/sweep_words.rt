@@ -2,48 +2,55 @@
 ghost use Rattle.std.specs.Prelude.{◌≡◌, length};
 
 use crate::arguments;
-use crate::arguments::{Asked, Fault, Given};
+use crate::arguments::{Asked, Fault, Mode};
 use rules::limits::VARIABLES;
 use std::env::Env;
 
+// What is answered: the counts, behind a list of jumps, or the map of this function in their place.
+#[derive(Clone, Copy)]
+pub enum Form {
+    Counts,
+    List,
+    Map(u8),
+}
+
 #[derive(Clone, Copy)]
 pub struct SweepAsked {
-    pub list: bool,
-    pub map: bool,
-    pub function: u8,
+    pub form: Form,
     pub budget: u16,
+    pub variables: [u16; VARIABLES],
 }
 
 // `Mapless` is a function that is named with no map to draw.
 #[derive(Clone, Copy)]
-pub enum SweepGiven {
-    Wrong(Fault),
+pub enum SweepFault {
+    Word(Fault),
     Mapless,
-    Right(SweepAsked),
+}
+
+impl From<Fault> for SweepFault {
+    fn from(f: Fault) -> Self {
+        SweepFault::Word(f)
+    }
 }
 
 // Reads each word into the buffer, where the first wrong one stays.
-pub fn read(rt: &impl Env, buffer: &mut [u8], variables: &mut [u16; VARIABLES]) -> SweepGiven
+pub fn read(rt: &impl Env, buffer: &mut [u8]) -> Result<SweepAsked, SweepFault>
     requires { 4096 ≡ length buffer.old }
 {
-    let mut start = arguments::begun(true);
-    start.sweep = true;
-    match arguments::read_rest(rt, 1, start, buffer, variables) {
-        Given::Wrong(f) => SweepGiven::Wrong(f),
-        Given::Right(a) => given(a),
-    }
+    let asked = arguments::read_rest(rt, 1, Asked::begun(Mode::Sweep), buffer)?;
+    Ok(SweepAsked {
+        form: form_of(asked)?,
+        budget: asked.budget_or_most(),
+        variables: asked.variables_or_zero(),
+    })
 }
 
-fn given(a: Asked) -> SweepGiven {
-    if a.named {
-        if !a.map {
-            return SweepGiven::Mapless;
-        }
+fn form_of(asked: Asked) -> Result<Form, SweepFault> {
+    match asked.function {
+        _ if asked.map => Ok(Form::Map(asked.function.unwrap_or(0))),
+        Some(_) => Err(SweepFault::Mapless),
+        None if asked.list => Ok(Form::List),
+        None => Ok(Form::Counts),
     }
-    SweepGiven::Right(SweepAsked {
-        list: a.list,
-        map: a.map,
-        function: a.function,
-        budget: a.budget,
-    })
 }

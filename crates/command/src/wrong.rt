@@ -1,4 +1,7 @@
 // The line for a wrong word, on standard error: the word, and what is expected there.
+use console::standard_error::StandardError;
+use std::fmt;
+use std::fmt::Write as _;
 
 #[derive(Clone, Copy)]
 pub enum Expected {
@@ -30,65 +33,50 @@ pub enum Expected {
     Shorter,
 }
 
+impl fmt::Display for Expected {
+    fn fmt<W: fmt::Write>(&self, f: &mut fmt::Formatter<W>) -> fmt::Result {
+        match *self {
+            Expected::Run => write!(f, "source or hardened"),
+            Expected::Any => write!(f, "budget=0..65535, v0..v15=0..65535, trace or show"),
+            Expected::AnyOrJump => write!(
+                f,
+                "budget=0..65535, v0..v15=0..65535, jump=STEP:PLACE, trace or show"
+            ),
+            Expected::AnyOrList => write!(
+                f,
+                "budget=0..65535, v0..v15=0..65535, list, map or function=0..31"
+            ),
+            Expected::Budget => write!(f, "budget=0..65535"),
+            Expected::Variable(k) => write!(f, "v{k}=0..65535"),
+            Expected::Jump => write!(f, "jump=STEP:PLACE, each 0..65535"),
+            Expected::Function => write!(f, "function=0..31"),
+            Expected::NoJump => write!(f, "jump in a hardened run only"),
+            Expected::OneBudget => write!(f, "budget only once"),
+            Expected::OneVariable(k) => write!(f, "v{k} only once"),
+            Expected::OneJump => write!(f, "jump only once"),
+            Expected::OneTrace => write!(f, "trace only once"),
+            Expected::OneShow => write!(f, "show only once"),
+            Expected::OneList => write!(f, "list only once"),
+            Expected::OneMap => write!(f, "map only once"),
+            Expected::OneFunction => write!(f, "function only once"),
+            Expected::ListOrMap => write!(f, "list or map, not both"),
+            Expected::Shorter => write!(f, "at most 4096 bytes"),
+        }
+    }
+}
+
 pub fn say(word: &mut [u8], expected: Expected) {
     plain(word);
-    io::write_all(2, b"wrong word \"");
+    let _ = write!(StandardError, "wrong word \"");
     io::write_all(2, word);
-    io::write_all(2, b"\": expected ");
-    expect(expected);
-    io::write_all(2, b"\n");
+    let _ = writeln!(StandardError, "\": expected {expected}");
 }
 
 // Bytes that would end the line or leave it become question marks.
 fn plain(word: &mut [u8]) {
-    let mut i = 0;
-    while i < word.len() {
-        word[i] = shown(word[i]);
-        i += 1;
-    }
-}
-
-fn shown(b: u8) -> u8 {
-    match b {
-        0..=31 | 127 => b'?',
-        _ => b,
-    }
-}
-
-fn expect(expected: Expected) {
-    match expected {
-        Expected::Run => say_word(b"source or hardened"),
-        Expected::Any => say_word(b"budget=0..65535, v0..v15=0..65535, trace or show"),
-        Expected::AnyOrJump => {
-            say_word(b"budget=0..65535, v0..v15=0..65535, jump=STEP:PLACE, trace or show")
+    for b in word {
+        if b.is_ascii_control() {
+            *b = b'?';
         }
-        Expected::AnyOrList => {
-            say_word(b"budget=0..65535, v0..v15=0..65535, list, map or function=0..31")
-        }
-        Expected::Budget => say_word(b"budget=0..65535"),
-        Expected::Variable(k) => variable(k, b"=0..65535"),
-        Expected::Jump => say_word(b"jump=STEP:PLACE, each 0..65535"),
-        Expected::Function => say_word(b"function=0..31"),
-        Expected::NoJump => say_word(b"jump in a hardened run only"),
-        Expected::OneBudget => say_word(b"budget only once"),
-        Expected::OneVariable(k) => variable(k, b" only once"),
-        Expected::OneJump => say_word(b"jump only once"),
-        Expected::OneTrace => say_word(b"trace only once"),
-        Expected::OneShow => say_word(b"show only once"),
-        Expected::OneList => say_word(b"list only once"),
-        Expected::OneMap => say_word(b"map only once"),
-        Expected::OneFunction => say_word(b"function only once"),
-        Expected::ListOrMap => say_word(b"list or map, not both"),
-        Expected::Shorter => say_word(b"at most 4096 bytes"),
     }
-}
-
-fn say_word(w: &[u8]) {
-    io::write_all(2, w);
-}
-
-fn variable(k: u16, behind: &[u8]) {
-    say_word(b"v");
-    io::print_decimal(2, k as u64);
-    say_word(behind);
 }

@@ -1,16 +1,14 @@
 -- Two traces compared in parts. Assumes nothing.
-use mathlib.Core.Logic.{◌≢◌}
 use mathlib.Core.Path.{◌≡◌, refl, sym, ap, ◌∙◌}
 use mathlib.Core.Bool.{Bool, true, false, ◌&&◌}
 use mathlib.Core.List.{List, [], ◌∷◌, ◌++◌}
-use Prim.Native.Nat.{ℕ, suc, ◌+◌, ◌≤◌, ◌<◌}
-use native.Mathlib.Nat.{add-zero}
-use native.Mathlib.Numerals.{add-one}
+use Prim.Native.Nat.{ℕ, suc, ◌+◌, ◌-◌, ◌≤◌, ◌<◌}
 use native.Mathlib.Omega.{arith}
 use lib.Dec.{eqb, leb}
-use lib.ListN.{length, get_or, drop, length-drop, drop_of_length-le}
-use lib.Seq.{drop-cons, drop-drop}
-use borrow.Author.Tests.{eq-eqb, ne_eqb, eqb-true, eqb-false, le-leb, lt-leb, leb-true}
+use lib.ListN.{length, take, drop, length-drop}
+use lib.Pointwise.{pointwise}
+use lib.Seq.{take-length, drop-drop}
+use borrow.Author.Tests.{eq-eqb, ne_eqb, eqb-true, eqb-false, le-leb, leb-true}
 use Rattle.rules.specs.Bytes.{same}
 use Rattle.rules.proofs.Logic.{and_left, and_right}
 use Rattle.compare.specs.Compared.{begins, goes_on_lem}
@@ -62,11 +60,6 @@ begins-short x r h = by (begins x r) refl
     by true e = absurd (let z : ⊥ = omega (arith, begins-fits x r e) in z)
     by false e = refl
 
--- ---- row by row
-pub begins_next : (x r : List ℕ) (i j : ℕ) → i < length x → j < length r → begins (drop i x) (drop j r) ≡ eqb (get_or x i 0) (get_or r j 0) && begins (drop (suc i) x) (drop (suc j) r)
-unfolding begins
-begins_next x r i j a b = rw (drop-cons x i 0 a, drop-cons r j 0 b)
-
 -- ---- from row `at` of the known trace on, which is not past its end as long as all was the same
 module _ (known : List ℕ) (at : ℕ) (ok : Bool) (within : ok ≡ true → at ≤ length known) (x : List ℕ) where
   -- what is known to go on with it holds it
@@ -102,37 +95,16 @@ module _ (known : List ℕ) (at : ℕ) (ok : Bool) (within : ok ≡ true → at 
   pub still-within : ok && goes_on_lem x known at ≡ true → at + length x ≤ length known
   still-within e = leb-true (at + length x) (length known) (and_left (leb (at + length x) (length known)) (begins x (drop at known)) (and_right ok (goes_on_lem x known at) e))
 
--- ---- what the loop over the rows keeps
-pub too_long : (x known : List ℕ) (at : ℕ) → length known < at + length x → false ≡ goes_on_lem x known at
-too_long x known at h = sym (ap (λ v. v && begins x (drop at known)) (lt-leb (at + length x) (length known) h))
+-- ---- as the slice's own test has it
+starts-begins : (x r : List ℕ) → pointwise eqb x (take (length x) r) ≡ begins x r
+unfolding begins
+starts-begins [] r = refl
+starts-begins (a ∷ x) [] = refl
+starts-begins (a ∷ x) (b ∷ r) = ap (λ v. eqb a b && v) (starts-begins x r)
 
-module _ (x known : List ℕ) (at : ℕ) (h : at + length x ≤ length known) where
-  pub record Matched (i : ℕ) : Type 0 where
-    pub in_rows : i ≤ length x
-    pub is : goes_on_lem x known at ≡ begins (drop i x) (drop (at + i) known)
+-- a slice to the end
+pub from_there : (tr : List ℕ) (at : ℕ) → take (length tr - at) (drop at tr) ≡ drop at tr
+from_there tr at = ap (λ n. take n (drop at tr)) (sym (length-drop at tr)) ∙ take-length (drop at tr)
 
-  pub matched_start : Matched 0
-  matched_start =
-      record {
-        in_rows = omega arith;
-        is = ap (λ v. v && begins x (drop at known)) (le-leb (at + length x) (length known) h) ∙ ap (λ n. begins x (drop n known)) (sym (add-zero at));
-      }
-
-  module _ (i : ℕ) (m : Matched i) where
-    one_row : i < length x → goes_on_lem x known at ≡ eqb (get_or x i 0) (get_or known (at + i) 0) && begins (drop (suc i) x) (drop (suc (at + i)) known)
-    one_row l = m.is ∙ begins_next x known i (at + i) l (omega arith)
-
-    pub matched_next : i < length x → get_or x i 0 ≡ get_or known (at + i) 0 → Matched (i + 1)
-    matched_next l e =
-        record {
-          in_rows = omega arith;
-          is = one_row l ∙ ap (λ v. v && begins (drop (suc i) x) (drop (suc (at + i)) known)) (eq-eqb (get_or x i 0) (get_or known (at + i) 0) e)
-              ∙ ap (λ n. begins (drop n x) (drop (suc (at + i)) known)) (sym (add-one i)) ∙ ap (λ n. begins (drop (i + 1) x) (drop n known)) (let z : suc (at + i) ≡ at + (i + 1) = omega arith in z);
-        }
-
-    pub matched_not : i < length x → get_or x i 0 ≢ get_or known (at + i) 0 → false ≡ goes_on_lem x known at
-    matched_not l n = sym (one_row l ∙ ap (λ v. v && begins (drop (suc i) x) (drop (suc (at + i)) known)) (ne_eqb (get_or x i 0) (get_or known (at + i) 0) n))
-
-    pub matched_end : length x ≤ i → true ≡ goes_on_lem x known at
-    unfolding begins
-    matched_end l = sym (m.is ∙ ap (λ y. begins y (drop (at + i) known)) (drop_of_length-le x l))
+pub starts_on : (x known : List ℕ) (at : ℕ) → at ≤ length known → pointwise eqb x (take (length x) (take (length known - at) (drop at known))) ≡ goes_on_lem x known at
+starts_on x known at h = ap (λ y. pointwise eqb x (take (length x) y)) (from_there known at) ∙ starts-begins x (drop at known) ∙ goes known at true (λ e. h) x

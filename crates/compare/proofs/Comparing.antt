@@ -1,14 +1,13 @@
 -- A run made in pieces beside a known trace: what the loop over the pieces keeps. Assumes a hardened table.
 use mathlib.Core.Path.{◌≡◌, refl, sym, ap, ◌∙◌, subst}
 use mathlib.Core.Logic.{◌≢◌}
-use mathlib.Core.Bool.{Bool, true, false, cond, ◌&&◌}
+use mathlib.Core.Bool.{Bool, true, ◌&&◌}
 use mathlib.Core.List.{List, []}
-use Prim.Native.Nat.{ℕ, ◌+◌, ◌-◌, ◌≤◌, ◌<◌}
+use Prim.Native.Nat.{ℕ, ◌+◌, ◌-◌, ◌≤◌, min}
 use native.Mathlib.Omega.{arith}
-use lib.Dec.{eqb, ltb}
+use lib.Dec.{eqb}
 use lib.ListN.{length, take, drop, length-append, length-drop}
 use lib.Seq.{take-append_seam}
-use borrow.Author.Tests.{ltb-true, ltb-false}
 use Rattle.rules.specs.declared.ending.Ending.{Ending}
 use Rattle.rules.specs.declared.ending.Ending.TheVariants.{Unfinished}
 use Rattle.rules.specs.declared.step.Step.TheVariants.{Went}
@@ -28,7 +27,7 @@ use Rattle.machine.specs.Step.{Map}
 use Rattle.machine.specs.Run.{parts_in, stopped_with, run_of}
 use Rattle.machine.specs.Stands.{Ready, Stands, Going}
 use Rattle.machine.proofs.Runs.{Ended, run-agrees}
-use Rattle.compare.specs.Compared.{Stood, goes_on_lem, ended_by_lem, piece_steps, piece_of}
+use Rattle.compare.specs.Compared.{Stood, goes_on_lem, ended_by_lem, piece_steps}
 use Rattle.compare.proofs.Begins.{in_parts, to_the_end, still-within}
 
 -- ---- a machine made afresh
@@ -48,30 +47,6 @@ restand ls held m ws tr s st =
       };
       no_steps = refl;
     }
-
-pub piece-few : (left : ℕ) → piece_of left ≤ piece_steps
-unfolding piece_of
-piece-few left = by (ltb left piece_steps) refl
-  where
-    by : (v : Bool) → ltb left piece_steps ≡ v → cond v left piece_steps ≤ piece_steps
-    by true e = omega (arith, ltb-true left piece_steps e)
-    by false e = omega arith
-
-pub piece-left : (left : ℕ) → piece_of left ≤ left
-unfolding piece_of
-piece-left left = by (ltb left piece_steps) refl
-  where
-    by : (v : Bool) → ltb left piece_steps ≡ v → cond v left piece_steps ≤ left
-    by true e = omega arith
-    by false e = omega (arith, ltb-false left piece_steps e)
-
-pub piece-some : (left : ℕ) → 0 < left → 0 < piece_of left
-unfolding piece_of
-piece-some left h = by (ltb left piece_steps)
-  where
-    by : (v : Bool) → 0 < cond v left piece_steps
-    by true = h
-    by false = omega arith
 
 pub going-piece : (ls : List Line) (m : Machine) (ws : List ℕ) (s : Hardened) → Stood ls m ws s → (n : ℕ) → n ≤ piece_steps → (rows : List ℕ) → length rows ≡ piece_steps → Going ls n (parts_in m ws rows)
 going-piece ls m ws s st n h rows e =
@@ -104,7 +79,7 @@ compare-starts ls known budget s m ws st =
     record { here = s; stood = st; is = refl; within = λ e. omega arith; few = omega arith }
 
 -- ---- one piece more
-module _ (bs : List ℕ) (k : Map) (rd : Ready bs k) (known : List ℕ) (budget : ℕ) (start : Hardened) (left : ℕ) (m : Machine) (ws : List ℕ) (at : ℕ) (ok : Bool) (c : Comparing (lines_in bs) known budget start left m ws at ok) (rows : List ℕ) (long : length rows ≡ piece_steps) (x : Stopped) (ws' rows' : List ℕ) (n : ℕ) (ne : n ≡ piece_of left) (e : stopped_with x ws' rows' ≡ run_of bs k n (parts_in m ws rows)) where
+module _ (bs : List ℕ) (k : Map) (rd : Ready bs k) (known : List ℕ) (budget : ℕ) (start : Hardened) (left : ℕ) (m : Machine) (ws : List ℕ) (at : ℕ) (ok : Bool) (c : Comparing (lines_in bs) known budget start left m ws at ok) (rows : List ℕ) (long : length rows ≡ piece_steps) (x : Stopped) (ws' rows' : List ℕ) (n : ℕ) (ne : n ≡ min left piece_steps) (e : stopped_with x ws' rows' ≡ run_of bs k n (parts_in m ws rows)) where
   abbrev ls : List Line
   ls = lines_in bs
 
@@ -115,7 +90,7 @@ module _ (bs : List ℕ) (k : Map) (rd : Ready bs k) (known : List ℕ) (budget 
   ended : Ended ls rows (stopped_with x ws' rows') got
   ended =
       subst (λ a. Ended ls rows a got) (sym e)
-      (run-agrees bs k rd rows n 0 (parts_in m ws rows) (retraced [] c.here) (c.stood.stands rows) c.stood.no_steps (omega (arith, (c.stood.stands rows).traces.traced_is)) (omega (arith, ne, piece-few left)))
+      (run-agrees bs k rd rows n 0 (parts_in m ws rows) (retraced [] c.here) (c.stood.stands rows) c.stood.no_steps (omega (arith, (c.stood.stands rows).traces.traced_is)) (omega (arith, ne)))
 
   traced_is : x.machine.registers.traced ≡ length got.state.trace
   traced_is = ended.traces.traced_is
@@ -131,7 +106,7 @@ module _ (bs : List ℕ) (k : Map) (rd : Ready bs k) (known : List ℕ) (budget 
   fits = ok && goes_on_lem (take x.machine.registers.traced rows') known at
 
   all_is : left ≡ n + (left - n)
-  all_is = omega (arith, ne, piece-left left)
+  all_is = omega (arith, ne)
 
   -- where it went on
   module _ (i : ℕ) (w : x.step ≡ Went i) where
@@ -163,7 +138,7 @@ module _ (bs : List ℕ) (k : Map) (rd : Ready bs k) (known : List ℕ) (budget 
           stood = restand ls rows x.machine ws' rows' got.state (ended.still_stands i went);
           is = c.is ∙ ends_so;
           within = λ q. omega (arith, still-within known at ok c.within (take x.machine.registers.traced rows') q, ap length recorded, traced_is);
-          few = omega (arith, c.few, traced_few, ne, piece-left left);
+          few = omega (arith, c.few, traced_few, ne);
         }
 
     -- as the code has it

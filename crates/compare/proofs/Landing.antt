@@ -1,12 +1,10 @@
 -- A machine that goes on at another line of its function, over a copy of its counters. Assumes nothing.
-use mathlib.Core.Path.{◌≡◌, refl, sym, ap, ◌∙◌, subst}
+use mathlib.Core.Path.{◌≡◌, refl, sym, ◌∙◌, subst}
 use mathlib.Core.Logic.{◌≢◌}
-use mathlib.Core.List.{List, [], ◌∷◌, ◌++◌}
-use Prim.Native.Nat.{ℕ, ◌+◌, ◌≤◌, ◌<◌}
-use native.Mathlib.Numerals.{add-one}
+use mathlib.Core.List.{List, []}
+use Prim.Native.Nat.{ℕ, ◌<◌}
 use native.Mathlib.Omega.{arith}
-use lib.ListN.{length, get_or, set, take, length-set}
-use lib.Seq.{take-length, take-suc, take-set-le, get_or-set_same}
+use lib.ListN.{length}
 use borrow.Author.Tests.{eq-eqb, ne_eqb}
 use Rattle.rules.specs.declared.ending.Ending.{Ending}
 use Rattle.rules.specs.declared.ending.Ending.TheVariants.{Same}
@@ -22,17 +20,6 @@ use Rattle.state.specs.declared.machine.Machine.{Machine}
 use Rattle.state.specs.Machine.{machine_at}
 use Rattle.machine.specs.Stands.{Inside, Sound}
 use Rattle.compare.specs.Compared.{Stood, Standing, ends_at}
-
--- ---- a copy, word by word
-pub copied_next : (from to : List ℕ) (i : ℕ) → i < length from → i < length to → take i to ≡ take i from → take (i + 1) (set to i (get_or from i 0)) ≡ take (i + 1) from
-copied_next from to i a b e =
-    ap (λ n. take n (set to i (get_or from i 0))) (add-one i) ∙ take-suc (set to i (get_or from i 0)) i 0 (simp length-set b)
-    ∙ ap (λ x. x ++ (get_or (set to i (get_or from i 0)) i 0 ∷ [])) (take-set-le i to i (get_or from i 0) (omega arith) ∙ e)
-    ∙ ap (λ x. take i from ++ (x ∷ [])) (get_or-set_same to i (get_or from i 0) 0 b) ∙ sym (take-suc from i 0 a) ∙ ap (λ n. take n from) (sym (add-one i))
-
-pub copied : (from to : List ℕ) (i : ℕ) → length from ≤ i → i ≤ length from → length to ≡ length from → take i to ≡ take i from → to ≡ from
-copied from to i a b l e =
-    sym (take-length to) ∙ ap (λ n. take n to) (let z : length to ≡ i = omega arith in z) ∙ e ∙ ap (λ n. take n from) (let z : i ≡ length from = omega arith in z) ∙ take-length from
 
 -- ---- the landing
 module _ (ls : List Line) (m : Machine) (ws : List ℕ) (y : ℕ) (i : Inside ls m.registers.function y) where

@@ -1,5 +1,5 @@
 -- A run beside a trace that is known: which state a machine that has taken no step stands for, and how the run ends.
-use Rattle.std.specs.Prelude.{ℕ, ◌+◌, ◌≡◌, Bool, true, false, cond, ◌&&◌, List, [], ◌∷◌, eqb, ltb, leb, length, drop}
+use Rattle.std.specs.Prelude.{ℕ, ◌+◌, ◌≡◌, Bool, true, false, cond, ◌&&◌, List, [], ◌∷◌, eqb, leb, length, drop}
 use Rattle.rules.specs.declared.ending.Ending.{Ending}
 use Rattle.rules.specs.declared.ending.Ending.TheVariants.{Alarmed, Same, Other, Unfinished}
 use Rattle.rules.specs.Strike.{None}
@@ -38,9 +38,6 @@ ended_by_lem o same = cond (eqb o 2) Alarmed (cond (eqb o 1) (cond same Same Oth
 -- the steps of a piece
 abbrev pub piece_steps : ℕ
 piece_steps = 1024
-
-unfoldable pub piece_of : (left : ℕ) → ℕ
-piece_of n = cond (ltb n piece_steps) n piece_steps
 
 -- the run that goes on at line y, with so many steps left; where it stands there already, its trace is the known one
 unfoldable pub ends_at : List Line → (known : List ℕ) → (left y : ℕ) → Hardened → Ending

@@ -3,3 +3,4 @@
 
 pub mod narrow;
 pub mod pieces;
+pub mod spare;

@@ -1,57 +1,39 @@
 // The jump across one do, which no guard sees: it is run from a copy of the state.
-ghost use Rattle.std.specs.Prelude.{◌≡◌, length};
-ghost use Rattle.rules.specs.Limits.{counter_words};
+ghost use Rattle.std.specs.Prelude.{◌≡◌};
 ghost use Rattle.rules.specs.Line.{lines_in};
 ghost use Rattle.rules.specs.Hardened.{Hardened};
 ghost use Rattle.rules.specs.Settled.{StandsBefore};
-ghost use Rattle.machine.specs.Step.{map_of};
-ghost use Rattle.machine.specs.Stands.{Inside, Ready};
-ghost use Rattle.compare.specs.Compared.{piece_steps, Stood, Standing, ends_at};
+ghost use Rattle.machine.specs.Stands.{Inside};
+ghost use Rattle.compare.specs.Compared.{Stood, Standing, ends_at};
 ghost use Rattle.compare.specs.Narrow.{NarrowIs};
 
 use crate::pieces;
+use crate::spare::Spare;
+use machine::table::Runnable;
 use places::across::line_across;
 use rules::ending::Ending;
-use rules::limits::{FUNCTIONS, LINES};
 use state::machine::{Machine, at_line};
-
-fn copy(from: &[u16], to: &mut [u16])
-    requires { length from.now ≡ length to.old }
-    ensures { to.new ≡ from.now }
-{
-    let mut i = 0;
-    while i < from.len() {
-        to[i] = from[i];
-        i += 1;
-    }
-}
 
 // How the run ends that goes on at this line of the running function; where it stands there already, nothing is run.
 fn ending(
-    lines: &[u8],
-    starts: &[u16; FUNCTIONS + 1],
-    owners: &[u8; LINES + 1],
-    home: u16,
+    table: &Runnable,
     machine: Machine,
     line: u16,
     left: u16,
     known: &[u16],
     counters: &[u16],
-    spare: &mut [u16],
-    rows: &mut [u16],
+    spare: &mut Spare,
 ) -> Ending
-    requires { (Ready lines.now (map_of starts.now owners.now home)) × (Standing (lines_in lines.now) machine counters.now) × (Inside (lines_in lines.now) machine.registers.function line) × (length spare.old ≡ counter_words) × (length rows.old ≡ piece_steps) }
-    ensures { (s : Hardened) → Stood (lines_in lines.now) machine counters.now s → result ≡ ends_at (lines_in lines.now) known.now left line s }
+    requires { (Standing (lines_in table.now.lines.now) machine counters.now) × (Inside (lines_in table.now.lines.now) machine.registers.function line) }
+    ensures { (s : Hardened) → Stood (lines_in table.now.lines.now) machine counters.now s → result ≡ ends_at (lines_in table.now.lines.now) known.now left line s }
 {
     let h = machine.registers;
     if line == h.at {
         return Ending::Same;
     }
-    copy(counters, spare);
+    spare.counters.copy_from_slice(counters);
     let landed = at_line(machine, line);
-    pieces::ending(
-        lines, starts, owners, home, landed, left, known, spare, rows,
-    )
+    pieces::ending(table, landed, left, known, spare)
 }
 
 // The line across the do, or the line where the run stands, and how the run ends that goes on there.
@@ -62,24 +44,18 @@ pub struct Narrow {
 }
 
 pub fn across(
-    lines: &[u8],
-    starts: &[u16; FUNCTIONS + 1],
-    owners: &[u8; LINES + 1],
-    home: u16,
+    table: &Runnable,
     machine: Machine,
     left: u16,
     known: &[u16],
     counters: &[u16],
-    spare: &mut [u16],
-    rows: &mut [u16],
+    spare: &mut Spare,
 ) -> Narrow
-    requires { (Ready lines.now (map_of starts.now owners.now home)) × (Standing (lines_in lines.now) machine counters.now) × (StandsBefore (lines_in lines.now) machine.registers.function machine.registers.at) × (length spare.old ≡ counter_words) × (length rows.old ≡ piece_steps) }
-    ensures { NarrowIs (lines_in lines.now) machine counters.now known.now left result }
+    requires { (Standing (lines_in table.now.lines.now) machine counters.now) × (StandsBefore (lines_in table.now.lines.now) machine.registers.function machine.registers.at) }
+    ensures { NarrowIs (lines_in table.now.lines.now) machine counters.now known.now left result }
 {
     let h = machine.registers;
-    let line = line_across(lines, h.at);
-    let ending = ending(
-        lines, starts, owners, home, machine, line, left, known, counters, spare, rows,
-    );
+    let line = line_across(table.lines, h.at);
+    let ending = ending(table, machine, line, left, known, counters, spare);
     Narrow { line, ending }
 }

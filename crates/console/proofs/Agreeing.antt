@@ -1,5 +1,5 @@
 -- Looking at a text finds something wrong exactly where the reader finds a malformed line. Assumes nothing.
-use Rattle.std.proofs.Common.{◌≡◌, ℕ, suc, ◌+◌, ◌*◌, ◌%◌, ◌^◌, ◌<◌, ◌≤◌, Bool, true, false, cond, ◌&&◌, ◌||◌, eqb, leb, List, [], ◌∷◌, ◌++◌, sym, refl, ap, ◌∙◌, mod-eq_of_lt, arith, eqb-true, leb-false, leb-true}
+use Rattle.std.proofs.Common.{◌≡◌, ℕ, suc, Some, None, ◌+◌, ◌*◌, ◌%◌, ◌^◌, ◌<◌, ◌≤◌, Bool, true, false, cond, ◌&&◌, ◌||◌, eqb, leb, List, [], ◌∷◌, ◌++◌, sym, refl, ap, ◌∙◌, mod-eq_of_lt, arith, eqb-true, leb-false, leb-true}
 use mathlib.Core.Bool.{false≢true}
 use borrow.Author.Tests.{eqb-false, lt-leb}
 use Rattle.text.specs.Hex.{is_digit, digit_value, readable}
@@ -7,7 +7,7 @@ use Rattle.text.specs.Reading.{Sofar, at_start, spoil, end_line, next_byte, read
 use Rattle.text.proofs.Feeding.{next-bad, next-newline, next-digit, next-other, next-full}
 use Rattle.text.proofs.ByLines.{reads_all}
 use Rattle.console.specs.declared.malformed.Seen.{Seen}
-use Rattle.console.specs.declared.malformed.Wrong.TheVariants.{Nothing, Uppercase, Space, Other}
+use Rattle.console.specs.declared.malformed.Wrong.TheVariants.{Uppercase, Space, Other}
 use Rattle.console.specs.Malformed.{wrong_end_lem, wrong_digit_lem, wrong_byte_lem, is_wrong, next_seen, look_on, at_first_lem}
 use Rattle.console.proofs.Looking.{end_empty, end_short, end-fine, digit-long, byte-newline, byte-return, byte-other}
 use Rattle.console.proofs.Looking.{behind-newline, behind-digit, next-met, next-found, next-fine}
@@ -23,12 +23,12 @@ no_digit : (b n d : ℕ) → n < d → is_digit b ≡ false → is_wrong (wrong_
 unfolding wrong_digit_lem
 no_digit b n d h e = rw (lt-leb d n h, e) (by (leb 65 b && leb b 70) (eqb b 32 || eqb b 9))
   where
-    by : (u v : Bool) → is_wrong (cond u Uppercase (cond v Space Other)) ≡ true
+    by : (u v : Bool) → is_wrong (cond u (Some Uppercase) (cond v (Some Space) (Some Other))) ≡ true
     by true v = refl
     by false true = refl
     by false false = refl
 
-some-digit : (b n d : ℕ) → n < d → is_digit b ≡ true → Nothing ≡ wrong_digit_lem b n d
+some-digit : (b n d : ℕ) → n < d → is_digit b ≡ true → None ≡ wrong_digit_lem b n d
 unfolding wrong_digit_lem
 some-digit b n d h e = rw (lt-leb d n h, e)
 
@@ -66,7 +66,7 @@ module _ (d : ℕ) (some : 0 < d) (small : d < 2 ^ 64) (s : Sofar) (t : Seen) (b
       by : (u : Bool) → eqb s.column d ≡ u → Agrees d (next_byte d s b) (next_seen d t b)
       by true z =
           let full : s.column ≡ d = eqb-true s.column d z in
-          let none : Nothing ≡ wrong_end_lem t.column d = end-fine t.column d (λ y. omega arith) (omega arith) in
+          let none : None ≡ wrong_end_lem t.column d = end-fine t.column d (λ y. omega arith) (omega arith) in
           agrees-by (next-newline d s b good q ∙ end_whole d s z) (next-fine d t b fine (none ∙ byte) refl (behind-newline b t q refl))
           (record { bad_is = good; column_is = λ y. refl; column_fits = λ y. omega arith })
       by false z =
@@ -98,7 +98,7 @@ module _ (d : ℕ) (some : 0 < d) (small : d < 2 ^ 64) (s : Sofar) (t : Seen) (b
               Agrees d
               (cond u (record { bad = s.bad; column = suc s.column; high = digit_value b; bytes = s.bytes })
               (record { bad = s.bad; column = suc s.column; high = s.high; bytes = s.bytes ++ ((16 * s.high + digit_value b) ∷ []) }))
-              (record { line = t.line; column = t.column + 1; wrong = Nothing })
+              (record { line = t.line; column = t.column + 1; wrong = None })
           told true h = record { bad_is = good; column_is = λ z. omega arith; column_fits = λ z. omega arith }
           told false h = record { bad_is = good; column_is = λ z. omega arith; column_fits = λ z. omega arith }
 

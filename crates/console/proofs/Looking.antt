@@ -1,121 +1,59 @@
 -- What is wrong with a byte, by the code's tests of it, and a text that is looked at byte by byte. Assumes nothing.
-use Rattle.std.proofs.Common.{◌≡◌, ℕ, suc, ◌+◌, ◌%◌, ◌^◌, ◌<◌, ◌≤◌, true, false, ◌⊎◌, List, [], ◌∷◌, ◌++◌, length, get_or, drop, sym, refl, ap, ◌∙◌, inl, inr, add-one, arith, drop_of_length-le, drop-cons, le-ltb, lt-ltb, eq-eqb, ne_eqb, le-leb}
-use mathlib.Core.Bool.{and-false}
-use borrow.Author.Tests.{lt-leb}
+use Rattle.std.proofs.Common.{◌≡◌, ℕ, suc, Option, Some, None, ◌+◌, ◌%◌, ◌^◌, ◌<◌, ◌≤◌, true, false, List, [], ◌∷◌, ◌++◌, length, get_or, drop, sym, refl, ap, ◌∙◌, add-one, arith, drop_of_length-le, drop-cons, le-ltb, lt-ltb, eq-eqb, ne_eqb, le-leb}
 use Rattle.console.specs.declared.malformed.Seen.{Seen}
 use Rattle.console.specs.declared.malformed.Wrong.{Wrong}
-use Rattle.console.specs.declared.malformed.Wrong.TheVariants.{Nothing, CarriageReturn, Long, Uppercase, Space, Other, Empty, Short}
+use Rattle.console.specs.declared.malformed.Wrong.TheVariants.{CarriageReturn, Long, Empty, Short}
 use Rattle.console.specs.Malformed.{wrong_end_lem, wrong_digit_lem, wrong_byte_lem, behind_byte, is_wrong, met_at, next_seen, look_on}
 
 -- ---- the end of a line
 module _ (n d : ℕ) where
-  pub end_empty : n ≡ 0 → Empty ≡ wrong_end_lem n d
+  pub end_empty : n ≡ 0 → Some Empty ≡ wrong_end_lem n d
   unfolding wrong_end_lem
   end_empty e = rw (eq-eqb n 0 e)
 
-  pub end_short : (n ≡ 0 → ⊥) → n < d → Short ≡ wrong_end_lem n d
+  pub end_short : (n ≡ 0 → ⊥) → n < d → Some Short ≡ wrong_end_lem n d
   unfolding wrong_end_lem
   end_short e h = rw (ne_eqb n 0 e, lt-ltb n d h)
 
-  pub end-fine : (n ≡ 0 → ⊥) → d ≤ n → Nothing ≡ wrong_end_lem n d
+  pub end-fine : (n ≡ 0 → ⊥) → d ≤ n → None ≡ wrong_end_lem n d
   unfolding wrong_end_lem
   end-fine e h = rw (ne_eqb n 0 e, le-ltb n d h)
 
 -- ---- what should be a digit
-pub digit-long : (b n d : ℕ) → d ≤ n → Long ≡ wrong_digit_lem b n d
+pub digit-long : (b n d : ℕ) → d ≤ n → Some Long ≡ wrong_digit_lem b n d
 unfolding wrong_digit_lem
 digit-long b n d h = rw (le-leb d n h)
 
-module _ (b n d : ℕ) (h : n < d) where
-  pub digit-figure : 48 ≤ b → b < 58 → Nothing ≡ wrong_digit_lem b n d
-  unfolding wrong_digit_lem
-  digit-figure l u = rw (lt-leb d n h, le-leb 48 b l, le-leb b 57 (omega arith))
-
-  pub digit-letter : 97 ≤ b → b < 103 → Nothing ≡ wrong_digit_lem b n d
-  unfolding wrong_digit_lem
-  digit-letter l u =
-      rw (lt-leb d n h, le-leb 48 b (omega arith), lt-leb b 57 (omega arith), le-leb 97 b l, le-leb b 102 (omega arith))
-
-  pub digit-uppercase : 65 ≤ b → b < 71 → Uppercase ≡ wrong_digit_lem b n d
-  unfolding wrong_digit_lem
-  digit-uppercase l u =
-      rw
-      (lt-leb d n h, le-leb 48 b (omega arith), lt-leb b 57 (omega arith), lt-leb 97 b (omega arith), le-leb 65 b l, le-leb b 70 (omega arith))
-
-  pub digit-space : (b ≡ 9) ⊎ (b ≡ 32) → Space ≡ wrong_digit_lem b n d
-  unfolding wrong_digit_lem
-  digit-space (inl e) =
-      rw
-      (lt-leb d n h, lt-leb 48 b (omega arith), lt-leb 97 b (omega arith), lt-leb 65 b (omega arith), ne_eqb b 32 (λ z. omega arith), eq-eqb b 9 e)
-  digit-space (inr e) =
-      rw (lt-leb d n h, lt-leb 48 b (omega arith), lt-leb 97 b (omega arith), lt-leb 65 b (omega arith), eq-eqb b 32 e)
-
-  -- the bytes between those
-  pub digit-below : ((b ≡ 9) ⊎ (b ≡ 32) → ⊥) → b < 48 → Other ≡ wrong_digit_lem b n d
-  unfolding wrong_digit_lem
-  digit-below k u =
-      rw
-      (lt-leb d n h, lt-leb 48 b u, lt-leb 97 b (omega arith), lt-leb 65 b (omega arith), ne_eqb b 32 (λ e. k (inr e)), ne_eqb b 9 (λ e. k (inl e)))
-
-  pub digit-between : 58 ≤ b → b < 65 → Other ≡ wrong_digit_lem b n d
-  unfolding wrong_digit_lem
-  digit-between l u =
-      rw (lt-leb d n h, lt-leb b 57 l, and-false, lt-leb 97 b (omega arith))
-      (rw (lt-leb 65 b u, ne_eqb b 32 (λ z. omega arith), ne_eqb b 9 (λ z. omega arith)))
-
-  pub digit-behind : 71 ≤ b → b < 97 → Other ≡ wrong_digit_lem b n d
-  unfolding wrong_digit_lem
-  digit-behind l u =
-      rw (lt-leb d n h, lt-leb b 57 (omega arith), and-false, lt-leb 97 b u)
-      (rw (lt-leb b 70 l, and-false, ne_eqb b 32 (λ z. omega arith), ne_eqb b 9 (λ z. omega arith)))
-
-  pub digit-above : 103 ≤ b → Other ≡ wrong_digit_lem b n d
-  unfolding wrong_digit_lem
-  digit-above l =
-      rw (lt-leb d n h, lt-leb b 57 (omega arith), and-false, lt-leb b 102 l, and-false)
-      (rw (lt-leb b 70 (omega arith), and-false, ne_eqb b 32 (λ z. omega arith), ne_eqb b 9 (λ z. omega arith)))
-
 -- ---- any byte
 module _ (b n d : ℕ) where
-  pub byte-newline : {w : Wrong} → b ≡ 10 → w ≡ wrong_end_lem n d → w ≡ wrong_byte_lem b n d
+  pub byte-newline : {w : Option Wrong} → b ≡ 10 → w ≡ wrong_end_lem n d → w ≡ wrong_byte_lem b n d
   unfolding wrong_byte_lem
   byte-newline e k = rw (eq-eqb b 10 e) k
 
-  pub byte-return : b ≡ 13 → CarriageReturn ≡ wrong_byte_lem b n d
+  pub byte-return : b ≡ 13 → Some CarriageReturn ≡ wrong_byte_lem b n d
   unfolding wrong_byte_lem
   byte-return e = rw (ne_eqb b 10 (λ z. omega arith), eq-eqb b 13 e)
 
-  pub byte-other : {w : Wrong} → (b ≡ 10 → ⊥) → (b ≡ 13 → ⊥) → w ≡ wrong_digit_lem b n d → w ≡ wrong_byte_lem b n d
+  pub byte-other : {w : Option Wrong} → (b ≡ 10 → ⊥) → (b ≡ 13 → ⊥) → w ≡ wrong_digit_lem b n d → w ≡ wrong_byte_lem b n d
   unfolding wrong_byte_lem
   byte-other e f k = rw (ne_eqb b 10 e, ne_eqb b 13 f) k
 
 -- ---- one byte on
 module _ (b : ℕ) (s : Seen) {m : ℕ} where
-  pub behind-newline : b ≡ 10 → m ≡ (s.line + 1) % 2 ^ 64 → record { line = m; column = 0; wrong = Nothing } ≡ behind_byte b s
+  pub behind-newline : b ≡ 10 → m ≡ (s.line + 1) % 2 ^ 64 → record { line = m; column = 0; wrong = None } ≡ behind_byte b s
   unfolding behind_byte
   behind-newline e k = rw (eq-eqb b 10 e, k)
 
-  pub behind-digit : (b ≡ 10 → ⊥) → m ≡ (s.column + 1) % 2 ^ 64 → record { line = s.line; column = m; wrong = Nothing } ≡ behind_byte b s
+  pub behind-digit : (b ≡ 10 → ⊥) → m ≡ (s.column + 1) % 2 ^ 64 → record { line = s.line; column = m; wrong = None } ≡ behind_byte b s
   unfolding behind_byte
   behind-digit e k = rw (ne_eqb b 10 e, k)
-
--- all but one of them are wrong
-pub not-fine : (w : Wrong) → (w ≡ Nothing → ⊥) → is_wrong w ≡ true
-not-fine Nothing k = absurd (k refl)
-not-fine CarriageReturn k = refl
-not-fine Long k = refl
-not-fine Uppercase k = refl
-not-fine Space k = refl
-not-fine Other k = refl
-not-fine Empty k = refl
-not-fine Short k = refl
 
 module _ (d : ℕ) (s : Seen) (b : ℕ) where
   pub next-met : is_wrong s.wrong ≡ true → s ≡ next_seen d s b
   unfolding next_seen
   next-met e = rw e
 
-  module _ (e : is_wrong s.wrong ≡ false) {w : Wrong} (q : w ≡ wrong_byte_lem b s.column d) where
+  module _ (e : is_wrong s.wrong ≡ false) {w : Option Wrong} (q : w ≡ wrong_byte_lem b s.column d) where
     pub next-found : is_wrong w ≡ true → met_at w s ≡ next_seen d s b
     unfolding next_seen
     next-found f = rw (e, ← q, f)

@@ -1,13 +1,11 @@
 -- What was read so far is what some text says, and is so at its end. Assumes nothing.
-use Rattle.std.proofs.Common.{◌≡◌, ℕ, Bool, true, false, cond, List, [], ◌++◌, length, take, sym, refl, ap, ◌∙◌, arith}
+use Rattle.std.proofs.Common.{◌≡◌, ℕ, Option, Some, None, Bool, true, false, cond, List, [], ◌++◌, length, take, sym, refl, ap, ◌∙◌, arith}
 use lib.Seq.{take-append-le}
 use Rattle.text.specs.declared.read.Reader.{Reader}
 use Rattle.text.specs.Reading.{Holds, Sane, Started, Fed, at_start, read_on, good_at}
 use Rattle.text.proofs.Feeding.{read_more}
 use Rattle.text.proofs.ByLines.{reads_all}
 use Rattle.text.proofs.Whole.{good-is-readable, bytes-held}
-use Rattle.console.specs.declared.input.Read.{Read}
-use Rattle.console.specs.declared.input.Read.TheVariants.{Bytes, Nothing}
 use Rattle.console.specs.Input.{read_at_end, Kept}
 
 -- what the loop keeps: the reader and the buffer, which held `old`, hold what this text says
@@ -28,11 +26,11 @@ heard-more {digits} {old} {piece} h f =
     }
 
 -- the text ends
-pub kept-at-end : {digits : ℕ} {old : List ℕ} {r : Reader} {bytes : List ℕ} {q : Read} → Heard digits old r bytes → Sane digits r bytes
+pub kept-at-end : {digits : ℕ} {old : List ℕ} {r : Reader} {bytes : List ℕ} {q : Option ℕ} → Heard digits old r bytes → Sane digits r bytes
     → length bytes ≡ length old → q ≡ read_at_end digits r → Kept digits (length old) bytes q
 kept-at-end {digits} {old} {r} {bytes} {q} h s l e = rw e (by (good_at digits r.bad r.column) refl)
   where
-    by : (t : Bool) → good_at digits r.bad r.column ≡ t → Kept digits (length old) bytes (cond t (Bytes r.length) Nothing)
+    by : (t : Bool) → good_at digits r.bad r.column ≡ t → Kept digits (length old) bytes (cond t (Some r.length) None)
     by true g =
         let good = sym (good-is-readable digits h.text h.holds) ∙ g in
         record {
@@ -45,9 +43,9 @@ kept-at-end {digits} {old} {r} {bytes} {q} h s l e = rw e (by (good_at digits r.
     by false g = tt
 
 -- the buffer is the front of a larger one
-pub kept-in-front : (digits most : ℕ) (front rest : List ℕ) (q : Read) {k : ℕ} → k ≡ most → length front ≡ most → Kept digits k front q
+pub kept-in-front : (digits most : ℕ) (front rest : List ℕ) (q : Option ℕ) {k : ℕ} → k ≡ most → length front ≡ most → Kept digits k front q
     → Kept digits most (front ++ rest) q
-kept-in-front digits most front rest (Bytes n) e l f =
+kept-in-front digits most front rest (Some n) e l f =
     record {
       text = f.text;
       readable_is = f.readable_is;
@@ -55,10 +53,10 @@ kept-in-front digits most front rest (Bytes n) e l f =
       length_is = rw e at f.length_is;
       within = omega (arith, f.within);
     }
-kept-in-front digits most front rest Nothing e l f = tt
+kept-in-front digits most front rest None e l f = tt
 
-pub ended-good : (digits : ℕ) (r : Reader) {t : Bool} → t ≡ good_at digits r.bad r.column → t ≡ true → Bytes r.length ≡ read_at_end digits r
+pub ended-good : (digits : ℕ) (r : Reader) {t : Bool} → t ≡ good_at digits r.bad r.column → t ≡ true → Some r.length ≡ read_at_end digits r
 ended-good digits r e k = rw (sym e ∙ k)
 
-pub ended-bad : (digits : ℕ) (r : Reader) {t : Bool} → t ≡ good_at digits r.bad r.column → t ≡ false → Nothing ≡ read_at_end digits r
+pub ended-bad : (digits : ℕ) (r : Reader) {t : Bool} → t ≡ good_at digits r.bad r.column → t ≡ false → None ≡ read_at_end digits r
 ended-bad digits r e k = rw (sym e ∙ k)

@@ -1,6 +1,6 @@
 pub mod Number
 pub mod Word
 pub mod Malformed
-pub mod Print
+pub mod Page
 pub mod Input
 pub mod Cases

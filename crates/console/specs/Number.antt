@@ -1,7 +1,5 @@
 -- What a word of digits says: a number of sixteen bits, or none.
-use Rattle.std.specs.Prelude.{ℕ, ◌+◌, ◌-◌, ◌*◌, Bool, true, cond, ◌&&◌, List, [], ◌∷◌, nat_le}
-use Rattle.console.specs.declared.number.Number.{Number}
-use Rattle.console.specs.declared.number.Number.TheVariants.{Value, Other}
+use Rattle.std.specs.Prelude.{ℕ, ◌+◌, ◌-◌, ◌*◌, Bool, true, cond, Option, Some, None, ◌&&◌, List, [], ◌∷◌, nat_le}
 
 -- `0` to `9`
 abbrev pub is_figure : ℕ → Bool
@@ -16,10 +14,10 @@ unfoldable pub value_from : (before : ℕ) → List ℕ → ℕ
 value_from v [] = v
 value_from v (b ∷ bs) = value_from (10 * v + (b - 48)) bs
 
-unfoldable pub number_from : (before : ℕ) → List ℕ → Number
-number_from v bs = cond (are_figures bs && nat_le (value_from v bs) 65535) (Value (value_from v bs)) Other
+unfoldable pub number_from : (before : ℕ) → List ℕ → Option ℕ
+number_from v bs = cond (are_figures bs && nat_le (value_from v bs) 65535) (Some (value_from v bs)) None
 
 -- no digits are no number
-unfoldable pub number_of : List ℕ → Number
-number_of [] = Other
+unfoldable pub number_of : List ℕ → Option ℕ
+number_of [] = None
 number_of (b ∷ bs) = number_from 0 (b ∷ bs)

@@ -8,15 +8,10 @@ use std::io::Read as _;
 use text::read;
 use text::read::Reader;
 
-// What was read: how many bytes, where those that the buffer does not hold are not counted; or nothing to go on with, which was told.
-#[derive(Clone, Copy)]
-pub enum Read {
-    Bytes(usize),
-    Nothing,
-}
+// What was read is how many bytes, where those that the buffer does not hold are not counted; or nothing to go on with, which was told.
 
 // Rows of 12 digits. There is room for 1,025: one more than a table may have, so that a longer one still meets 2.
-pub fn take_rows(rt: &(impl Input + Print), chunk: &mut [u8], bytes: &mut [u8]) -> Read
+pub fn take_rows(rt: &(impl Input + Print), chunk: &mut [u8], bytes: &mut [u8]) -> Option<usize>
     requires { 65536 ≡ length bytes.old }
     ensures { Kept 12 6150 bytes.new result }
 {
@@ -24,7 +19,7 @@ pub fn take_rows(rt: &(impl Input + Print), chunk: &mut [u8], bytes: &mut [u8]) 
 }
 
 // Lines of 40 digits. There is room for 2,049: one more than a hardened table may have, so that a longer one still meets 10.
-pub fn take_lines(rt: &(impl Input + Print), chunk: &mut [u8], bytes: &mut [u8]) -> Read
+pub fn take_lines(rt: &(impl Input + Print), chunk: &mut [u8], bytes: &mut [u8]) -> Option<usize>
     requires { 65536 ≡ length bytes.old }
     ensures { Kept 40 40980 bytes.new result }
 {
@@ -32,20 +27,24 @@ pub fn take_lines(rt: &(impl Input + Print), chunk: &mut [u8], bytes: &mut [u8])
 }
 
 // Each line has so many digits.
-fn take(rt: &(impl Input + Print), digits: usize, chunk: &mut [u8], bytes: &mut [u8]) -> Read
+fn take(
+    rt: &(impl Input + Print),
+    digits: usize,
+    chunk: &mut [u8],
+    bytes: &mut [u8],
+) -> Option<usize>
     requires { digits ≤ 40 }
     ensures { Kept digits (length bytes.old) bytes.new result }
 {
     let mut r = read::start();
     let mut seen = malformed::start();
     let mut reader = rt.reader();
-    let mut reads: u64 = 0;
-    while reads < 18446744073709551615 {
+    for _ in 0..u64::MAX {
         let n = match reader.read(chunk) {
             Ok(n) => n,
             Err(e) => {
-                failure::tell(b"cannot read standard input", e);
-                return Read::Nothing;
+                failure::tell("cannot read standard input", e);
+                return None;
             }
         };
         if n == 0 {
@@ -53,20 +52,18 @@ fn take(rt: &(impl Input + Print), digits: usize, chunk: &mut [u8], bytes: &mut 
         }
         r = read::feed(&chunk[..n], digits, r, bytes);
         seen = malformed::look(&chunk[..n], digits, seen);
-        reads += 1;
     }
     ended(rt, r, seen, digits)
 }
 
 // The input ends here.
-fn ended(rt: &impl Print, r: Reader, seen: Seen, digits: usize) -> Read
+fn ended(rt: &impl Print, r: Reader, seen: Seen, digits: usize) -> Option<usize>
     ensures { result ≡ read_at_end digits r }
 {
-    let length = r.length;
     if read::is_good(r, digits) {
-        return Read::Bytes(length);
+        return Some(r.length);
     }
     malformed::tell(seen, digits);
     output::answer(rt, b"unreadable\n");
-    Read::Nothing
+    None
 }

@@ -7,6 +7,7 @@ pub mod input;
 mod malformed;
 pub mod number;
 pub mod output;
-pub mod print;
+pub mod page;
+pub mod standard_error;
 pub mod start;
 pub mod word;

@@ -2,10 +2,13 @@
 ghost use Rattle.std.specs.Prelude.{◌≡◌};
 ghost use Rattle.console.specs.Malformed.{at_first_lem, look_on, next_seen, behind_byte, wrong_byte_lem, wrong_end_lem, wrong_digit_lem};
 
+use crate::standard_error::StandardError;
+use std::fmt;
+use std::fmt::Write as _;
+
 // What is wrong with a byte, by what stands before it on its line.
 #[derive(Clone, Copy)]
 enum Wrong {
-    Nothing,
     CarriageReturn,
     Long,
     Uppercase,
@@ -20,7 +23,7 @@ enum Wrong {
 pub struct Seen {
     line: u64,
     column: usize,
-    wrong: Wrong,
+    wrong: Option<Wrong>,
 }
 
 pub fn start() -> Seen
@@ -29,7 +32,7 @@ pub fn start() -> Seen
     Seen {
         line: 1,
         column: 0,
-        wrong: Wrong::Nothing,
+        wrong: None,
     }
 }
 
@@ -38,32 +41,27 @@ pub fn look(text: &[u8], digits: usize, before: Seen) -> Seen
     ensures { result ≡ look_on digits before text.now }
 {
     let mut s = before;
-    let mut i = 0;
-    while i < text.len() {
-        s = next(text[i], digits, s);
-        i += 1;
+    for b in text {
+        s = next(*b, digits, s);
     }
     s
 }
 
+#[tactic(auto, using(std::proofs::lemmas::Bool::Decides::nat_tests), unfolding(crate::specs::Malformed::next_seen))]
 fn next(b: u8, digits: usize, s: Seen) -> Seen
     ensures { result ≡ next_seen digits s b }
 {
-    let met = s.wrong;
-    let Wrong::Nothing = met else {
+    if s.wrong.is_some() {
         return s;
-    };
+    }
     let found = wrong_byte(b, s.column, digits);
-    let Wrong::Nothing = found else {
-        return Seen {
-            line: s.line,
-            column: s.column,
-            wrong: found,
-        };
-    };
+    if found.is_some() {
+        return Seen { wrong: found, ..s };
+    }
     behind(b, s)
 }
 
+#[tactic(auto, using(std::proofs::lemmas::Bool::Decides::nat_tests), unfolding(crate::specs::Malformed::behind_byte))]
 fn behind(b: u8, s: Seen) -> Seen
     ensures { result ≡ behind_byte b s }
 {
@@ -71,82 +69,80 @@ fn behind(b: u8, s: Seen) -> Seen
         return Seen {
             line: s.line.wrapping_add(1),
             column: 0,
-            wrong: Wrong::Nothing,
+            wrong: None,
         };
     }
     Seen {
         line: s.line,
         column: s.column.wrapping_add(1),
-        wrong: Wrong::Nothing,
+        wrong: None,
     }
 }
 
-fn wrong_byte(b: u8, column: usize, digits: usize) -> Wrong
+#[tactic(auto, using(std::proofs::lemmas::Bool::Decides::nat_tests), unfolding(crate::specs::Malformed::wrong_byte_lem))]
+fn wrong_byte(b: u8, column: usize, digits: usize) -> Option<Wrong>
     ensures { result ≡ wrong_byte_lem b column digits }
 {
     match b {
         b'\n' => wrong_end(column, digits),
-        b'\r' => Wrong::CarriageReturn,
+        b'\r' => Some(Wrong::CarriageReturn),
         _ => wrong_digit(b, column, digits),
     }
 }
 
-fn wrong_end(column: usize, digits: usize) -> Wrong
+#[tactic(auto, using(std::proofs::lemmas::Bool::Decides::nat_tests), unfolding(crate::specs::Malformed::wrong_end_lem))]
+fn wrong_end(column: usize, digits: usize) -> Option<Wrong>
     ensures { result ≡ wrong_end_lem column digits }
 {
     if column == 0 {
-        return Wrong::Empty;
+        return Some(Wrong::Empty);
     }
     if column < digits {
-        return Wrong::Short;
+        return Some(Wrong::Short);
     }
-    Wrong::Nothing
+    None
 }
 
-fn wrong_digit(b: u8, column: usize, digits: usize) -> Wrong
+#[tactic(auto, using(std::proofs::lemmas::Bool::Decides::nat_tests), unfolding(crate::specs::Malformed::wrong_digit_lem))]
+fn wrong_digit(b: u8, column: usize, digits: usize) -> Option<Wrong>
     ensures { result ≡ wrong_digit_lem b column digits }
 {
     if digits <= column {
-        return Wrong::Long;
+        return Some(Wrong::Long);
     }
     match b {
-        b'0'..=b'9' | b'a'..=b'f' => Wrong::Nothing,
-        b'A'..=b'F' => Wrong::Uppercase,
-        b' ' | b'\t' => Wrong::Space,
-        _ => Wrong::Other,
+        b'0'..=b'9' | b'a'..=b'f' => None,
+        b'A'..=b'F' => Some(Wrong::Uppercase),
+        b' ' | b'\t' => Some(Wrong::Space),
+        _ => Some(Wrong::Other),
     }
+}
+
+// What was seen in a text of lines of so many digits.
+#[derive(Drop)]
+struct Line {
+    seen: Seen,
+    digits: usize,
 }
 
 // `line L: ` and what is wrong with it. Where nothing is, the text ends inside a line.
-pub fn tell(s: Seen, digits: usize) {
-    say(b"line ");
-    io::print_decimal(2, s.line);
-    say(b": ");
-    let w = s.wrong;
-    match w {
-        Wrong::CarriageReturn => say(b"a carriage return"),
-        Wrong::Long => long(digits),
-        Wrong::Uppercase => say(b"an uppercase digit"),
-        Wrong::Space => say(b"a space"),
-        Wrong::Other => say(b"a byte that is no digit"),
-        Wrong::Empty => say(b"an empty line"),
-        Wrong::Short | Wrong::Nothing => short(s.column, digits),
+impl fmt::Display for Line {
+    fn fmt<W: fmt::Write>(&self, f: &mut fmt::Formatter<W>) -> fmt::Result {
+        let s = self.seen;
+        write!(f, "line {}: ", s.line)?;
+        match s.wrong {
+            Some(Wrong::CarriageReturn) => write!(f, "a carriage return"),
+            Some(Wrong::Long) => write!(f, "more than {} digits", self.digits),
+            Some(Wrong::Uppercase) => write!(f, "an uppercase digit"),
+            Some(Wrong::Space) => write!(f, "a space"),
+            Some(Wrong::Other) => write!(f, "a byte that is no digit"),
+            Some(Wrong::Empty) => write!(f, "an empty line"),
+            Some(Wrong::Short) | None => write!(f, "{} digits, not {}", s.column, self.digits),
+        }
     }
-    say(b"\n");
 }
 
-fn say(w: &[u8]) {
-    io::write_all(2, w);
-}
-
-fn long(digits: usize) {
-    say(b"more than ");
-    io::print_decimal(2, digits as u64);
-    say(b" digits");
-}
-
-fn short(column: usize, digits: usize) {
-    io::print_decimal(2, column as u64);
-    say(b" digits, not ");
-    io::print_decimal(2, digits as u64);
+pub fn tell(seen: Seen, digits: usize) {
+    let line = Line { seen, digits };
+    let _ = writeln!(StandardError, "{line}");
 }

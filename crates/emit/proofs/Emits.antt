@@ -1,4 +1,5 @@
 -- The buffer after the lines of a row, of some rows, and the answer. Assumes nothing.
+use mathlib.Core.Logic.{◌⊎◌, inl, inr}
 use mathlib.Core.Path.{◌≡◌, refl, sym, ap, ◌∙◌}
 use mathlib.Core.List.{List, [], ◌∷◌, ◌++◌, append_assoc}
 use Prim.Native.Nat.{ℕ, zero, suc, ◌+◌, ◌*◌, ◌-◌, ◌/◌, ◌≤◌, ◌<◌}
@@ -8,6 +9,7 @@ use native.Mathlib.Omega.{arith}
 use lib.ListN.{length, get_or, take, drop, length-append, take-append-drop}
 use lib.Seq.{length-take-le, take_at, drop_at, drop-drop}
 use Rattle.rules.specs.declared.kind.Kind.{Kind}
+use Rattle.rules.specs.declared.kind.Kind.TheVariants.{Function, Unknown}
 use Rattle.rules.specs.Row.{Table, table_of, kind_at}
 use Rattle.rules.specs.Scan.{open_at}
 use Rattle.rules.specs.Line.{Line, ret_line, line_bytes, lines_bytes}
@@ -56,6 +58,11 @@ two-list (l ∷ k ∷ j ∷ ls) d e = absurd (omega arith)
 -- ---- the lines of a row
 pub makes : {bs : List ℕ} {i count : ℕ} {k : Kind} (j : Kind) → i < length bs / 6 → k ≡ kind_at (table_of bs) i → k ≡ j → line_count j ≡ count → Makes bs i count
 makes j l p q h = record { row = l; are = ap line_count (sym p ∙ q) ∙ h }
+
+-- two kinds make no line
+pub makes_none : {bs : List ℕ} {i : ℕ} {k : Kind} → i < length bs / 6 → k ≡ kind_at (table_of bs) i → (k ≡ Function) ⊎ (k ≡ Unknown) → Makes bs i 0
+makes_none l p (inl q) = makes Function l p q refl
+makes_none l p (inr q) = makes Unknown l p q refl
 
 lines_are : {bs : List ℕ} {i count : ℕ} → Makes bs i count → length (lines_of (table_of bs) i) ≡ count
 lines_are {bs} {i} m = row-lines-length (table_of bs) i (open_at (table_of bs) i) (kind_at (table_of bs) i) ∙ m.are

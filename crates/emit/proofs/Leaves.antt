@@ -17,6 +17,7 @@ use Rattle.rules.proofs.Logic.{clash}
 use Rattle.rules.proofs.Scan.{chain}
 use Rattle.rules.proofs.Accepted.{proper, table-length}
 use Rattle.rules.proofs.Function.{formed, is_body_lem, placed-in}
+use Rattle.layout.specs.declared.scope.Scope.{Scope}
 use Rattle.layout.specs.declared.spot.Spot.{Spot}
 use Rattle.layout.specs.Scope.{Surveyed}
 use Rattle.layout.specs.Number.{value_of}
@@ -72,7 +73,7 @@ leave-is d w p h u q =
     same-leave h.r_is (around-r u w) h.e_is (q ∙ ap (λ x. x + d) e) (ap (λ x. x + 1) e) refl
 
 -- ---- else rows
-module _ {bs m : List ℕ} {i o : ℕ} (s : Surveyed bs m) (n : Inside bs i) (e : kind_at (table_of bs) i ≡ Else) (p : OpenerIs bs i o) where
+module _ {bs : List ℕ} {m : List Scope} {i o : ℕ} (s : Surveyed bs m) (n : Inside bs i) (e : kind_at (table_of bs) i ≡ Else) (p : OpenerIs bs i o) where
   else-within : Within bs i o
   else-within =
       let ok = proper bs s.accepted in
@@ -104,7 +105,7 @@ if-end-line t i fs then_part a b = refl
 if-end-line t i fs else_part a b = refl
 if-end-line t i fs loop_body a b = clash refl b
 
-pub ret-is : {bs m : List ℕ} {i : ℕ} {b : Bool} {h : Spot} {l : Declared.Line} → Surveyed bs m → Inside bs i → kind_at (table_of bs) i ≡ End
+pub ret-is : {bs : List ℕ} {m : List Scope} {i : ℕ} {b : Bool} {h : Spot} {l : Declared.Line} → Surveyed bs m → Inside bs i → kind_at (table_of bs) i ≡ End
     → b ≡ in_body (table_of bs) i → b ≡ true → SpotIs bs i h → l ≡ struct (ret_line h.e (h.e + 1)) → l ≡ struct (row_line (table_of bs) i 0)
 unfolding row_lines value_of in_body
 ret-is {bs} {m} {i} s n e d c a q =
@@ -129,7 +130,7 @@ module _ {bs : List ℕ} {i o : ℕ} {b : Bool} (n : Inside bs i) (d : b ≡ in_
       ∙ ap struct (loop-end-line (table_of bs) i (open_at (table_of bs) i) (part_of (open_at (table_of bs) i)) (sym (part-loop n p x) ∙ y))
       ∙ ap struct (line-of (table_of bs) i 0 e)
 
-  pub if-end : {m : List ℕ} {g : ℕ} {k : Bool} {h u : Spot} {l : Declared.Line} → Surveyed bs m → kind_at (table_of bs) i ≡ End → k ≡ is_loop_lem (kind_at (table_of bs) o)
+  pub if-end : {m : List Scope} {g : ℕ} {k : Bool} {h u : Spot} {l : Declared.Line} → Surveyed bs m → kind_at (table_of bs) i ≡ End → k ≡ is_loop_lem (kind_at (table_of bs) o)
       → k ≡ false → SpotIs bs i h → SpotIs bs o u → g ≡ line_of (table_of bs) (suc i)
       → l ≡ struct (leave_line h.r u.r h.e (u.e + 2) (u.e + 1) g) → l ≡ struct (row_line (table_of bs) i 0)
   unfolding row_lines in_body

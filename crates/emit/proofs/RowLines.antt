@@ -23,6 +23,7 @@ use Rattle.rules.proofs.Accepted.{proper, table-length}
 use Rattle.rules.proofs.Close.{Turned, else_is}
 use Rattle.rules.proofs.Function.{placed-in}
 use Rattle.rules.proofs.RegionBound.{else-bound}
+use Rattle.layout.specs.declared.scope.Scope.{Scope}
 use Rattle.layout.specs.declared.spot.Spot.{Spot}
 use Rattle.layout.specs.Scope.{Surveyed}
 use Rattle.layout.specs.Number.{value_of}
@@ -81,7 +82,7 @@ else-test-is {bs} {i} {x} e h u s t b c g q =
 pub loop-opens : {bs : List ℕ} {i : ℕ} → Inside bs i → kind_at (table_of bs) i ≡ Loop → Opens bs i
 loop-opens o e = record { row = o.row; opening = ap is_opening e }
 
-pub loop-grows : {bs m : List ℕ} {i : ℕ} → Surveyed bs m → Inside bs i → kind_at (table_of bs) i ≡ Loop → Grows bs i
+pub loop-grows : {bs : List ℕ} {m : List Scope} {i : ℕ} → Surveyed bs m → Inside bs i → kind_at (table_of bs) i ≡ Loop → Grows bs i
 loop-grows s o e = grows s o e refl
 
 pub loop-line : (bs : List ℕ) (i : ℕ) {l : Declared.Line} → kind_at (table_of bs) i ≡ Loop → l ≡ struct (plain_test_lem (table_of bs) i) → l ≡ struct (row_line (table_of bs) i 0)
@@ -94,7 +95,7 @@ pub ruleset loops = (loop-opens, loop-grows, loop-line)
 pub if-opens : {bs : List ℕ} {i : ℕ} → Inside bs i → kind_at (table_of bs) i ≡ If → Opens bs i
 if-opens o e = record { row = o.row; opening = ap is_opening e }
 
-pub if-grows : {bs m : List ℕ} {i : ℕ} → Surveyed bs m → Inside bs i → kind_at (table_of bs) i ≡ If → Grows bs i
+pub if-grows : {bs : List ℕ} {m : List Scope} {i : ℕ} → Surveyed bs m → Inside bs i → kind_at (table_of bs) i ≡ If → Grows bs i
 if-grows s o e = grows s o e refl
 
 module _ {bs elses : List ℕ} {i x : ℕ} (ls : Elses bs elses) (o : Inside bs i) (e : kind_at (table_of bs) i ≡ If) (q : x ≡ get_or elses i 0) where
@@ -113,7 +114,7 @@ module _ {bs elses : List ℕ} {i x : ℕ} (ls : Elses bs elses) (o : Inside bs 
       w ∙ ap (λ b. struct (test_of (table_of bs) i (open_at (table_of bs) i) b)) (sym (an_else (table_of bs) i (λ y. z (link-is ∙ y))).0)
       ∙ ap struct (line-of (table_of bs) i 0 e)
 
-  pub if-turns : {m : List ℕ} → Surveyed bs m → (x ≡ 0 → ⊥) → TurnsAt bs i x
+  pub if-turns : {m : List Scope} → Surveyed bs m → (x ≡ 0 → ⊥) → TurnsAt bs i x
   unfolding misplaced_in
   if-turns s z =
       let a = an_else (table_of bs) i (λ y. z (link-is ∙ y)) in

@@ -26,6 +26,7 @@ Reads a source table, 12 hexadecimal digits to a line, and prints accepted, or w
 fn explain(rt: &(impl Input + Print)) {
     let mut chunk = io::buffer();
     let mut rows = io::large_buffer();
-    let n = input::take_rows(rt, &mut chunk, &mut rows);
-    output::answer(rt, n, &rows);
+    if let Some(n) = input::take_rows(rt, &mut chunk, &mut rows) {
+        output::answer(rt, &rows[..n]);
+    }
 }

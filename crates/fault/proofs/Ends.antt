@@ -28,17 +28,19 @@ use Rattle.rows.proofs.Rows.{rest_all}
 use Rattle.scan.specs.declared.open.Standing.{Standing}
 use Rattle.scan.specs.Standing.{none}
 use Rattle.scan.proofs.Parts.{bytes-none}
-use Rattle.given.specs.declared.row.After.{After}
-use Rattle.given.specs.declared.row.After.TheVariants as after
+use Rattle.given.specs.Reached.{After}
+use Rattle.given.specs.Reached as after
 use Rattle.given.specs.declared.things.Things.{Things}
 use Rattle.given.specs.Through.{Written}
 use Rattle.given.specs.Reached.{Reached, Here, RowOk}
 use Rattle.given.proofs.Rows.{given-at}
-use Rattle.fault.specs.declared.Found.{Found}
-use Rattle.fault.specs.declared.Found.TheVariants.{Faulty, Chain}
-use Rattle.fault.specs.declared.pass.Passed.{Passed}
-use Rattle.fault.specs.declared.pass.Passed.TheVariants.{Stopped, Counted}
-use Rattle.fault.specs.Found.{nothing, end_of, last_of, StoppedAt, Chained, PassedOk, FoundOk}
+use Rattle.fault.specs.declared.pass.TableFault.{TableFault}
+use Rattle.fault.specs.declared.pass.Counted.{Counted}
+use Rattle.std.specs.Prelude.{Ok, Err}
+use Rattle.fault.specs.Found.{Passed, Found, fault_at, nothing, end_of, last_of, StoppedAt, Chained, PassedOk, FoundOk}
+
+abbrev counts_of : Standing → Things → Counted
+counts_of s t = record { functions = s.count; rows = t.chained; long = t.long }
 
 -- ---- the pass over the rows, up to row `at`
 pub record PassTo (bs out₀ : List ℕ) (at : ℕ) (s : Standing) (ps : List ℕ) (t : Things) (ms vs us out : List ℕ) : Type 0 where
@@ -86,7 +88,7 @@ module _ {bs : List ℕ} {at : ℕ} {s : Standing} {ps : List ℕ} {t : Things} 
     row_here : at < length (given_of bs)
     row_here = omega (arith, given-length bs)
 
-    pub pass-stopped : {c : Refusal} → r ≡ after.Faulty c → PassedOk bs out' (Stopped c at)
+    pub pass-stopped : {c : Refusal} → r ≡ after.Faulty c → PassedOk bs out' (Err (fault_at c at))
     pass-stopped {c} m =
         let e : given_row_verdict (given_of bs) (chain_of (given_of bs)) at ≡ Refused c = (subst (RowOk bs at ps' ms' vs' us' out') m ok).leads in
         record {
@@ -148,16 +150,16 @@ module _ {bs : List ℕ} {at : ℕ} {s : Standing} {ps : List ℕ} {t : Things} 
     pub pass_end : {r : Passed} → r ≡ end_of s t at → PassedOk bs out r
     pass_end {r} q = subst (PassedOk bs out) (sym q) (by (eqb t.count 0) refl)
       where
-        by : (a : Bool) → eqb t.count 0 ≡ a → PassedOk bs out (cond a (Counted s.count t.chained t.long) (Stopped Misplaced at))
+        by : (a : Bool) → eqb t.count 0 ≡ a → PassedOk bs out (cond a (Ok (counts_of s t)) (Err (fault_at Misplaced at)))
         by true e = record { leads = counted e }
         by false e = record { leads = left_open e }
 
 -- what the end answers, by how many things are open
 module _ (s : Standing) (t : Things) (at : ℕ) where
-  pub some-open : (t.count ≡ 0 → ⊥) → Stopped Misplaced at ≡ end_of s t at
+  pub some-open : (t.count ≡ 0 → ⊥) → Err (fault_at Misplaced at) ≡ end_of s t at
   some-open n = rw (ne_eqb t.count 0 n)
 
-  pub none_open : t.count ≡ 0 → Counted s.count t.chained t.long ≡ end_of s t at
+  pub none_open : t.count ≡ 0 → Ok (counts_of s t) ≡ end_of s t at
   none_open e = rw (eq-eqb t.count 0 e)
 
 -- ---- the calls
@@ -213,17 +215,17 @@ module _ {bs : List ℕ} {count at : ℕ} (v : CallsTo bs count at) where
 
 -- ---- the whole
 module _ (bs out : List ℕ) where
-  pub find_none : length bs ≡ 0 → FoundOk bs out (Faulty NoWholeRows 0)
+  pub find_none : length bs ≡ 0 → FoundOk bs out (Err (fault_at NoWholeRows 0))
   unfolding given_verdict fault_row
   find_none h = record { leads = record { refused = rw h; row_is = omega arith } }
 
   module _ (some : length bs ≡ 0 → ⊥) where
-    pub find-ragged : (length bs % row_width ≡ 0 → ⊥) → FoundOk bs out (Faulty NoWholeRows (length bs / row_width))
+    pub find-ragged : (length bs % row_width ≡ 0 → ⊥) → FoundOk bs out (Err (fault_at NoWholeRows (length bs / row_width)))
     unfolding given_verdict fault_row
     find-ragged h = record { leads = record { refused = rw (ne_eqb (length bs) 0 some, ne_eqb (length bs % row_width) 0 h); row_is = refl } }
 
     module _ (whole : length bs % row_width ≡ 0) where
-      pub find-long : max_rows < length bs / row_width → FoundOk bs out (Faulty TooManyRows max_rows)
+      pub find-long : max_rows < length bs / row_width → FoundOk bs out (Err (fault_at TooManyRows max_rows))
       unfolding given_verdict fault_row
       find-long h =
           let e = lt-ltb max_rows (length bs / row_width) h in
@@ -235,19 +237,19 @@ module _ (bs out : List ℕ) where
         by_table = rw (ne_eqb (length bs) 0 some, whole, le-ltb max_rows (length bs / row_width) few)
 
         module _ {r : Passed} (ok : PassedOk bs out r) where
-          pub find_stopped : {c : Refusal} {row : ℕ} → r ≡ Stopped c row → FoundOk bs out (Faulty c row)
+          pub find_stopped : {f : TableFault} → r ≡ Err f → FoundOk bs out (Err f)
           find_stopped m =
               let o = (subst (PassedOk bs out) m ok).leads in
               record { leads = record { refused = by_table ∙ o.refused; row_is = o.row_is } }
 
-          module _ {n chained long at : ℕ} (m : r ≡ Counted n chained long) (called : at ≡ calling_row (given_of bs) n) where
-            counts : Chained bs n chained long out
+          module _ {n : Counted} {at : ℕ} (m : r ≡ Ok n) (called : at ≡ calling_row (given_of bs) n.functions) where
+            counts : Chained bs n.functions n.rows n.long out
             counts = (subst (PassedOk bs out) m ok).leads
 
             called_is : at ≡ calling_row (given_of bs) (function_count (chain_of (given_of bs)))
             called_is = called ∙ ap (calling_row (given_of bs)) counts.count_is
 
-            too_long : max_rows < chained → FoundOk bs out (Faulty TooManyRows long)
+            too_long : max_rows < n.rows → FoundOk bs out (Err (fault_at TooManyRows n.long))
             unfolding fault_row
             too_long l =
                 record {
@@ -257,10 +259,10 @@ module _ (bs out : List ℕ) where
                   };
                 }
 
-            calls_left : chained ≤ max_rows → given_verdict bs ≡ calls_verdict (chain_of (given_of bs)) (length (chain_of (given_of bs)))
+            calls_left : n.rows ≤ max_rows → given_verdict bs ≡ calls_verdict (chain_of (given_of bs)) (length (chain_of (given_of bs)))
             calls_left h = by_table ∙ end-calls (given_of bs) (chain_of (given_of bs)) counts.good counts.closed (omega (arith, counts.rows_are))
 
-            no_function : chained ≤ max_rows → at < length bs / row_width → FoundOk bs out (Faulty NoSuchFunction at)
+            no_function : n.rows ≤ max_rows → at < length bs / row_width → FoundOk bs out (Err (fault_at NoSuchFunction at))
             unfolding fault_row
             no_function h l =
                 record {
@@ -270,7 +272,7 @@ module _ (bs out : List ℕ) where
                   };
                 }
 
-            has_chain : chained ≤ max_rows → length bs / row_width ≤ at → FoundOk bs out (Chain chained)
+            has_chain : n.rows ≤ max_rows → length bs / row_width ≤ at → FoundOk bs out (Ok n.rows)
             has_chain h l =
                 record {
                   leads = record {
@@ -280,11 +282,11 @@ module _ (bs out : List ℕ) where
                   };
                 }
 
-            pub find_last : {f : Found} → f ≡ last_of chained long at (length bs / row_width) → FoundOk bs out f
-            find_last q = subst (FoundOk bs out) (sym q) (by (ltb max_rows chained) (ltb at (length bs / row_width)) refl refl)
+            pub find_last : {f : Found} → f ≡ last_of n.rows n.long at (length bs / row_width) → FoundOk bs out f
+            find_last q = subst (FoundOk bs out) (sym q) (by (ltb max_rows n.rows) (ltb at (length bs / row_width)) refl refl)
               where
-                by : (a b : Bool) → ltb max_rows chained ≡ a → ltb at (length bs / row_width) ≡ b
-                    → FoundOk bs out (cond a (Faulty TooManyRows long) (cond b (Faulty NoSuchFunction at) (Chain chained)))
-                by true b e f = too_long (ltb-true max_rows chained e)
-                by false true e f = no_function (ltb-false max_rows chained e) (ltb-true at (length bs / row_width) f)
-                by false false e f = has_chain (ltb-false max_rows chained e) (ltb-false at (length bs / row_width) f)
+                by : (a b : Bool) → ltb max_rows n.rows ≡ a → ltb at (length bs / row_width) ≡ b
+                    → FoundOk bs out (cond a (Err (fault_at TooManyRows n.long)) (cond b (Err (fault_at NoSuchFunction at)) (Ok n.rows)))
+                by true b e f = too_long (ltb-true max_rows n.rows e)
+                by false true e f = no_function (ltb-false max_rows n.rows e) (ltb-true at (length bs / row_width) f)
+                by false false e f = has_chain (ltb-false max_rows n.rows e) (ltb-false at (length bs / row_width) f)

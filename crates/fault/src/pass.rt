@@ -5,18 +5,34 @@ ghost use Rattle.rules.specs.Row.{row_width};
 ghost use Rattle.scan.specs.Standing.{none};
 ghost use Rattle.fault.specs.Found.{nothing, end_of, PassedOk};
 
-use given::row::{After, row};
+use given::row::row;
 use given::things::Things;
-use rows::{LAST, WIDTH};
+use rows::WIDTH;
 use rules::limits::{CONSTRUCTS, ROWS};
 use rules::refusal::Refusal;
 use scan::open::Standing;
 
-// The first fault and its row; or the number of functions, of the chain's rows, and the first row with which they are over 1,024.
-#[derive(Drop)]
-pub enum Passed {
-    Stopped(Refusal, usize),
-    Counted(usize, usize, usize),
+// Why a table is turned away, and the row that it is about: for the end of the table, the number of rows.
+#[derive(Clone, Copy)]
+pub struct TableFault {
+    pub cause: Refusal,
+    pub row: usize,
+}
+
+impl From<TableFault> for Refusal {
+    ghost from_gives = { λ fault cause. cause ≡ fault.cause };
+
+    fn from(fault: TableFault) -> Refusal {
+        fault.cause
+    }
+}
+
+// The functions and the rows of the chain, and the first row of the table with which they are over 1,024.
+#[derive(Clone, Copy)]
+pub struct Counted {
+    pub functions: usize,
+    pub rows: usize,
+    pub long: usize,
 }
 
 // Nothing is open before row 0.
@@ -43,16 +59,23 @@ fn no_things() -> Things
 }
 
 // The end of the table, which is row `at`.
-fn end(s: Standing, t: Things, at: usize) -> Passed
+fn end(s: Standing, t: Things, at: usize) -> Result<Counted, TableFault>
     ensures { result ≡ end_of s t at }
 {
     if t.count != 0 {
-        return Passed::Stopped(Refusal::Misplaced, at);
+        return Err(TableFault {
+            cause: Refusal::Misplaced,
+            row: at,
+        });
     }
-    Passed::Counted(s.count, t.chained, t.long)
+    Ok(Counted {
+        functions: s.count,
+        rows: t.chained,
+        long: t.long,
+    })
 }
 
-pub fn rows(rows: &[u8], chain: &mut [u8]) -> Passed
+pub fn rows(rows: &[u8], chain: &mut [u8]) -> Result<Counted, TableFault>
     requires { length rows.now ≤ row_width * max_rows }
     ensures { PassedOk rows.now chain.new result }
 {
@@ -63,18 +86,17 @@ pub fn rows(rows: &[u8], chain: &mut [u8]) -> Passed
     let mut used = [0u16; CONSTRUCTS + 1];
     let mut s = start();
     let mut t = no_things();
-    let mut at = 0;
-    while WIDTH * at + LAST < rows.len() {
+    let count = rows.len() / WIDTH;
+    for at in 0..count {
         match row(
             rows, at, s, t, &mut parts, &mut marks, &mut vars, &mut used, chain,
         ) {
-            After::Faulty(r) => return Passed::Stopped(r, at),
-            After::On(n, u) => {
+            Err(cause) => return Err(TableFault { cause, row: at }),
+            Ok((n, u)) => {
                 s = n;
                 t = u;
-                at = at + 1;
             }
         }
     }
-    end(s, t, at)
+    end(s, t, count)
 }

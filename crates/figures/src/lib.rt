@@ -14,8 +14,8 @@ pub mod steps;
 pub mod tally;
 mod weights;
 
+use rows::WIDTH;
 use rows::kind::{CASE, DEFAULT, ELSE, IF, SWITCH};
-use rows::{LAST, WIDTH};
 use rules::sums::Sums;
 use tally::{Tally, add, plain, sums};
 use weights::{KINDS, weights};
@@ -66,12 +66,10 @@ pub fn count(rows: &[u8]) -> Sums
         most: 0,
     };
     let mut first = false;
-    let mut at = 0;
-    while WIDTH * at + LAST < rows.len() {
+    for at in 0..rows.len() / WIDTH {
         let byte = rows[WIDTH * at];
         t = row(&by, byte, first, t);
         first = byte == SWITCH;
-        at = at + 1;
     }
     sums(t)
 }

@@ -1,5 +1,5 @@
 // The sums so far, kept in as few numbers as a row should touch.
-ghost use Rattle.std.specs.Prelude.{◌≡◌, ◌<◌, max};
+ghost use Rattle.std.specs.Prelude.{◌≡◌, ◌<◌};
 ghost use Rattle.rules.specs.Row.{kind_of};
 ghost use Rattle.figures.specs.Tallied.{Weights, Fits, kinds, top, added, begun_by, plain_tally, sums_in};
 
@@ -7,21 +7,13 @@ use crate::weights::{KINDS, REGION, VALUE};
 use rows::kind::FUNCTION;
 use rules::sums::Sums;
 
-// Lines, values and regions in one number, as in the weights; the regions before the function that is open; the most of those before it.
-#[derive(Drop)]
+// Lines, values and regions in one number, as in the weights: kept so, and no struct of three, so that one addition takes a row. Then the
+// regions before the function that is open, and the most of those before it.
+#[derive(Clone, Copy)]
 pub struct Tally {
     pub all: u64,
     pub before: u64,
     pub most: u64,
-}
-
-fn larger(a: u64, b: u64) -> u64
-    ensures { result ≡ max a b }
-{
-    if a < b {
-        return b;
-    }
-    a
 }
 
 // A row of this kind more, which opens no function.
@@ -31,8 +23,7 @@ pub fn add(by: &[u64; KINDS], kind: usize, t: Tally) -> Tally
 {
     Tally {
         all: t.all + by[kind],
-        before: t.before,
-        most: t.most,
+        ..t
     }
 }
 
@@ -45,7 +36,7 @@ fn begin(by: &[u64; KINDS], t: Tally) -> Tally
     Tally {
         all: t.all + by[1],
         before,
-        most: larger(t.most, before - t.before),
+        most: t.most.max(before - t.before),
     }
 }
 
@@ -70,6 +61,6 @@ pub fn sums(t: Tally) -> Sums
         lines: (t.all % VALUE) as u16,
         value: (t.all / VALUE % VALUE) as u16,
         opened: opened as u16,
-        most: larger(t.most, opened) as u16,
+        most: t.most.max(opened) as u16,
     }
 }

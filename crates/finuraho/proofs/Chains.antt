@@ -15,19 +15,19 @@ use Rattle.rules.specs.Links.{Checked}
 use Rattle.rules.specs.Calls.{check_call}
 use Rattle.rules.specs.Fault.{stop_row, fault_call}
 use Rattle.rules.proofs.Switch.Plain.{plain-accepted}
-use Rattle.fault.specs.declared.Found.{Found}
-use Rattle.fault.specs.declared.Found.TheVariants.{Faulty, Chain}
-use Rattle.fault.specs.Found.{FoundOk}
+use Rattle.std.specs.Prelude.{Ok, Err}
+use Rattle.fault.specs.declared.pass.TableFault.{TableFault}
+use Rattle.fault.specs.Found.{Found, FoundOk}
 
 -- ---- the fault, and the number alone
 module _ (rows out : List ℕ) (x : Found) (ok : FoundOk rows out x) where
-  pub fault-found : (c : Refusal) (row n : ℕ) → x ≡ Faulty c row → n ≡ refusal_number c → record { number = n; row = row } ≡ fault_call rows
+  pub fault-found : (f : TableFault) (n : ℕ) → x ≡ Err f → n ≡ refusal_number f.cause → record { number = n; row = f.row } ≡ fault_call rows
   unfolding fault_call stop_row
-  fault-found c row n m q =
+  fault-found f n m q =
       let o = (subst (FoundOk rows out) m ok).leads in
       rw (o.refused, q, o.row_is)
 
-  pub fault-none : (n : ℕ) → x ≡ Chain n → record { number = 0; row = length rows / row_width } ≡ fault_call rows
+  pub fault-none : (n : ℕ) → x ≡ Ok n → record { number = 0; row = length rows / row_width } ≡ fault_call rows
   unfolding fault_call stop_row
   fault-none n m = let o = (subst (FoundOk rows out) m ok).leads in rw o.accepted
 

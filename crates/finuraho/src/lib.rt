@@ -21,20 +21,18 @@ ghost use Rattle.finuraho.specs.Given.{writes, refused_with, runs, hardened_runs
 mod run;
 mod switched;
 
-use fault::Found;
 use rows::WIDTH;
 use rules::answer::{AnyOther, Fault, Measured, Ran, Swept, Wrote};
-use rules::limits::VARIABLES;
-use rules::number;
+use rules::limits::{FUNCTIONS, ROWS, VARIABLES};
 use rules::refusal::Refusal;
 
 // The number that the bytes get as a source table: 0 where hardening accepts them.
 pub fn check(rows: &[u8]) -> u8
     ensures { result ≡ check_call rows.now }
 {
-    let mut ends = table::check::row_words();
-    let mut elses = table::check::row_words();
-    let mut heads = table::check::function_words();
+    let mut ends = [0; ROWS];
+    let mut elses = [0; ROWS];
+    let mut heads = [0; FUNCTIONS];
     match table::check::check(rows, &mut ends, &mut elses, &mut heads) {
         Ok(()) => 0,
         Err(_) => {
@@ -49,11 +47,11 @@ pub fn fault(rows: &[u8]) -> Fault
     ensures { result ≡ fault_call rows.now }
 {
     match fault::find(rows, &mut []) {
-        Found::Faulty(r, row) => Fault {
-            number: number::of_refusal(r),
-            row,
+        Err(f) => Fault {
+            number: u8::from(f.cause),
+            row: f.row,
         },
-        Found::Chain(_) => Fault {
+        Ok(_) => Fault {
             number: 0,
             row: rows.len() / WIDTH,
         },
@@ -103,7 +101,7 @@ fn refused(r: Refusal) -> Wrote
     ensures { result ≡ refused_with r }
 {
     Wrote {
-        number: number::of_refusal(r),
+        number: u8::from(r),
         length: 0,
     }
 }
@@ -112,9 +110,9 @@ fn refused(r: Refusal) -> Wrote
 pub fn harden(rows: &[u8], out: &mut [u8]) -> Wrote
     ensures { HardenPromise rows.now out.old (writes result out.new) }
 {
-    let mut ends = table::check::row_words();
-    let mut elses = table::check::row_words();
-    let mut heads = table::check::function_words();
+    let mut ends = [0; ROWS];
+    let mut elses = [0; ROWS];
+    let mut heads = [0; FUNCTIONS];
     match table::check::check(rows, &mut ends, &mut elses, &mut heads) {
         Err(_) => switched::harden(rows, &mut ends, &mut elses, &mut heads, out),
         Ok(()) => hardener::harden_linked(rows, &ends, &elses, &heads, out),
@@ -128,7 +126,7 @@ pub fn check_hardened(lines: &[u8]) -> u8
     if reader::is_hardened(lines) {
         return 0;
     }
-    number::of_refusal(Refusal::NotHardened)
+    u8::from(Refusal::NotHardened)
 }
 
 // Copies an answer to the front of the output, where it fits there.
@@ -149,10 +147,10 @@ fn give(answer: &[u8], out: &mut [u8]) -> Wrote
 pub fn read_back(lines: &[u8], out: &mut [u8]) -> Wrote
     ensures { ReadBackPromise lines.now out.old (writes result out.new) }
 {
-    let mut rows = reader::row_bytes();
+    let mut rows = [0; reader::ROOM];
     match reader::read(lines, &mut rows) {
-        reader::Found::NotHardened => refused(Refusal::NotHardened),
-        reader::Found::Source(n) => give(&rows[..n], out),
+        None => refused(Refusal::NotHardened),
+        Some(n) => give(&rows[..n], out),
     }
 }
 
@@ -160,9 +158,9 @@ pub fn read_back(lines: &[u8], out: &mut [u8]) -> Wrote
 pub fn run_source(rows: &[u8], variables: [u16; VARIABLES], budget: u16, trace: &mut [u16]) -> Ran
     ensures { runs result trace.new ≡ run_source_call rows.now variables budget trace.old }
 {
-    let mut ends = table::check::row_words();
-    let mut elses = table::check::row_words();
-    let mut heads = table::check::function_words();
+    let mut ends = [0; ROWS];
+    let mut elses = [0; ROWS];
+    let mut heads = [0; FUNCTIONS];
     match table::check::check(rows, &mut ends, &mut elses, &mut heads) {
         Err(_) => switched::run_source(
             rows, &mut ends, &mut elses, &mut heads, variables, budget, trace,

@@ -10,7 +10,6 @@ ghost use Rattle.finuraho.specs.Given.{refused_run_with, runs, source_runs, hard
 
 use rules::answer::Ran;
 use rules::limits::{COUNTERS, FUNCTIONS, ROWS, VARIABLES};
-use rules::number;
 use rules::refusal::Refusal;
 use rules::strike::strike_by;
 
@@ -19,7 +18,7 @@ pub fn refused(r: Refusal, variables: [u16; VARIABLES]) -> Ran
     ensures { result ≡ refused_run_with r variables }
 {
     Ran {
-        number: number::of_refusal(r),
+        number: u8::from(r),
         outcome: 0,
         steps: 0,
         traced: 0,

@@ -4,7 +4,7 @@ ghost use Rattle.rules.specs.Calls.{harden_call, run_source_call};
 ghost use Rattle.finuraho.specs.Given.{writes, runs};
 
 use crate::{refused, run};
-use chain::{Linked, SIZE, link};
+use chain::{SIZE, link};
 use rules::answer::{Ran, Wrote};
 use rules::limits::{FUNCTIONS, ROWS, VARIABLES};
 
@@ -19,8 +19,8 @@ pub fn harden(
 {
     let mut chain = [0u8; SIZE];
     match link(rows, &mut chain, ends, elses, heads) {
-        Linked::Refused(r) => refused(r),
-        Linked::Bytes(n) => hardener::harden_linked(&chain[..n], ends, elses, heads, out),
+        Err(r) => refused(r),
+        Ok(n) => hardener::harden_linked(&chain[..n], ends, elses, heads, out),
     }
 }
 
@@ -37,8 +37,8 @@ pub fn run_source(
 {
     let mut chain = [0u8; SIZE];
     match link(rows, &mut chain, ends, elses, heads) {
-        Linked::Refused(r) => run::refused(r, variables),
-        Linked::Bytes(n) => run::source_run(
+        Err(r) => run::refused(r, variables),
+        Ok(n) => run::source_run(
             &chain[..n],
             ends,
             elses,

@@ -11,11 +11,11 @@ use Rattle.rules.specs.Bytes.{word_at}
 use Rattle.rules.specs.Row.{row_width, row_in, fields_fit_lem}
 use Rattle.rules.specs.Switch.{bare_row}
 use Rattle.scan.specs.declared.open.Standing.{Standing}
-use Rattle.scan.specs.declared.open.Next.{Next}
-use Rattle.scan.specs.declared.open.Next.TheVariants as next
+use Rattle.scan.specs.Next.{Next}
+use Rattle.scan.specs.Next as next
 use Rattle.rules.proofs.Logic.{not-true, not-false}
 use Rattle.given.specs.declared.plan.Plan.{Plan}
-use Rattle.given.specs.declared.row.After.TheVariants.{Faulty}
+use Rattle.given.specs.Reached.{Faulty}
 use Rattle.given.specs.declared.sort.Sort.TheVariants.{Wrong, Case}
 use Rattle.given.specs.declared.things.Things.{Things}
 use Rattle.given.specs.Sort.{own_sort, sort_of_lem, first_given}

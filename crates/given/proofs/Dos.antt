@@ -22,12 +22,12 @@ use Rattle.rows.specs.declared.row.Row as code
 use Rattle.rows.specs.Row.{six, read_row}
 use Rattle.rows.proofs.Rows.{rest_all}
 use Rattle.scan.specs.declared.open.Standing.{Standing}
-use Rattle.scan.specs.declared.open.Next.{Next}
-use Rattle.scan.specs.declared.open.Next.TheVariants as next
+use Rattle.scan.specs.Next.{Next}
+use Rattle.scan.specs.Next as next
 use Rattle.scan.specs.Standing.{Sane}
 use Rattle.scan.specs.Next.{NextOk, by_do, PlainOk}
 use Rattle.given.specs.declared.plan.Plan.{Plan}
-use Rattle.given.specs.declared.row.After.TheVariants.{Faulty, On}
+use Rattle.given.specs.Reached.{Faulty, On}
 use Rattle.given.specs.declared.sort.Sort.TheVariants.{Wrong, Plain}
 use Rattle.given.specs.declared.things.Things.{Things}
 use Rattle.given.specs.Sort.{own_sort, sort_of_lem, first_given}

@@ -29,7 +29,7 @@ use Rattle.rows.specs.Row.{six, test_row}
 use Rattle.rows.proofs.Rows.{rest_all}
 use Rattle.rows.proofs.Six.{read-bytes, test-bytes}
 use Rattle.scan.specs.declared.open.Standing.{Standing}
-use Rattle.given.specs.declared.row.After.TheVariants.{Faulty}
+use Rattle.given.specs.Reached.{Faulty}
 use Rattle.given.specs.declared.sort.Sort.{Sort}
 use Rattle.given.specs.declared.sort.Sort.TheVariants.{Wrong, Plain, Switch, Case, Default}
 use Rattle.given.specs.declared.things.Things.{Things}

@@ -13,8 +13,7 @@ use Rattle.rows.specs.declared.row.Row as code
 use Rattle.rows.specs.Row as rows
 use Rattle.rows.proofs.Six.{bare-bytes}
 use Rattle.scan.specs.declared.open.Standing.{Standing}
-use Rattle.scan.specs.declared.open.Next.{Next}
-use Rattle.scan.specs.declared.open.Next.TheVariants.{Faulty, On}
+use Rattle.scan.specs.Next.{Next, Faulty, On}
 use Rattle.scan.specs.Standing.{Sane}
 use Rattle.scan.specs.Next.{NextSane, NextOk}
 use Rattle.given.specs.declared.plan.Plan.{Plan}

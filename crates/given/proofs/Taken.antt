@@ -29,11 +29,11 @@ use Rattle.rows.specs.declared.row.Row as code
 use Rattle.rows.specs.Row.{six}
 use Rattle.rows.proofs.Rows.{rest_all, cut-row}
 use Rattle.scan.specs.declared.open.Standing.{Standing}
-use Rattle.scan.specs.declared.open.Next.{Next}
-use Rattle.scan.specs.declared.open.Next.TheVariants as next
+use Rattle.scan.specs.Next.{Next}
+use Rattle.scan.specs.Next as next
 use Rattle.scan.specs.Standing.{Stands}
 use Rattle.given.specs.declared.plan.Plan.{Plan}
-use Rattle.given.specs.declared.row.After.TheVariants.{Faulty, On}
+use Rattle.given.specs.Reached.{Faulty, On}
 use Rattle.given.specs.declared.sort.Sort.{Sort}
 use Rattle.given.specs.declared.things.Things.{Things}
 use Rattle.given.specs.Sort.{sort_of_lem, first_given}

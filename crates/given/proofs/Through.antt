@@ -21,8 +21,7 @@ use Rattle.rules.proofs.Encode.{table-bytes-length}
 use Rattle.rules.proofs.Accepted.{then-right}
 use Rattle.rules.proofs.Switch.Chain.{then-assoc, spans}
 use Rattle.scan.specs.declared.open.Standing.{Standing}
-use Rattle.scan.specs.declared.open.Next.{Next}
-use Rattle.scan.specs.declared.open.Next.TheVariants.{Faulty, On}
+use Rattle.scan.specs.Next.{Next, Faulty, On}
 use Rattle.scan.specs.Standing.{Stands, Sane}
 use Rattle.scan.specs.Next.{At, NextOk}
 use Rattle.given.specs.Through.{Written, stored, KindsAt, Through}

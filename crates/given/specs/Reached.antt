@@ -1,6 +1,7 @@
 -- Where a pass over the rows as given stands: what is open there and what the chain is so far, as numbers, bytes and words. Assumes
 -- nothing: these are definitions.
-use Rattle.std.specs.Prelude.{ℕ, suc, ◌+◌, ◌*◌, ◌≤◌, ◌<◌, ◌≡◌, cond, List, length, get_or, drop}
+use Rattle.std.specs.Prelude.{Result, Ok, Err, ℕ, suc, ◌+◌, ◌*◌, ◌≤◌, ◌<◌, ◌≡◌, cond, List, length, get_or, drop}
+use Rattle.rules.specs.declared.refusal.Refusal.{Refusal}
 use Rattle.rules.specs.Verdict.{Accepted, Refused}
 use Rattle.rules.specs.Bytes.{word_at}
 use Rattle.rules.specs.Limits.{max_rows, max_constructs}
@@ -13,8 +14,6 @@ use Rattle.rows.specs.Row.{read_row, test_row}
 use Rattle.scan.specs.declared.open.Standing.{Standing}
 use Rattle.scan.specs.Standing.{Stands, Sane}
 use Rattle.given.specs.declared.plan.Plan.{Plan}
-use Rattle.given.specs.declared.row.After.{After}
-use Rattle.given.specs.declared.row.After.TheVariants.{Faulty, On}
 use Rattle.given.specs.declared.sort.Sort.{Sort}
 use Rattle.given.specs.declared.things.Things.{Things}
 use Rattle.given.specs.Sort.{sort_of_lem, first_given, is_switch_lem, is_case_lem}
@@ -80,6 +79,16 @@ lengthened t i =
       chained = t.chained + 1;
       long = long_row_lem t.chained (t.chained + 1) t.long i;
     }
+
+-- after a row: why it is turned away, or what is open and what the chain is
+abbrev pub After : Type 0
+After = Result (Standing × Things) Refusal
+
+pattern abbrev pub Faulty : Refusal → After
+Faulty c = Err c
+
+pattern abbrev pub On : Standing → Things → After
+On s t = Ok (s, t)
 
 abbrev pub AfterRow : (bs : List ℕ) (i : ℕ) (ps marks vars words out : List ℕ) → After → Type 0
 AfterRow bs i ps ms vs us out (Faulty c) = given_row_verdict (given_of bs) (chain_of (given_of bs)) i ≡ Refused c

@@ -9,10 +9,8 @@ use Rattle.rules.specs.Row.{Row, Table, row_width, table_of, kind_at, row_bytes,
 use Rattle.rules.specs.Switch.{bare_row}
 use Rattle.rules.specs.Given.{span_verdict}
 use Rattle.scan.specs.declared.open.Standing.{Standing}
-use Rattle.scan.specs.declared.open.Next.{Next}
-use Rattle.scan.specs.declared.open.Next.TheVariants.{Faulty, On}
 use Rattle.scan.specs.Standing.{Stands, Sane}
-use Rattle.scan.specs.Next.{At, NextSane}
+use Rattle.scan.specs.Next.{Next, Faulty, On, At, NextSane}
 use Rattle.given.specs.declared.plan.Plan.{Plan}
 use Rattle.given.specs.Plan.{planned_rows}
 

@@ -35,38 +35,30 @@ fn stray_in(kind: Kind, fresh: bool) -> bool
     ensures { result ≡ stray_in_lem kind fresh }
 {
     match kind {
-        Kind::Function => fresh,
-        Kind::Do => fresh,
-        Kind::If => fresh,
         Kind::Else => true,
-        Kind::Loop => fresh,
         Kind::End => false,
-        Kind::Break => fresh,
-        Kind::Continue => fresh,
-        Kind::Call => fresh,
-        Kind::Unknown => fresh,
+        _ => fresh,
     }
 }
 
 fn plain_stray(kind: Kind, top: u8) -> bool
     ensures { result ≡ stray_by (Sort.Plain kind) top 0 }
 {
-    if top == 0 {
-        return false;
-    }
-    stray_in(kind, top == 1)
+    top != 0 && stray_in(kind, top == 1)
 }
 
 fn switch_stray(top: u8, count: usize) -> bool
     ensures { result ≡ stray_by Sort.Switch top count }
 {
-    if count == 0 {
-        return true;
-    }
-    top == 1
+    count == 0 || top == 1
 }
 
-pub fn case_cause(number: u16, top: u8, cases: usize, used: &[u16; CONSTRUCTS + 1]) -> Result<(), Refusal>
+pub fn case_cause(
+    number: u16,
+    top: u8,
+    cases: usize,
+    used: &[u16; CONSTRUCTS + 1],
+) -> Result<(), Refusal>
     requires { (cases ≤ max_constructs) × (marked_cases top ≤ cases) }
     ensures { result ≡ cause_of Sort.Case number top 0 cases used.now }
 {

@@ -23,39 +23,10 @@ pub struct Plan {
     pub cases: usize,
 }
 
-fn below(n: usize) -> usize
-    ensures { result ≡ n - 1 }
-{
-    if n == 0 {
-        return 0;
-    }
-    n - 1
-}
-
-fn without(n: usize, less: usize) -> usize
-    ensures { result ≡ n - less }
-{
-    if n < less {
-        return 0;
-    }
-    n - less
-}
-
 fn opens(kind: Kind) -> bool
     ensures { result ≡ is_opening kind }
 {
-    match kind {
-        Kind::Function => true,
-        Kind::Do => false,
-        Kind::If => true,
-        Kind::Else => false,
-        Kind::Loop => true,
-        Kind::End => false,
-        Kind::Break => false,
-        Kind::Continue => false,
-        Kind::Call => false,
-        Kind::Unknown => false,
-    }
+    matches!(kind, Kind::Function | Kind::If | Kind::Loop)
 }
 
 // A part of a switch begins with an else where a case stands before it.
@@ -71,18 +42,7 @@ fn elses_by(top: u8) -> usize
 fn is_end(kind: Kind) -> bool
     ensures { result ≡ is_end_lem kind }
 {
-    match kind {
-        Kind::Function => false,
-        Kind::Do => false,
-        Kind::If => false,
-        Kind::Else => false,
-        Kind::Loop => false,
-        Kind::End => true,
-        Kind::Break => false,
-        Kind::Continue => false,
-        Kind::Call => false,
-        Kind::Unknown => false,
-    }
+    matches!(kind, Kind::End)
 }
 
 // The open things after a row of 01 that is no end of a switch.
@@ -94,7 +54,7 @@ fn count_after(kind: Kind, count: usize) -> usize
         return count + 1;
     }
     if is_end(kind) {
-        return below(count);
+        return count.saturating_sub(1);
     }
     count
 }
@@ -102,10 +62,7 @@ fn count_after(kind: Kind, count: usize) -> usize
 fn closes_switch(kind: Kind, top: u8) -> bool
     ensures { result ≡ closes_switch_lem kind top }
 {
-    if top == 0 {
-        return false;
-    }
-    is_end(kind)
+    top != 0 && is_end(kind)
 }
 
 // The row closes a switch with so many cases, and stands for an end for each.
@@ -119,8 +76,8 @@ fn closing(ends: usize, count: usize, cases: usize) -> Plan
         kind: Kind::End,
         slot: count,
         mark: 0,
-        count: below(count),
-        cases: without(cases, ends),
+        count: count.saturating_sub(1),
+        cases: cases.saturating_sub(ends),
     }
 }
 
@@ -167,7 +124,7 @@ pub fn plan_of(sort: Sort, top: u8, count: usize, cases: usize) -> Plan
             own: 1,
             ends: 0,
             kind: Kind::If,
-            slot: below(count),
+            slot: count.saturating_sub(1),
             mark: top + 2,
             count,
             cases: cases + 1,
@@ -177,7 +134,7 @@ pub fn plan_of(sort: Sort, top: u8, count: usize, cases: usize) -> Plan
             own: 0,
             ends: 0,
             kind: Kind::End,
-            slot: below(count),
+            slot: count.saturating_sub(1),
             mark: top + 1,
             count,
             cases,

@@ -18,13 +18,10 @@ use rules::bytes::word;
 use rules::kind::Kind;
 use rules::limits::{CONSTRUCTS, ROWS};
 use rules::refusal::Refusal;
-use scan::open::{Next, Standing, plain};
+use scan::open::{Standing, plain};
 
-#[derive(Drop)]
-pub enum After {
-    Faulty(Refusal),
-    On(Standing, Things),
-}
+// What is open after a row, and what the chain is. A pair, and no struct of its own: the definitions take it apart as they match.
+pub type Open = (Standing, Things);
 
 // The variable of the switch that the row opens, or of the innermost thing.
 fn variable(sort: Sort, p: u8, vars: &[u8; ROWS], count: usize) -> u8
@@ -61,20 +58,6 @@ fn things_after(t: Things, p: Plan, at: usize) -> Things
     }
 }
 
-fn keep_byte(bytes: &mut [u8; ROWS], slot: usize, x: u8)
-    requires { slot < max_rows }
-    ensures { bytes.new ≡ set bytes.old slot x }
-{
-    bytes[slot] = x;
-}
-
-fn keep_number(used: &mut [u16; CONSTRUCTS + 1], slot: usize, x: u16)
-    requires { slot ≤ max_constructs }
-    ensures { used.new ≡ set used.old slot x }
-{
-    used[slot] = x;
-}
-
 // A row that meets none of 3, 4 and 11: the rows that it stands for, and what is open after it.
 fn take(
     rows: &[u8],
@@ -89,7 +72,7 @@ fn take(
     vars: &mut [u8; ROWS],
     used: &mut [u16; CONSTRUCTS + 1],
     chain: &mut [u8],
-) -> After
+) -> Result<Open, Refusal>
     requires here { Here rows.now at }
     requires reached { Reached rows.now at s parts.old t marks.old vars.old used.old chain.old }
     requires sound { Sound rows.now at t marks.old used.old sort top number }
@@ -99,15 +82,11 @@ fn take(
     let var = variable(sort, rows[from + 2], vars, t.count);
     let p = plan_of(sort, top, t.count, t.cases);
     let row = own_row(sort, var, &rows[from..]);
-    match spans(p, row, s, parts, t.chained, chain) {
-        Next::Faulty(r) => After::Faulty(r),
-        Next::On(n) => {
-            keep_byte(marks, p.slot, p.mark);
-            keep_byte(vars, p.slot, var);
-            keep_number(used, t.cases, number);
-            After::On(n, things_after(t, p, at))
-        }
-    }
+    let parts_after = spans(p, row, s, parts, t.chained, chain)?;
+    marks[p.slot] = p.mark;
+    vars[p.slot] = var;
+    used[t.cases] = number;
+    Ok((parts_after, things_after(t, p, at)))
 }
 
 // A row that is no do and no case.
@@ -121,7 +100,7 @@ fn other_row(
     vars: &mut [u8; ROWS],
     used: &mut [u16; CONSTRUCTS + 1],
     chain: &mut [u8],
-) -> After
+) -> Result<Open, Refusal>
     requires here { Here rows.now at }
     requires reached { Reached rows.now at s parts.old t marks.old vars.old used.old chain.old }
     ensures { RowOk rows.now at parts.new marks.new vars.new used.new chain.new result }
@@ -130,12 +109,10 @@ fn other_row(
     let sort = sort_of(&rows[from..]);
     let top = innermost(marks, t.count);
     let number = word(rows, from + 4);
-    match cause(sort, number, top, t.count, t.cases, used) {
-        Err(r) => After::Faulty(r),
-        Ok(()) => take(
-            rows, at, sort, top, number, s, t, parts, marks, vars, used, chain,
-        ),
-    }
+    cause(sort, number, top, t.count, t.cases, used)?;
+    take(
+        rows, at, sort, top, number, s, t, parts, marks, vars, used, chain,
+    )
 }
 
 // Another row of the chain, by row `at`; nothing opens or closes.
@@ -145,10 +122,9 @@ fn one_more(t: Things, at: usize) -> Things
 {
     let chained = t.chained + 1;
     Things {
-        count: t.count,
-        cases: t.cases,
         chained,
         long: long_row(t.chained, chained, t.long, at),
+        ..t
     }
 }
 
@@ -163,7 +139,7 @@ fn do_row(
     vars: &[u8; ROWS],
     used: &[u16; CONSTRUCTS + 1],
     chain: &mut [u8],
-) -> After
+) -> Result<Open, Refusal>
     requires here { Here rows.now at }
     requires reached { Reached rows.now at s parts.now t marks.now vars.now used.now chain.old }
     requires at_value { get_or rows.now (row_width * at) 0 ≡ 0x02 }
@@ -171,18 +147,14 @@ fn do_row(
 {
     let from = WIDTH * at;
     if !fits(Kind::Do, &rows[from..]) {
-        return After::Faulty(Refusal::WrongField);
+        return Err(Refusal::WrongField);
     }
     if innermost(marks, t.count) == 1 {
-        return After::Faulty(Refusal::Misplaced);
+        return Err(Refusal::Misplaced);
     }
-    match plain(s) {
-        Next::Faulty(r) => After::Faulty(r),
-        Next::On(n) => {
-            store(Row::read(&rows[from..]), t.chained, chain);
-            After::On(n, one_more(t, at))
-        }
-    }
+    let parts_after = plain(s)?;
+    store(Row::read(&rows[from..]), t.chained, chain);
+    Ok((parts_after, one_more(t, at)))
 }
 
 // A case that meets none of 3, 4 and 11, as `take` does.
@@ -198,7 +170,7 @@ fn take_case(
     vars: &mut [u8; ROWS],
     used: &mut [u16; CONSTRUCTS + 1],
     chain: &mut [u8],
-) -> After
+) -> Result<Open, Refusal>
     requires here { Here rows.now at }
     requires reached { Reached rows.now at s parts.old t marks.old vars.old used.old chain.old }
     requires sound { Sound rows.now at t marks.old used.old Sort.Case top number }
@@ -208,15 +180,11 @@ fn take_case(
     let var = innermost(vars, t.count);
     let p = plan_of(Sort::Case, top, t.count, t.cases);
     let row = own_row(Sort::Case, var, &rows[from..]);
-    match case_spans(p, row, s, parts, t.chained, chain) {
-        Next::Faulty(r) => After::Faulty(r),
-        Next::On(n) => {
-            keep_byte(marks, p.slot, p.mark);
-            keep_byte(vars, p.slot, var);
-            keep_number(used, t.cases, number);
-            After::On(n, things_after(t, p, at))
-        }
-    }
+    let parts_after = case_spans(p, row, s, parts, t.chained, chain)?;
+    marks[p.slot] = p.mark;
+    vars[p.slot] = var;
+    used[t.cases] = number;
+    Ok((parts_after, things_after(t, p, at)))
 }
 
 // Row `at`, a case.
@@ -230,7 +198,7 @@ fn case_row(
     vars: &mut [u8; ROWS],
     used: &mut [u16; CONSTRUCTS + 1],
     chain: &mut [u8],
-) -> After
+) -> Result<Open, Refusal>
     requires here { Here rows.now at }
     requires reached { Reached rows.now at s parts.old t marks.old vars.old used.old chain.old }
     requires at_value { get_or rows.now (row_width * at) 0 ≡ 0x0b }
@@ -238,16 +206,12 @@ fn case_row(
 {
     let from = WIDTH * at;
     if !fits(Kind::Call, &rows[from..]) {
-        return After::Faulty(Refusal::WrongField);
+        return Err(Refusal::WrongField);
     }
     let top = innermost(marks, t.count);
     let number = word(rows, from + 4);
-    match case_cause(number, top, t.cases, used) {
-        Err(r) => After::Faulty(r),
-        Ok(()) => take_case(
-            rows, at, top, number, s, t, parts, marks, vars, used, chain,
-        ),
-    }
+    case_cause(number, top, t.cases, used)?;
+    take_case(rows, at, top, number, s, t, parts, marks, vars, used, chain)
 }
 
 // Row `at`.
@@ -261,7 +225,7 @@ pub fn row(
     vars: &mut [u8; ROWS],
     used: &mut [u16; CONSTRUCTS + 1],
     chain: &mut [u8],
-) -> After
+) -> Result<Open, Refusal>
     requires here { Here rows.now at }
     requires reached { Reached rows.now at s parts.old t marks.old vars.old used.old chain.old }
     ensures { RowOk rows.now at parts.new marks.new vars.new used.new chain.new result }

@@ -54,23 +54,11 @@ pub fn sort_of(rows: &[u8]) -> Sort
 pub fn is_switch(sort: Sort) -> bool
     ensures { result ≡ is_switch_lem sort }
 {
-    match sort {
-        Sort::Wrong => false,
-        Sort::Plain(_) => false,
-        Sort::Switch => true,
-        Sort::Case => false,
-        Sort::Default => false,
-    }
+    matches!(sort, Sort::Switch)
 }
 
 pub fn is_case(sort: Sort) -> bool
     ensures { result ≡ is_case_lem sort }
 {
-    match sort {
-        Sort::Wrong => false,
-        Sort::Plain(_) => false,
-        Sort::Switch => false,
-        Sort::Case => true,
-        Sort::Default => false,
-    }
+    matches!(sort, Sort::Case)
 }

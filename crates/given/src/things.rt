@@ -7,7 +7,7 @@ use rules::limits::{CONSTRUCTS, ROWS};
 
 // A mark for each open thing, the outermost first: 0 for a function, an if or a loop; for a switch twice its cases and 1, in its default
 // 1 more. Beside it a switch's variable; and the numbers of the cases of all open switches, the outermost first, in one array.
-#[derive(Drop)]
+#[derive(Clone, Copy)]
 pub struct Things {
     // The open things, and the cases of all open switches.
     pub count: usize,

@@ -25,6 +25,7 @@ fn harden(rt: &(impl Input + Print)) {
     let mut rows = io::large_buffer();
     let mut lines = io::large_buffer();
     let mut listing = io::large_buffer();
-    let n = input::take_rows(rt, &mut chunk, &mut rows);
-    output::answer(rt, n, &rows, &mut lines, &mut listing);
+    if let Some(n) = input::take_rows(rt, &mut chunk, &mut rows) {
+        output::answer(rt, &rows[..n], &mut lines, &mut listing);
+    }
 }

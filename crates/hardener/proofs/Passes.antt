@@ -20,11 +20,9 @@ use Rattle.rules.proofs.Accepted.{table-length}
 use Rattle.rules.proofs.Harden.{line-mono, line-suc}
 use Rattle.rules.proofs.Encode.{same_refl, same-is}
 use Rattle.rules.proofs.ValueBound.{two_lines}
-use Rattle.hardener.specs.declared.pass.Passed.{Passed}
-use Rattle.hardener.specs.declared.pass.Passed.TheVariants.{No, Bytes}
 use Rattle.emit.specs.Emit.{rows_bytes, Room}
 use Rattle.hardener.specs.Answer.{written}
-use Rattle.hardener.specs.Pass.{answered, PassedIs, fitting, Fit, Batch, agreed, Stretch, MadeIs}
+use Rattle.hardener.specs.Pass.{Passed, No, Bytes, answered, PassedIs, fitting, Fit, Batch, agreed, Stretch, MadeIs}
 use Rattle.emit.proofs.Emits.{bytes-length, bytes-split, rows-length, answer-length}
 use Rattle.hardener.proofs.Answers.{short-answer, whole-answer}
 use Rattle.hardener.proofs.Compares.{not_same}

@@ -1,5 +1,5 @@
 -- One pass over a table for two uses: `true` where its lines are compared with given bytes, `false` where they are kept.
-use Rattle.std.specs.Prelude.{ℕ, ◌+◌, ◌*◌, ◌-◌, ◌/◌, ◌≤◌, ◌<◌, ◌≡◌, Bool, true, false, List, eqb, leb, length, take, drop}
+use Rattle.std.specs.Prelude.{ℕ, ◌+◌, ◌*◌, ◌-◌, ◌/◌, ◌≤◌, ◌<◌, ◌≡◌, Bool, true, false, List, Option, Some, None, eqb, leb, length, take, drop}
 use Rattle.rules.specs.declared.answer.Wrote.{Wrote}
 use Rattle.rules.specs.declared.refusal.Refusal.TheVariants.{ShortOutput}
 use Rattle.rules.specs.Bytes.{same}
@@ -8,10 +8,18 @@ use Rattle.rules.specs.Refusal.{refusal_number}
 use Rattle.rules.specs.Line.{line_width}
 use Rattle.rules.specs.Harden.{line_of, hardened_bytes}
 use Rattle.rules.specs.Calls.{over, short_output, writing}
-use Rattle.hardener.specs.declared.pass.Passed.{Passed}
-use Rattle.hardener.specs.declared.pass.Passed.TheVariants.{No, Bytes}
 use Rattle.emit.specs.Emit.{rows_bytes}
 use Rattle.hardener.specs.Answer.{written}
+
+-- the output is too short, or the given bytes are others; or so many bytes of lines
+abbrev pub Passed : Type 0
+Passed = Option ℕ
+
+pattern abbrev pub No : Passed
+No = None
+
+pattern abbrev pub Bytes : ℕ → Passed
+Bytes n = Some n
 
 -- each case: whether the lines are the given ones; what hardening answers (01, "What turns a call away")
 abbrev pub are_these : Passed → Bool

@@ -11,10 +11,8 @@ ghost use Rattle.rules.specs.Links.{Links};
 ghost use Rattle.rules.specs.Calls.{short_output, writing};
 ghost use Rattle.hardener.specs.Answer.{written};
 
-use crate::pass::Passed;
 use rules::answer::Wrote;
 use rules::limits::{FUNCTIONS, ROWS};
-use rules::number;
 use rules::refusal::Refusal;
 
 pub mod compare;
@@ -33,11 +31,11 @@ pub fn harden_linked(
     ensures { written result out.new ≡ writing (short_output (hardened_bytes rows.now) out.old) (hardened_bytes rows.now) out.old }
 {
     match pass::pass(rows, ends, elses, heads, false, &[], out) {
-        Passed::No => Wrote {
-            number: number::of_refusal(Refusal::ShortOutput),
+        None => Wrote {
+            number: u8::from(Refusal::ShortOutput),
             length: 0,
         },
-        Passed::Bytes(length) => Wrote { number: 0, length },
+        Some(length) => Wrote { number: 0, length },
     }
 }
 
@@ -54,8 +52,5 @@ pub fn hardens_to_lines(
     ensures { result ≡ same (hardened_bytes rows.now) lines.now }
 {
     let mut scratch = [0u8; 1280];
-    match pass::pass(rows, ends, elses, heads, true, lines, &mut scratch) {
-        Passed::No => false,
-        Passed::Bytes(_) => true,
-    }
+    pass::pass(rows, ends, elses, heads, true, lines, &mut scratch).is_some()
 }

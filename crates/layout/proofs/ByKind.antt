@@ -13,6 +13,7 @@ use Rattle.rules.specs.Check.{is_outside, misplaced_in}
 use Rattle.rules.proofs.Logic.{clash}
 use Rattle.rules.proofs.Accepted.{proper, table-length}
 use Rattle.rules.proofs.Function.{placed-in}
+use Rattle.layout.specs.declared.scope.Scope.{Scope}
 use Rattle.layout.specs.Scope.{Surveyed}
 use Rattle.layout.specs.Spot.{Inside, InLoop}
 
@@ -24,7 +25,7 @@ unfolding misplaced_in
 then-open [] e = clash refl e
 then-open (f ∷ fs) e = refl
 
-module _ {bs m : List ℕ} {i : ℕ} {k : Kind} (s : Surveyed bs m) (l : i < length bs / 6) (p : k ≡ kind_at (table_of bs) i) where
+module _ {bs : List ℕ} {m : List Scope} {i : ℕ} {k : Kind} (s : Surveyed bs m) (l : i < length bs / 6) (p : k ≡ kind_at (table_of bs) i) where
   placed : {j : Kind} → k ≡ j → misplaced_in j (open_at (table_of bs) i) ≡ false
   placed q = placed-in (table_of bs) (proper bs s.accepted) i (omega (arith, table-length bs)) (sym p ∙ q) refl
 

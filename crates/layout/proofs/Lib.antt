@@ -7,4 +7,4 @@ pub mod Around
 pub mod Parts
 pub mod Spots
 pub mod ByKind
-pub mod Linked
+pub mod Links

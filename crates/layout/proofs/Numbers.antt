@@ -2,12 +2,13 @@
 use mathlib.Core.Logic.{◌≢◌, ◌⊎◌, inl, inr}
 use mathlib.Core.Path.{◌≡◌, refl, sym, ap, ◌∙◌, subst}
 use mathlib.Core.Bool.{Bool, true, false}
-use mathlib.Core.List.{List, [], ◌∷◌}
+use mathlib.Core.List.{List, [], ◌∷◌, ◌++◌}
 use Prim.Native.Nat.{ℕ, zero, suc, ◌+◌, ◌/◌, ◌≤◌, ◌<◌}
 use native.Mathlib.Numerals.{add-one}
 use native.Mathlib.Nat.{le_refl, add-zero, not-suc-le-zero, eq-or-lt_of_le}
 use native.Mathlib.Omega.{arith}
-use lib.ListN.{length, get_or, set, length-set, replicate, length-replicate}
+use lib.ListN.{length, get_or, set, take, drop, length-set, length-append, get_or-append, replicate, length-replicate}
+use Rattle.std.proofs.lemmas.List.{get_or-take, length-take-le, length-drop}
 use lib.Seq.{get_or-set_same, get_or-set_other}
 use lib.Dec.{eqb}
 use borrow.Author.Tests.{eqb-true, eqb-false}
@@ -180,19 +181,32 @@ sum-all {words₀} {words} {count} {total} {g} p h = let x : g ≡ count = omega
 pub ruleset summings = (sum-start, sum_more, sum-all)
 
 -- ---- the bases
+-- only the words before word g count
+sums-take : (l : List ℕ) (n g : ℕ) → g ≤ n → sums (take n l) g ≡ sums l g
+unfolding sums
+sums-take l n zero h = refl
+sums-take l n (suc g) h = omega (arith, sums-take l n g (omega arith), get_or-take n l g 0 h)
+
 sums_are : {bs spent : List ℕ} → Spent bs spent (length bs / 6) → (g : ℕ) → sums spent g ≡ base (table_of bs) g
 sums_are {bs} {spent} p g = running-sum (table_of bs) spent g (λ h l. ap suc (p.each h ∙ ap (taken (table_of bs) h) (sym (table-length bs))))
 
 pub sums-fit : {bs spent : List ℕ} {count : ℕ} {end : Scope} → Stands bs (length bs / 6) end → Spent bs spent (length bs / 6) → count ≡ end.opened
-    → (g : ℕ) → g ≤ count + 1 → sums spent g < 65536
-sums-fit {bs} s p q g h = omega (arith, sums_are p g, base-bound (table_of bs) g, table-length bs, s.opened_low, s.few_rows)
+    → (g : ℕ) → g ≤ length (take (count + 1) spent) → sums (take (count + 1) spent) g < 65536
+sums-fit {bs} {spent} {count} s p q g h =
+    let l : g ≤ count + 1 = omega (arith, length-take-le (count + 1) spent (omega (arith, s.opened_low, s.few_rows, p.room))) in
+    omega (arith, sums-take spent (count + 1) g l, sums_are p g, base-bound (table_of bs) g, table-length bs, s.opened_low, s.few_rows)
 
 pub bases-all : {bs spent bases : List ℕ} {count : ℕ} {end : Scope} → Stands bs (length bs / 6) end → Spent bs spent (length bs / 6) → count ≡ end.opened
-    → Summed spent bases (count + 1) → length bases ≡ length spent → Based bs bases
+    → Summed (take (count + 1) spent) bases (length (take (count + 1) spent)) → length bases ≡ length (take (count + 1) spent)
+    → Based bs (bases ++ drop (count + 1) spent)
 unfolding scope_of
-bases-all {bs} {end = end} s p q u l =
+bases-all {bs} {spent} {bases} {count} {end} s p q u l =
     let o : end.opened ≡ regions (table_of bs) (length bs / 6) = ap (λ x. x.opened) s.is in
-    record { room = omega (arith, p.room); each = λ g h. u.each g (omega arith) ∙ sums_are p g }
+    let n : length (take (count + 1) spent) ≡ count + 1 = length-take-le (count + 1) spent (omega (arith, s.opened_low, s.few_rows, p.room)) in
+    record {
+      room = omega (arith, p.room, length-append bases (drop (count + 1) spent), length-drop (count + 1) spent);
+      each = λ g h. get_or-append bases (drop (count + 1) spent) 0 g (omega arith) ∙ u.each g (omega arith) ∙ sums-take spent (count + 1) g (omega arith) ∙ sums_are p g;
+    }
 
 -- ---- the values
 region-in : (bs : List ℕ) (i : ℕ) → i ≤ length bs / 6 → region_of (open_at (table_of bs) i) ≤ regions (table_of bs) (length bs / 6)
@@ -227,7 +241,7 @@ pub record Valuing (bs values₀ values : List ℕ) (i : ℕ) : Type 0 where
   pub is : (k : ℕ) → k < i → get_or values k 0 ≡ value_of (table_of bs) k
   pub rest : (k : ℕ) → i ≤ k → k < length bs / 6 → get_or values k 0 ≡ took_before (table_of bs) k
 
-pub value-start : {bs m values : List ℕ} → Surveyed bs m → Took bs values (length bs / 6) → Valuing bs values values 0
+pub value-start : {bs : List ℕ} {m : List Scope} {values : List ℕ} → Surveyed bs m → Took bs values (length bs / 6) → Valuing bs values values 0
 value-start {bs} s t =
     record { le = omega arith; few_rows = s.few_rows; same = refl; is = λ k h. absurd (not-suc-le-zero h); rest = λ k h l. t.each k l }
 

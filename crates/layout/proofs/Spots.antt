@@ -38,7 +38,7 @@ in_table : {bs : List ℕ} {i : ℕ} → Inside bs i → i < length (table_of bs
 in_table {bs} o = omega (arith, table-length bs, o.row)
 
 -- the regions of the function that row i stands in: its own, and those that it opens
-own-near : {bs m : List ℕ} {i : ℕ} → Surveyed bs m → Inside bs i → Near (region_of (open_at (table_of bs) i)) (body_region (open_at (table_of bs) i))
+own-near : {bs : List ℕ} {m : List Scope} {i : ℕ} → Surveyed bs m → Inside bs i → Near (region_of (open_at (table_of bs) i)) (body_region (open_at (table_of bs) i))
 own-near {bs} {m} {i} s o = let z = some-open (open_at (table_of bs) i) o.within in by z.0 z.1 z.2
   where
     by : (f : Open) (fs : List Open) → open_at (table_of bs) i ≡ f ∷ fs → Near (region_of (open_at (table_of bs) i)) (body_region (open_at (table_of bs) i))
@@ -50,7 +50,7 @@ own-near {bs} {m} {i} s o = let z = some-open (open_at (table_of bs) i) o.within
           high = omega (arith, own-bound (table_of bs) (proper bs s.accepted) i (omega (arith, in_table o)) q, body-least (regions (table_of bs) i) f fs k);
         })
 
-pub grows : {bs m : List ℕ} {i : ℕ} {k : Kind} {p : Part} → Surveyed bs m → Inside bs i → kind_at (table_of bs) i ≡ k → shape_of k ≡ pushes p → Grows bs i
+pub grows : {bs : List ℕ} {m : List Scope} {i : ℕ} {k : Kind} {p : Part} → Surveyed bs m → Inside bs i → kind_at (table_of bs) i ≡ k → shape_of k ≡ pushes p → Grows bs i
 grows {bs} {m} {i} {k} {p} s o e h = let z = some-open (open_at (table_of bs) i) o.within in by z.0 z.1 z.2
   where
     by : (f : Open) (fs : List Open) → open_at (table_of bs) i ≡ f ∷ fs → Grows bs i
@@ -67,7 +67,7 @@ module _ {bs : List ℕ} {i : ℕ} {here : Scope} (s : Stands bs i here) where
   unfolding scope_of
   opened_in = omega (arith, ap (λ x. x.opened) s.is, regions-mono (table_of bs) {i = i} (length bs / 6) s.row)
 
-  pub spot-near : {m : List ℕ} → Surveyed bs m → Inside bs i → Near here.region here.body
+  pub spot-near : {m : List Scope} → Surveyed bs m → Inside bs i → Near here.region here.body
   unfolding scope_of
   spot-near v o = rw s.is (own-near v o)
 
@@ -112,7 +112,7 @@ module _ {bs : List ℕ} {i : ℕ} {here : Scope} (s : Stands bs i here) where
         before = omega (arith, r.0);
       }
 
-  pub loop_is : {m : List ℕ} {o : ℕ} → Surveyed bs m → InLoop bs i → o ≡ here.repeat → LoopIs bs i o
+  pub loop_is : {m : List Scope} {o : ℕ} → Surveyed bs m → InLoop bs i → o ≡ here.repeat → LoopIs bs i o
   unfolding scope_of
   loop_is {m} {o} v n q =
       let z : o ≡ opener_of (from_loop (open_at (table_of bs) i)) = q ∙ ap (λ x. x.repeat) s.is in
@@ -135,7 +135,7 @@ module _ {bs : List ℕ} {i : ℕ} {here : Scope} (s : Stands bs i here) where
 pub next_is : (bs : List ℕ) (i : ℕ) {l : ℕ} → l ≡ line_of (table_of bs) (i + 1) → l ≡ line_of (table_of bs) (suc i)
 next_is bs i q = q ∙ ap (line_of (table_of bs)) (add-one i)
 
-pub past-in : {bs m ends : List ℕ} {i r : ℕ} → Surveyed bs m → Ends bs ends → Opens bs i → r ≡ get_or ends i 0 → r < length bs / 6
+pub past-in : {bs : List ℕ} {m : List Scope} {ends : List ℕ} {i r : ℕ} → Surveyed bs m → Ends bs ends → Opens bs i → r ≡ get_or ends i 0 → r < length bs / 6
 past-in {bs} {i = i} s e o q =
     let p = opening-pushes (kind_at (table_of bs) i) o.opening in
     let l : i < length (table_of bs) = omega (arith, table-length bs, o.row) in
@@ -151,7 +151,7 @@ loop-kind k a j b p q e = e ∙ ap is_loop_lem (sym q ∙ p)
 pub ruleset access = (spot-near, spot_is, base_is, child_near, child_is, line_is, in_body_is, opener_is, loop_is, next_is, past-in, past_is)
 
 -- ---- callees
-module _ {bs m heads : List ℕ} {i x : ℕ} {o : Operands} (s : Surveyed bs m) (h : Heads bs heads) (l : i < length bs / 6) (e : kind_at (table_of bs) i ≡ Call)
+module _ {bs : List ℕ} {m : List Scope} {heads : List ℕ} {i x : ℕ} {o : Operands} (s : Surveyed bs m) (h : Heads bs heads) (l : i < length bs / 6) (e : kind_at (table_of bs) i ≡ Call)
     (q : o ≡ operands_at (table_of bs) i) (w : x ≡ o.n) where
   known : (operands_at (table_of bs) i).n < function_count (table_of bs)
   known = callee_known (table_of bs) (proper bs s.accepted) i (omega (arith, table-length bs)) e
@@ -177,13 +177,13 @@ pub ruleset callees = (head_in, callee-is)
 end_row : {bs ends : List ℕ} {i x : ℕ} → Ends bs ends → Opens bs i → x ≡ get_or ends i 0 → x ≡ end_of (table_of bs) i
 end_row {bs} {ends} {i} e o q = q ∙ e.each i (omega (arith, table-length bs, o.row)) o.opening
 
-pub end-inside : {bs m ends : List ℕ} {i x : ℕ} → Surveyed bs m → Ends bs ends → Head bs i → x ≡ get_or ends i 0 → Inside bs x
+pub end-inside : {bs : List ℕ} {m : List Scope} {ends : List ℕ} {i x : ℕ} → Surveyed bs m → Ends bs ends → Head bs i → x ≡ get_or ends i 0 → Inside bs x
 end-inside {bs} {m} {ends} {i} {x} s e h q =
     let z : x ≡ end_of (table_of bs) (function_row (table_of bs) h.number) = end_row e h.it.opens q ∙ ap (end_of (table_of bs)) h.it.is in
     let a = function-end (table_of bs) (proper bs s.accepted) h.number h.it.known in
     record { row = omega (arith, a.1.within, table-length bs); within = ap (λ y. is_outside (open_at (table_of bs) y)) z ∙ ap is_outside a.1.open_is }
 
-pub end-is-value : {bs m ends : List ℕ} {i x : ℕ} {u : Spot} → Surveyed bs m → Ends bs ends → Head bs i → x ≡ get_or ends i 0 → SpotIs bs x u
+pub end-is-value : {bs : List ℕ} {m : List Scope} {ends : List ℕ} {i x : ℕ} {u : Spot} → Surveyed bs m → Ends bs ends → Head bs i → x ≡ get_or ends i 0 → SpotIs bs x u
     → u.e + 1 ≡ end_of_body (table_of bs) i
 unfolding end_of_body value_of
 end-is-value {bs} {m} {ends} {i} {x} s e h q p =

@@ -1,6 +1,7 @@
 -- The scope of the row after row i, by row i's kind, and the survey's loop. Assumes nothing.
 use mathlib.Core.Path.{◌≡◌, refl, sym, ap, ◌∙◌, subst}
 use mathlib.Core.Bool.{true, false}
+use mathlib.Core.Logic.{◌⊎◌, inl, inr}
 use mathlib.Core.List.{List, [], ◌∷◌}
 use Prim.Native.Nat.{ℕ, suc, ◌+◌, ◌/◌, ◌≤◌, ◌<◌}
 use native.Mathlib.Numerals.{add-one}
@@ -89,7 +90,7 @@ module _ {bs : List ℕ} {i : ℕ} {here : Scope} {k : Kind} (s : Stands bs i he
       ∙ rw (s.is, add-one (regions (table_of bs) i))
       (sym (next-scope (table_of bs) i Else (kind_is q) ∙ turned-scope (table_of bs) i (regions (table_of bs) i) (line_of (table_of bs) i + 1) (open_at (table_of bs) i) (formed (table_of bs) ok i (omega (arith, within))) (not-misplaced q)))
 
-  pub end-next : {m : List ℕ} {x : ℕ} {o r : Scope} → Mapped bs m (suc i) → k ≡ End → x ≡ here.opener → o ≡ scope_at m x → r ≡ closed here o
+  pub end-next : {m : List Scope} {x : ℕ} {o r : Scope} → Mapped bs m (suc i) → k ≡ End → x ≡ here.opener → o ≡ scope_at m x → r ≡ closed here o
       → r ≡ scope_of (table_of bs) (suc i)
   unfolding scope_of misplaced_in
   end-next {m} {x} {o} {r} a q y v w = let z = some-open (open_at (table_of bs) i) (not-misplaced q) in by z.0 z.1 z.2
@@ -106,34 +107,30 @@ module _ {bs : List ℕ} {i : ℕ} {here : Scope} {k : Kind} (s : Stands bs i he
   unfolding scope_of
   stay j q z w = w ∙ rw s.is (sym (next-scope (table_of bs) i j (kind_is q) ∙ rw z))
 
-  pub do-next : {r : Scope} → k ≡ Do → r ≡ passed here 2 → r ≡ scope_of (table_of bs) (suc i)
-  do-next q w = stay Do q refl w
-
-  pub break-next : {r : Scope} → k ≡ Break → r ≡ passed here 1 → r ≡ scope_of (table_of bs) (suc i)
-  break-next q w = stay Break q refl w
-
-  pub continue-next : {r : Scope} → k ≡ Continue → r ≡ passed here 1 → r ≡ scope_of (table_of bs) (suc i)
-  continue-next q w = stay Continue q refl w
-
-  pub call_next : {r : Scope} → k ≡ Call → r ≡ passed here 2 → r ≡ scope_of (table_of bs) (suc i)
-  call_next q w = stay Call q refl w
-
   pub unknown-next : {r : Scope} → k ≡ Unknown → r ≡ passed here 0 → r ≡ scope_of (table_of bs) (suc i)
   unknown-next q w = stay Unknown q refl w
 
-pub ruleset nexts = (function-next, do-next, if-next, else-next, loop-next, end-next, break-next, continue-next, call_next, unknown-next)
+  pub one-line-next : {r : Scope} → (k ≡ Break) ⊎ (k ≡ Continue) → r ≡ passed here 1 → r ≡ scope_of (table_of bs) (suc i)
+  one-line-next (inl q) w = stay Break q refl w
+  one-line-next (inr q) w = stay Continue q refl w
+
+  pub two-lines-next : {r : Scope} → (k ≡ Do) ⊎ (k ≡ Call) → r ≡ passed here 2 → r ≡ scope_of (table_of bs) (suc i)
+  two-lines-next (inl q) w = stay Do q refl w
+  two-lines-next (inr q) w = stay Call q refl w
+
+pub ruleset nexts = (function-next, if-next, else-next, loop-next, end-next, one-line-next, two-lines-next, unknown-next)
 
 -- ---- the survey's loop: the scopes before row i are in the map, and here is row i's
-pub record Surveying (bs m₀ m : List ℕ) (i : ℕ) (here : Scope) : Type 0 where
+pub record Surveying (bs : List ℕ) (m₀ m : List Scope) (i : ℕ) (here : Scope) : Type 0 where
   pub accepted : verdict_of bs ≡ Accepted
   pub le : i ≤ length bs / 6
   pub few_rows : length bs / 6 ≤ 1024
-  pub room : 6150 ≤ length m
+  pub room : 1025 ≤ length m
   pub same : length m ≡ length m₀
   pub mapped : Mapped bs m i
   pub is : here ≡ scope_of (table_of bs) i
 
-pub survey-start : {bs m : List ℕ} {here : Scope} → verdict_of bs ≡ Accepted → 6150 ≤ length m → here ≡ outermost → Surveying bs m m 0 here
+pub survey-start : {bs : List ℕ} {m : List Scope} {here : Scope} → verdict_of bs ≡ Accepted → 1025 ≤ length m → here ≡ outermost → Surveying bs m m 0 here
 unfolding scope_of regions open_at line_of
 survey-start {bs} a r e =
     record {
@@ -146,14 +143,14 @@ survey-start {bs} a r e =
       is = e;
     }
 
-pub survey-stands : {bs m₀ m : List ℕ} {i : ℕ} {here : Scope} → Surveying bs m₀ m i here → Stands bs i here
+pub survey-stands : {bs : List ℕ} {m₀ m : List Scope} {i : ℕ} {here : Scope} → Surveying bs m₀ m i here → Stands bs i here
 survey-stands d = standing d.accepted d.le d.is
 
-pub survey-mapped : {bs m₀ m m' : List ℕ} {i : ℕ} {here : Scope} → Surveying bs m₀ m i here → m' ≡ put_scope m i here → Mapped bs m' (suc i)
+pub survey-mapped : {bs : List ℕ} {m₀ m m' : List Scope} {i : ℕ} {here : Scope} → Surveying bs m₀ m i here → m' ≡ put_scope m i here → Mapped bs m' (suc i)
 survey-mapped {bs} {m₀} {m} {m'} {i} {here} d q =
     subst (λ x. Mapped bs x (suc i)) (sym q) (mapped-more bs m i here (omega (arith, d.room, d.le, d.few_rows)) d.mapped d.is)
 
-pub survey-more : {bs m₀ m m' : List ℕ} {i : ℕ} {here next : Scope} → Surveying bs m₀ m i here → i < length bs / 6 → m' ≡ put_scope m i here
+pub survey-more : {bs : List ℕ} {m₀ m m' : List Scope} {i : ℕ} {here next : Scope} → Surveying bs m₀ m i here → i < length bs / 6 → m' ≡ put_scope m i here
     → length m' ≡ length m → next ≡ scope_of (table_of bs) (suc i) → Surveying bs m₀ m' (i + 1) next
 survey-more {bs} {m₀} {m} {m'} {i} d l q k e =
     record {
@@ -166,7 +163,7 @@ survey-more {bs} {m₀} {m} {m'} {i} d l q k e =
       is = e ∙ ap (scope_of (table_of bs)) (sym (add-one i));
     }
 
-pub survey-all : {bs m₀ m m' : List ℕ} {i n : ℕ} {here : Scope} → Surveying bs m₀ m i here → n ≡ length bs / 6 → n ≤ i → m' ≡ put_scope m n here
+pub survey-all : {bs : List ℕ} {m₀ m m' : List Scope} {i n : ℕ} {here : Scope} → Surveying bs m₀ m i here → n ≡ length bs / 6 → n ≤ i → m' ≡ put_scope m n here
     → length m' ≡ length m → Surveyed bs m'
 survey-all {bs} {m₀} {m} {m'} {i} {n} {here} d q h e k =
     let x : i ≡ length bs / 6 = omega (arith, d.le) in

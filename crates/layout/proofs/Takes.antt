@@ -1,8 +1,12 @@
 -- What a row takes, by its kind. Assumes nothing.
 use mathlib.Core.Path.{◌≡◌, refl, sym, ap, ◌∙◌, subst}
-use mathlib.Core.Bool.{false}
+use mathlib.Core.Bool.{Bool, true, false}
+use mathlib.Core.Logic.{◌⊎◌, inl, inr}
+use lib.Dec.{eqb}
+use borrow.Author.Tests.{eqb-true, eqb-false}
+use mir.Val.{bool_byte}
 use mathlib.Core.List.{List, [], ◌∷◌}
-use Prim.Native.Nat.{ℕ, ◌/◌, ◌<◌}
+use Prim.Native.Nat.{ℕ, ◌/◌, ◌≤◌, ◌<◌}
 use native.Mathlib.Omega.{arith}
 use lib.ListN.{length}
 use Rattle.rules.specs.declared.kind.Kind.{Kind}
@@ -98,4 +102,25 @@ module _ {bs : List ℕ} {i : ℕ} {here : Scope} {k : Kind} (s : Stands bs i he
   pub takes_part : k ≡ End → (here.region ≡ here.body → ⊥) → 0 ≡ takes_at (table_of bs) i
   takes_part q x = end_by 0 q (λ f fs g c a b. part_end (table_of bs) f fs g (λ y. x (a ∙ y ∙ sym b)))
 
-pub ruleset takings = (takes-function, takes-do, takes-if, takes-else, takes-loop, takes-end, takes_part, takes-break, takes-continue, takes-call, takes-unknown)
+  -- ---- by what a row takes
+  pub takes-none : (k ≡ Function) ⊎ ((k ≡ Else) ⊎ (k ≡ Unknown)) → 0 ≡ takes_at (table_of bs) i
+  takes-none (inl q) = takes-function q
+  takes-none (inr (inl q)) = takes-else q
+  takes-none (inr (inr q)) = takes-unknown q
+
+  pub takes-one : (k ≡ Do) ⊎ ((k ≡ Break) ⊎ (k ≡ Continue)) → 1 ≡ takes_at (table_of bs) i
+  takes-one (inl q) = takes-do q
+  takes-one (inr (inl q)) = takes-break q
+  takes-one (inr (inr q)) = takes-continue q
+
+  pub takes-two : (k ≡ If) ⊎ ((k ≡ Loop) ⊎ (k ≡ Call)) → 2 ≡ takes_at (table_of bs) i
+  takes-two (inl q) = takes-if q
+  takes-two (inr (inl q)) = takes-loop q
+  takes-two (inr (inr q)) = takes-call q
+
+  pub takes-at-end : {r : ℕ} → k ≡ End → r ≡ bool_byte (eqb here.region here.body) → (r ≡ takes_at (table_of bs) i) × (r ≤ 2)
+  takes-at-end {r} q e = by (eqb here.region here.body) refl e
+    where
+      by : (b : Bool) → eqb here.region here.body ≡ b → r ≡ bool_byte b → (r ≡ takes_at (table_of bs) i) × (r ≤ 2)
+      by true y v = (v ∙ takes-end q (eqb-true here.region here.body y), omega (arith, v))
+      by false y v = (v ∙ takes_part q (eqb-false here.region here.body y), omega (arith, v))

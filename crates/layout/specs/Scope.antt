@@ -1,6 +1,5 @@
--- Where each row stands: what the rows before it have opened, in six words, and the map of these words.
-use Rattle.std.specs.Prelude.{ℕ, suc, ◌+◌, ◌*◌, ◌/◌, ◌≤◌, ◌<◌, ◌≡◌, List, [], ◌∷◌, length, get_or}
-use Rattle.std.proofs.lemmas.List.Edits.{sets}
+-- Where each row stands: what the rows before it have opened, and the map of these scopes.
+use Rattle.std.specs.Prelude.{ℕ, suc, ◌+◌, ◌*◌, ◌/◌, ◌≤◌, ◌<◌, ◌≡◌, List, length, get_or, set}
 use Rattle.rules.specs.Verdict.{Accepted}
 use Rattle.rules.specs.Row.{Table, table_of}
 use Rattle.rules.specs.Scan.{Open, open_at, regions, region_of, body_region, opener_of, from_loop}
@@ -9,27 +8,20 @@ use Rattle.rules.specs.Harden.{line_of}
 use Rattle.layout.specs.declared.scope.Scope.{Scope}
 use Rattle.rules.specs.Limits.{max_rows}
 
--- six words for each row and for the end of the table
-abbrev pub map_words : ℕ
-map_words = 6 * (max_rows + 1)
+-- a scope for each row and for the end of the table
+abbrev pub map_scopes : ℕ
+map_scopes = max_rows + 1
+
+-- the scope of row 0: nothing is open
+abbrev pub outermost : Scope
+outermost = record { opened = 0; region = 0; body = 0; opener = 0; repeat = 0; line = 0 }
 
 -- the scope that the map has at index i, and the map with a scope put there
-abbrev pub scope_at : List ℕ → (i : ℕ) → Scope
-scope_at m i =
-    record {
-      opened = get_or m (6 * i) 0;
-      region = get_or m (6 * i + 1) 0;
-      body = get_or m (6 * i + 2) 0;
-      opener = get_or m (6 * i + 3) 0;
-      repeat = get_or m (6 * i + 4) 0;
-      line = get_or m (6 * i + 5) 0;
-    }
+abbrev pub scope_at : List Scope → (i : ℕ) → Scope
+scope_at m i = get_or m i outermost
 
-abbrev pub words : Scope → List ℕ
-words p = p.opened ∷ p.region ∷ p.body ∷ p.opener ∷ p.repeat ∷ p.line ∷ []
-
-unfoldable pub put_scope : List ℕ → (i : ℕ) → Scope → List ℕ
-put_scope m i p = sets m (6 * i) (words p)
+abbrev pub put_scope : List Scope → (i : ℕ) → Scope → List Scope
+put_scope m i p = set m i p
 
 -- the scope where g regions are opened, the parts fs are open and l lines are written
 abbrev pub scoped : (g : ℕ) → List Open → (l : ℕ) → Scope
@@ -46,10 +38,6 @@ scoped g fs l =
 -- the scope of row i
 unfoldable pub scope_of : Table → (i : ℕ) → Scope
 scope_of t i = scoped (regions t i) (open_at t i) (line_of t i)
-
--- the scope of row 0: nothing is open
-abbrev pub outermost : Scope
-outermost = record { opened = 0; region = 0; body = 0; opener = 0; repeat = 0; line = 0 }
 
 -- the scope of the next row, by what this row does to the open parts, and where it writes so many lines
 abbrev pub passed : Scope → (lines : ℕ) → Scope
@@ -84,14 +72,14 @@ closed p o =
     record { opened = p.opened; region = o.region; body = o.body; opener = o.opener; repeat = o.repeat; line = p.line + 1 }
 
 -- the map has the scopes of the rows before row n
-pub record Mapped (bs m : List ℕ) (n : ℕ) : Type 0 where
+pub record Mapped (bs : List ℕ) (m : List Scope) (n : ℕ) : Type 0 where
   pub each : (i : ℕ) → i < n → scope_at m i ≡ scope_of (table_of bs) i
 
 -- the table is accepted, and the map has the scope of each row and of the table's end
-pub record Surveyed (bs m : List ℕ) : Type 0 where
+pub record Surveyed (bs : List ℕ) (m : List Scope) : Type 0 where
   pub accepted : verdict_of bs ≡ Accepted
   pub few_rows : length bs / 6 ≤ max_rows
-  pub room : map_words ≤ length m
+  pub room : map_scopes ≤ length m
   pub mapped : Mapped bs m (suc (length bs / 6))
 
 -- the scope of row i of an accepted table, with what its numbers keep to

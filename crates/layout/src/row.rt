@@ -2,7 +2,6 @@
 ghost use Rattle.std.specs.Prelude.{◌≡◌, ◌+◌, ◌/◌, ◌<◌, length};
 ghost use Rattle.rules.specs.Row.{table_of, kind_at, operands_at};
 
-use rows::kind::kind_of;
 use rules::bytes::word;
 use rules::kind::Kind;
 use rules::operands::Operands;
@@ -15,14 +14,7 @@ pub fn kind(rows: &[u8], i: usize) -> Kind
     requires { i < length rows.now / 6 }
     ensures { result ≡ kind_at (table_of rows.now) i }
 {
-    kind_of(rows[WIDTH * i])
-}
-
-// A word as an index.
-pub fn index(x: u16) -> usize
-    ensures { result ≡ x }
-{
-    x as usize
+    Kind::from(rows[WIDTH * i])
 }
 
 // What row i has beside its kind.

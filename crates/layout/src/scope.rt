@@ -1,17 +1,17 @@
-// Where a row stands: what the rows before it have opened. The map has six words for each row and for the end of the table.
-ghost use Rattle.std.specs.Prelude.{◌≡◌, suc, ◌+◌, ◌*◌, ◌/◌, ◌≤◌, ◌<◌, length};
+// Where a row stands: what the rows before it have opened. The map has a scope for each row and for the end of the table.
+ghost use Rattle.std.specs.Prelude.{◌≡◌, suc, ◌/◌, ◌≤◌, ◌<◌, length};
 ghost use Rattle.rules.specs.Limits.{max_rows, max_lines};
 ghost use Rattle.rules.specs.Verdict.{Accepted};
 ghost use Rattle.rules.specs.Row.{table_of};
 ghost use Rattle.rules.specs.Check.{verdict_of};
-ghost use Rattle.layout.specs.Scope.{map_words, scope_at, put_scope, scope_of, outermost, passed, entered, forked, looped, turned, closed, Mapped, Stands, Surveyed};
+ghost use Rattle.layout.specs.Scope.{map_scopes, scope_of, passed, entered, forked, looped, turned, closed, Mapped, Stands, Surveyed};
 
 use crate::row;
 use rules::kind::Kind;
 use rules::limits::ROWS;
 
-// The words of a map.
-pub const MAP: usize = 6 * (ROWS + 1);
+// The scopes of a map.
+pub const MAP: usize = ROWS + 1;
 
 #[derive(Clone, Copy)]
 pub struct Scope {
@@ -27,7 +27,19 @@ pub struct Scope {
     pub line: u16,
 }
 
-// The scope of the next row, after a row of each shape. Made field by field, so that it stays in registers.
+impl Scope {
+    // The scope of row 0: nothing is open.
+    pub const OUTERMOST: Scope = Scope {
+        opened: 0,
+        region: 0,
+        body: 0,
+        opener: 0,
+        repeat: 0,
+        line: 0,
+    };
+}
+
+// The scope of the next row, after a row of each shape.
 impl Scope {
     // After a row that opens nothing and closes nothing.
     fn passed(self, lines: u16) -> Scope
@@ -35,12 +47,8 @@ impl Scope {
         ensures { result ≡ passed self lines }
     {
         Scope {
-            opened: self.opened,
-            region: self.region,
-            body: self.body,
-            opener: self.opener,
-            repeat: self.repeat,
             line: self.line + lines,
+            ..self
         }
     }
 
@@ -54,8 +62,7 @@ impl Scope {
             region: self.opened,
             body: self.opened,
             opener: row,
-            repeat: self.repeat,
-            line: self.line,
+            ..self
         }
     }
 
@@ -67,10 +74,9 @@ impl Scope {
         Scope {
             opened: self.opened + 1,
             region: self.opened,
-            body: self.body,
             opener: row,
-            repeat: self.repeat,
             line: self.line + 1,
+            ..self
         }
     }
 
@@ -82,10 +88,10 @@ impl Scope {
         Scope {
             opened: self.opened + 1,
             region: self.opened,
-            body: self.body,
             opener: row,
             repeat: row,
             line: self.line + 1,
+            ..self
         }
     }
 
@@ -97,10 +103,8 @@ impl Scope {
         Scope {
             opened: self.opened + 1,
             region: self.opened,
-            body: self.body,
-            opener: self.opener,
-            repeat: self.repeat,
             line: self.line + 1,
+            ..self
         }
     }
 
@@ -111,103 +115,49 @@ impl Scope {
     {
         Scope {
             opened: self.opened,
-            region: opener.region,
-            body: opener.body,
-            opener: opener.opener,
-            repeat: opener.repeat,
             line: self.line + 1,
+            ..opener
         }
     }
 }
 
-// A scope's words in the map.
-const WORDS: usize = 6;
-
-// The scope at index i of the map.
-fn look(map: &[u16], i: usize) -> Scope
-    requires { 6 * i + 6 ≤ length map.now }
-    ensures { result ≡ scope_at map.now i }
-{
-    let k = WORDS * i;
-    Scope {
-        opened: map[k],
-        region: map[k + 1],
-        body: map[k + 2],
-        opener: map[k + 3],
-        repeat: map[k + 4],
-        line: map[k + 5],
-    }
-}
-
 // The scope of row i of a table that is surveyed.
-pub fn stand(rows: &[u8], map: &[u16], i: usize) -> Scope
+pub fn stand(rows: &[u8], map: &[Scope], i: usize) -> Scope
     requires { (Surveyed rows.now map.now) × (i ≤ length rows.now / 6) }
     ensures { Stands rows.now i result }
 {
-    look(map, i)
-}
-
-// Puts a scope at index i of the map.
-pub fn keep(map: &mut [u16], i: usize, p: Scope)
-    requires { 6 * i + 6 ≤ length map.old }
-    ensures { map.new ≡ put_scope map.old i p }
-{
-    let k = WORDS * i;
-    map[k] = p.opened;
-    map[k + 1] = p.region;
-    map[k + 2] = p.body;
-    map[k + 3] = p.opener;
-    map[k + 4] = p.repeat;
-    map[k + 5] = p.line;
+    map[i]
 }
 
 // The scope of the row after row i.
-pub fn after(rows: &[u8], map: &[u16], i: usize, here: Scope) -> Scope
+pub fn after(rows: &[u8], map: &[Scope], i: usize, here: Scope) -> Scope
     requires stands { (Stands rows.now i here) × (i < length rows.now / 6) }
-    requires mapped { (Mapped rows.now map.now (suc i)) × (6 * i + 6 ≤ length map.now) }
+    requires mapped { (Mapped rows.now map.now (suc i)) × (i < length map.now) }
     ensures { result ≡ scope_of (table_of rows.now) (suc i) }
 {
     let row = i as u16;
     match row::kind(rows, i) {
         Kind::Function => here.entered(row),
-        Kind::Do => here.passed(2),
+        Kind::Do | Kind::Call => here.passed(2),
         Kind::If => here.forked(row),
         Kind::Else => here.turned(),
         Kind::Loop => here.looped(row),
-        Kind::End => here.closed(look(map, row::index(here.opener))),
-        Kind::Break => here.passed(1),
-        Kind::Continue => here.passed(1),
-        Kind::Call => here.passed(2),
+        Kind::End => here.closed(map[usize::from(here.opener)]),
+        Kind::Break | Kind::Continue => here.passed(1),
         Kind::Unknown => here.passed(0),
     }
 }
 
-// The scope of row 0: nothing is open.
-pub fn outermost() -> Scope
-    ensures { result ≡ outermost }
-{
-    Scope {
-        opened: 0,
-        region: 0,
-        body: 0,
-        opener: 0,
-        repeat: 0,
-        line: 0,
-    }
-}
-
 // Fills the map with the scope of each row, and of the end of the table.
-pub fn survey(rows: &[u8], map: &mut [u16])
-    requires { (verdict_of rows.now ≡ Accepted) × (map_words ≤ length map.old) }
+pub fn survey(rows: &[u8], map: &mut [Scope])
+    requires { (verdict_of rows.now ≡ Accepted) × (map_scopes ≤ length map.old) }
     ensures { Surveyed rows.now map.new }
 {
     let n = rows.len() / row::WIDTH;
-    let mut here = outermost();
-    let mut i = 0;
-    while i < n {
-        keep(map, i, here);
+    let mut here = Scope::OUTERMOST;
+    for i in 0..n {
+        map[i] = here;
         here = after(rows, map, i, here);
-        i += 1;
     }
-    keep(map, n, here);
+    map[n] = here;
 }

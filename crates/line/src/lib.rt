@@ -15,6 +15,7 @@ pub mod read;
 // The fields of a line of any kind; those that its kind does not use are 0.
 #[derive(Drop)]
 pub struct Line {
+    // The byte, one of the constants below: 01 asks for these.
     pub kind: u8,
     pub operands: Operands,
     pub r: u8,

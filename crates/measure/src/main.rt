@@ -5,10 +5,12 @@
 
 ghost use Rattle.std.specs.Prelude.{◌≡◌, length};
 
-use console::input::Read;
-use console::{input, output, print, start};
+use console::page::Page;
+use console::{input, output, start};
 use line::Line;
 use rules::answer::Measured;
+use std::fmt;
+use std::fmt::Write;
 
 fn main(rt: HostRuntime) {
     if start::is_bare(
@@ -24,30 +26,25 @@ Reads a source table, 12 hexadecimal digits to a line, and prints the figures of
 fn measure(rt: &(impl Input + Print)) {
     let mut chunk = io::buffer();
     let mut rows = io::large_buffer();
-    match input::take_rows(rt, &mut chunk, &mut rows) {
-        Read::Bytes(n) => {
-            let all = output::within(n, &rows);
-            answer(rt, finuraho::measure(&rows[..all]));
-        }
-        Read::Nothing => {}
+    if let Some(n) = input::take_rows(rt, &mut chunk, &mut rows) {
+        answer(rt, finuraho::measure(&rows[..n]));
     }
 }
 
 fn answer(rt: &impl Print, m: Measured) {
-    let mut text = io::large_buffer();
     if m.number != 0 {
+        let mut text = io::large_buffer();
         output::refused(rt, m.number, &mut text);
         return;
     }
-    tell(rt, m, &mut text);
+    let mut page = Page::new(rt);
+    let _ = tell(&mut page, m);
+    page.flush();
 }
 
-fn tell(rt: &impl Print, m: Measured, text: &mut [u8; 65536]) {
-    let lines = print::named(rt, b"lines ", m.lines, 0, text);
-    let regions = print::named(rt, b"\nregions ", m.regions as u16, lines, text);
-    let value = print::named(rt, b"\nvalue ", m.value, regions, text);
-    let named = print::word(rt, b"\nbytes ", value, text);
-    let bytes = print::number(rt, Line::WIDTH as u64 * m.lines as u64, named, text);
-    let all = print::put(rt, b'\n', bytes, text);
-    print::flush(rt, all, text);
+fn tell(page: &mut impl Write, m: Measured) -> fmt::Result {
+    writeln!(page, "lines {}", m.lines)?;
+    writeln!(page, "regions {}", m.regions)?;
+    writeln!(page, "value {}", m.value)?;
+    writeln!(page, "bytes {}", Line::WIDTH * usize::from(m.lines))
 }

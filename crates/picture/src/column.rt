@@ -3,130 +3,107 @@ ghost use Rattle.std.specs.Prelude.{◌+◌, ◌*◌, ◌≤◌, length};
 ghost use Rattle.rules.specs.Limits.{max_lines};
 ghost use Rattle.rules.specs.Line.{line_width};
 
-use crate::{label, runs};
-use cells::rank;
-use console::print;
+use crate::label;
+use crate::runs::{Drawn, Run, piece};
+use cells::rank::Rank;
 use line::read;
+use std::fmt;
 
-// How many bytes the buffer then holds, and whether a column had more runs than are drawn one by one.
-#[derive(Clone, Copy)]
-pub struct Drawn {
-    pub at: usize,
-    pub mixed: bool,
+// Runs that are drawn one by one.
+const FEW: usize = 8;
+
+fn open<W: fmt::Write>(class: char, page: &mut W) -> fmt::Result {
+    write!(page, "<path class=\"{class}\" d=\"")
 }
 
-fn open(rt: &impl Print, class: u8, at: usize, text: &mut [u8; 65536]) -> usize {
-    let path = print::word(rt, b"<path class=\"", at, text);
-    let classed = print::put(rt, class, path, text);
-    print::word(rt, b"\" d=\"", classed, text)
-}
-
-fn close(rt: &impl Print, at: usize, text: &mut [u8; 65536]) -> usize {
-    print::word(rt, b"\"/>\n", at, text)
+fn close<W: fmt::Write>(page: &mut W) -> fmt::Result {
+    page.write_str("\"/>\n")
 }
 
 // The places where the run stood: every strike out of them to a wide place is an alarm, but for those that are drawn over it.
-pub fn stood(
-    rt: &impl Print,
-    cells: &[u8],
-    width: u16,
-    at: usize,
-    text: &mut [u8; 65536],
-) -> usize {
-    let opened = open(rt, b'a', at, text);
-    let drawn = runs::pieces(rt, runs::STRUCK, cells, 0, width, opened, text);
-    close(rt, drawn, text)
+pub fn stood<W: fmt::Write>(cells: &[Rank], width: u16, page: &mut W) -> fmt::Result {
+    open('a', page)?;
+    for run in Drawn::Struck.runs(cells) {
+        piece(0, width, run, page)?;
+    }
+    close(page)
 }
 
 // The cells of one rank, where there are any.
-fn path(
-    rt: &impl Print,
-    class: u8,
-    r: u8,
-    cells: &[u8],
+fn path<W: fmt::Write>(
+    class: char,
+    r: Rank,
+    cells: &[Rank],
     place: u16,
-    at: usize,
-    text: &mut [u8; 65536],
-) -> usize {
-    if runs::behind_last(r, cells) == 0 {
-        return at;
+    most: usize,
+    page: &mut W,
+) -> fmt::Result {
+    if !cells.contains(&r) {
+        return Ok(());
     }
-    let opened = open(rt, class, at, text);
-    let drawn = runs::pieces(rt, r, cells, place, 1, opened, text);
-    close(rt, drawn, text)
+    open(class, page)?;
+    for run in Drawn::Of(r).runs(cells).take(most) {
+        piece(place, 1, run, page)?;
+    }
+    close(page)
 }
 
-// Eight runs at most, so that the picture stays small: all behind them is one piece of another class.
-fn unfinished(
-    rt: &impl Print,
-    cells: &[u8],
-    place: u16,
-    before: Drawn,
-    text: &mut [u8; 65536],
-) -> Drawn {
-    let n = runs::ninth(rank::UNFINISHED, cells);
-    let eight = path(
-        rt,
-        b'u',
-        rank::UNFINISHED,
-        &cells[..n],
-        place,
-        before.at,
-        text,
-    );
-    let last = runs::behind_last(rank::UNFINISHED, cells);
-    if last <= n {
-        return Drawn {
-            at: eight,
-            mixed: before.mixed,
-        };
-    }
-    let opened = open(rt, b'x', eight, text);
-    let drawn = runs::piece(rt, place, 1, n, last, opened, text);
-    Drawn {
-        at: close(rt, drawn, text),
-        mixed: true,
-    }
+// From the first run that is not drawn one by one to the last.
+fn behind_few(cells: &[Rank]) -> Option<Run> {
+    let mut behind = Drawn::Of(Rank::Unfinished).runs(cells).skip(FEW);
+    let first = behind.next()?;
+    let last = behind.last().unwrap_or(first);
+    Some(Run {
+        from: first.from,
+        to: last.to,
+    })
+}
+
+// Eight runs at most, so that the picture stays small: all behind them is one piece of another class. Whether there are any.
+fn unfinished<W: fmt::Write>(cells: &[Rank], place: u16, page: &mut W) -> Result<bool, fmt::Error> {
+    path('u', Rank::Unfinished, cells, place, FEW, page)?;
+    let Some(behind) = behind_few(cells) else {
+        return Ok(false);
+    };
+    open('x', page)?;
+    piece(place, 1, behind, page)?;
+    close(page)?;
+    Ok(true)
 }
 
 // Place m has no line.
-fn labels(
-    rt: &impl Print,
+fn labels<W: fmt::Write>(
     lines: &[u8],
     first: u16,
     place: u16,
-    cells: &[u8],
-    at: usize,
-    text: &mut [u8; 65536],
-) -> usize
+    cells: &[Rank],
+    page: &mut W,
+) -> fmt::Result
     requires { (first + length cells.now ≤ max_lines) × (line_width * (first + length cells.now) ≤ length lines.now) }
 {
     if cells.len() <= place as usize {
-        return at;
+        return Ok(());
     }
     let kind = read::kind_at(lines, first + place);
-    let named = label::line(rt, place, kind, at, text);
-    label::narrow(rt, lines, first, place, kind, cells, named, text)
+    label::line(place, kind, page)?;
+    label::narrow(lines, first, place, kind, cells, page)
 }
 
-// The column of this place of the function whose lines begin with `first`; a cell for each of them.
-pub fn draw(
-    rt: &impl Print,
+// The column of this place of the function whose lines begin with `first`; a cell for each of them. Whether it had more runs than are drawn
+// one by one.
+pub fn draw<W: fmt::Write>(
     lines: &[u8],
     first: u16,
     place: u16,
-    cells: &[u8],
-    before: Drawn,
-    text: &mut [u8; 65536],
-) -> Drawn
+    cells: &[Rank],
+    page: &mut W,
+) -> Result<bool, fmt::Error>
     requires { (first + length cells.now ≤ max_lines) × (line_width * (first + length cells.now) ≤ length lines.now) }
 {
-    let u = unfinished(rt, cells, place, before, text);
-    let s = path(rt, b's', rank::SAME, cells, place, u.at, text);
-    let o = path(rt, b'o', rank::OTHER, cells, place, s, text);
-    let l = labels(rt, lines, first, place, cells, o, text);
-    Drawn {
-        at: label::number(rt, place, l, text),
-        mixed: u.mixed,
-    }
+    let mixed = unfinished(cells, place, page)?;
+    path('s', Rank::Same, cells, place, usize::MAX, page)?;
+    path('o', Rank::Other, cells, place, usize::MAX, page)?;
+    labels(lines, first, place, cells, page)?;
+    label::number(place, page)?;
+    Ok(mixed)
 }

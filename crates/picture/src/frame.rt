@@ -2,40 +2,32 @@
 ghost use Rattle.std.specs.Prelude.{◌≤◌};
 ghost use Rattle.rules.specs.Limits.{max_lines};
 
-use console::print;
 use rules::answer::Swept;
+use std::fmt;
 
 // The size of a function of m lines: 12 pixels a cell.
-fn open(rt: &impl Print, m: u16, at: usize, text: &mut [u8; 65536]) -> usize
+fn open<W: fmt::Write>(m: u16, page: &mut W) -> fmt::Result
     requires { m ≤ max_lines }
 {
     let wide = m + 38;
     let high = m + 18;
-    let w = print::named(
-        rt,
-        b"<svg xmlns=\"http://www.w3.org/2000/svg\" width=\"",
+    write!(
+        page,
+        "<svg xmlns=\"http://www.w3.org/2000/svg\" width=\"{}\" height=\"{}\"",
         12 * wide,
-        at,
-        text,
-    );
-    let h = print::named(rt, b"\" height=\"", 12 * high, w, text);
-    let a = print::named(rt, b"\" viewBox=\"-7 -4 ", wide, h, text);
-    let b = print::named(rt, b" ", high, a, text);
-    print::word(rt, b"\">\n", b, text)
+        12 * high
+    )?;
+    writeln!(page, " viewBox=\"-7 -4 {wide} {high}\">")
 }
 
 // Each class differs in shape as well as in colour.
-fn looks(rt: &impl Print, at: usize, text: &mut [u8; 65536]) -> usize {
-    let styled = print::word(
-        rt,
-        b"<style>svg{background:#fff}text{font:.9px sans-serif;fill:#222}.l{text-anchor:end}.t{text-anchor:middle}.h{font-size:1.1px}.n{fill:url(#n)}.a{fill:#bfe3c6}.g{fill:url(#g)}.s{fill:url(#s)}.o{fill:url(#o)}.u{fill:url(#u)}.x{fill:url(#x)}.mo{font-weight:bold;fill:#a00}.ms{fill:#777}.mu{fill:#853}</style>
+fn looks<W: fmt::Write>(page: &mut W) -> fmt::Result {
+    page.write_str(
+        "<style>svg{background:#fff}text{font:.9px sans-serif;fill:#222}.l{text-anchor:end}.t{text-anchor:middle}.h{font-size:1.1px}.n{fill:url(#n)}.a{fill:#bfe3c6}.g{fill:url(#g)}.s{fill:url(#s)}.o{fill:url(#o)}.u{fill:url(#u)}.x{fill:url(#x)}.mo{font-weight:bold;fill:#a00}.ms{fill:#777}.mu{fill:#853}</style>
 ",
-        at,
-        text,
-    );
-    print::word(
-        rt,
-        b"<defs>
+    )?;
+    page.write_str(
+        "<defs>
 <pattern id=\"n\" width=\"1\" height=\"1\" patternUnits=\"userSpaceOnUse\"><path d=\"M0 0h1v1H0z\" fill=\"#fff\"/><path d=\"M0 1L1 0\" stroke=\"#aaa\" stroke-width=\".08\"/></pattern>
 <pattern id=\"g\" width=\"5\" height=\"5\" patternUnits=\"userSpaceOnUse\"><path d=\"M0 0H5M0 0V5\" stroke=\"#fff\" stroke-width=\".12\"/></pattern>
 <pattern id=\"s\" width=\"1\" height=\"1\" patternUnits=\"userSpaceOnUse\"><path d=\"M0 0h1v1H0z\" fill=\"#fff\"/><circle cx=\".5\" cy=\".5\" r=\".2\" fill=\"#246\"/></pattern>
@@ -44,120 +36,74 @@ fn looks(rt: &impl Print, at: usize, text: &mut [u8; 65536]) -> usize {
 <pattern id=\"x\" width=\"1\" height=\"1\" patternUnits=\"userSpaceOnUse\"><path d=\"M0 0h1v1H0z\" fill=\"#bfe3c6\"/><path d=\"M0 .5H1\" stroke=\"#c80\" stroke-width=\".3\"/></pattern>
 </defs>
 ",
-        styled,
-        text,
     )
 }
 
-fn grid(rt: &impl Print, class: u8, m: u16, at: usize, text: &mut [u8; 65536]) -> usize
+fn grid<W: fmt::Write>(class: char, m: u16, page: &mut W) -> fmt::Result
     requires { m ≤ max_lines }
 {
-    let rect = print::word(rt, b"<rect class=\"", at, text);
-    let classed = print::put(rt, class, rect, text);
-    let w = print::named(rt, b"\" width=\"", m + 1, classed, text);
-    let h = print::named(rt, b"\" height=\"", m, w, text);
-    print::word(rt, b"\"/>\n", h, text)
+    writeln!(
+        page,
+        "<rect class=\"{class}\" width=\"{}\" height=\"{m}\"/>",
+        m + 1
+    )
 }
 
 // Up to the grid, all of it as if the run had never stood there.
-pub fn begin(rt: &impl Print, function: u8, m: u16, at: usize, text: &mut [u8; 65536]) -> usize
+pub fn begin<W: fmt::Write>(function: u8, m: u16, page: &mut W) -> fmt::Result
     requires { m ≤ max_lines }
 {
-    let opened = open(rt, m, at, text);
-    let looked = looks(rt, opened, text);
-    let titled = print::named(
-        rt,
-        b"<text class=\"h\" y=\"-2.6\">function ",
-        function as u16,
-        looked,
-        text,
-    );
-    let title = print::word(
-        rt,
-        b": struck at the place on the left, to the place above</text>\n",
-        titled,
-        text,
-    );
-    grid(rt, b'n', m, title, text)
+    open(m, page)?;
+    looks(page)?;
+    writeln!(
+        page,
+        "<text class=\"h\" y=\"-2.6\">function {function}: struck at the place on the left, to the place above</text>"
+    )?;
+    grid('n', m, page)
 }
 
 // A line for every five places.
-pub fn fifths(rt: &impl Print, m: u16, at: usize, text: &mut [u8; 65536]) -> usize
+pub fn fifths<W: fmt::Write>(m: u16, page: &mut W) -> fmt::Result
     requires { m ≤ max_lines }
 {
-    grid(rt, b'g', m, at, text)
+    grid('g', m, page)
 }
 
-fn entry(
-    rt: &impl Print,
-    class: u8,
-    words: &[u8],
-    y: u16,
-    at: usize,
-    text: &mut [u8; 65536],
-) -> usize {
-    let rect = print::word(rt, b"<rect class=\"", at, text);
-    let classed = print::put(rt, class, rect, text);
-    let top = print::named(rt, b"\" y=\"", y, classed, text);
-    let base = print::named(
-        rt,
-        b"\" width=\"1\" height=\"1\"/><text x=\"1.6\" y=\"",
-        y,
-        top,
-        text,
-    );
-    let begun = print::word(rt, b".8\">", base, text);
-    let told = print::word(rt, words, begun, text);
-    print::word(rt, b"</text>\n", told, text)
+fn entry<W: fmt::Write>(class: char, words: &str, y: u16, page: &mut W) -> fmt::Result {
+    write!(
+        page,
+        "<rect class=\"{class}\" y=\"{y}\" width=\"1\" height=\"1\"/>"
+    )?;
+    writeln!(page, "<text x=\"1.6\" y=\"{y}.8\">{words}</text>")
 }
 
-fn legend(rt: &impl Print, m: u16, at: usize, text: &mut [u8; 65536]) -> usize
+fn legend<W: fmt::Write>(m: u16, page: &mut W) -> fmt::Result
     requires { m ≤ max_lines }
 {
-    let a = entry(rt, b'a', b"alarm", m + 1, at, text);
-    let s = entry(rt, b's', b"finished with the same trace", m + 3, a, text);
-    let o = entry(rt, b'o', b"finished with another trace", m + 5, s, text);
-    let u = entry(rt, b'u', b"not finished", m + 7, o, text);
-    entry(rt, b'n', b"the run never stood there", m + 9, u, text)
+    entry('a', "alarm", m + 1, page)?;
+    entry('s', "finished with the same trace", m + 3, page)?;
+    entry('o', "finished with another trace", m + 5, page)?;
+    entry('u', "not finished", m + 7, page)?;
+    entry('n', "the run never stood there", m + 9, page)
 }
 
-fn counts(rt: &impl Print, r: Swept, y: u16, at: usize, text: &mut [u8; 65536]) -> usize {
-    let base = print::named(rt, b"<text y=\"", y, at, text);
-    let alarm = print::word(rt, b".8\">whole sweep: alarm ", base, text);
-    let alarms = print::number(rt, r.alarms as u64, alarm, text);
-    let same = print::word(rt, b", same ", alarms, text);
-    let sames = print::number(rt, r.same as u64, same, text);
-    let other = print::word(rt, b", other ", sames, text);
-    let others = print::number(rt, r.other as u64, other, text);
-    let unfinished = print::word(rt, b", unfinished ", others, text);
-    let all = print::number(rt, r.unfinished as u64, unfinished, text);
-    print::word(rt, b"</text>\n</svg>\n", all, text)
+fn counts<W: fmt::Write>(r: Swept, y: u16, page: &mut W) -> fmt::Result {
+    write!(
+        page,
+        "<text y=\"{y}.8\">whole sweep: alarm {}, same {}, other {}, unfinished {}</text>\n</svg>\n",
+        r.alarms, r.same, r.other, r.unfinished
+    )
 }
 
 // Behind the columns. The class for many runs is told only where one of them has it.
-pub fn end(
-    rt: &impl Print,
-    r: Swept,
-    m: u16,
-    mixed: bool,
-    at: usize,
-    text: &mut [u8; 65536],
-) -> usize
+pub fn end<W: fmt::Write>(r: Swept, m: u16, mixed: bool, page: &mut W) -> fmt::Result
     requires { m ≤ max_lines }
 {
-    let x = print::named(rt, b"<text class=\"t\" x=\"", m, at, text);
-    let last = print::word(rt, b".5\" y=\"-1.4\">m</text>\n", x, text);
-    let told = legend(rt, m, last, text);
+    writeln!(page, "<text class=\"t\" x=\"{m}.5\" y=\"-1.4\">m</text>")?;
+    legend(m, page)?;
     if mixed {
-        let more = entry(
-            rt,
-            b'x',
-            b"not finished from some of these places",
-            m + 11,
-            told,
-            text,
-        );
-        return counts(rt, r, m + 13, more, text);
+        entry('x', "not finished from some of these places", m + 11, page)?;
+        return counts(r, m + 13, page);
     }
-    counts(rt, r, m + 11, told, text)
+    counts(r, m + 11, page)
 }

@@ -9,12 +9,12 @@ ghost use Rattle.machine.specs.Stands.{Ready};
 ghost use Rattle.compare.specs.Compared.{piece_steps};
 ghost use Rattle.sweeper.specs.Steps.{Finishes};
 
-use crate::column::Drawn;
 use crate::{column, frame};
 use cells::column::cells;
 use line::Line;
 use rules::answer::Swept;
 use rules::limits::{FUNCTIONS, LINES, VARIABLES};
+use std::fmt;
 
 // The number of the last function: that of the last line.
 pub fn last_of(
@@ -31,8 +31,7 @@ pub fn last_of(
 }
 
 // Up to the columns. Where the run stood is told by any of them.
-fn background(
-    rt: &impl Print,
+fn background<W: fmt::Write>(
     lines: &[u8],
     starts: &[u16; FUNCTIONS + 1],
     owners: &[u8; LINES + 1],
@@ -44,8 +43,8 @@ fn background(
     counters: &mut [u16],
     spare: &mut [u16],
     rows: &mut [u16],
-    text: &mut [u8; 65536],
-) -> usize
+    page: &mut W,
+) -> fmt::Result
     requires { (Ready lines.now (map_of starts.now owners.now home)) × (is_hardened_lem lines.now ≡ true) × (Finishes (lines_in lines.now) variables budget trace.now) × (function < function_at (lines_in lines.now) (length (lines_in lines.now))) × (length counters.old ≡ counter_words) × (length spare.old ≡ counter_words) × (length rows.old ≡ piece_steps) }
 {
     let f = function as usize;
@@ -55,14 +54,14 @@ fn background(
     let c = cells(
         lines, starts, owners, home, variables, budget, trace, function, 0, counters, spare, rows,
     );
-    let begun = frame::begin(rt, function, m, 0, text);
+    frame::begin(function, m, page)?;
     let own = &c[from as usize..to as usize];
-    let stood = column::stood(rt, own, m + 1, begun, text);
-    frame::fifths(rt, m, stood, text)
+    column::stood(own, m + 1, page)?;
+    frame::fifths(m, page)
 }
 
-fn columns(
-    rt: &impl Print,
+// Whether any of them had more runs than are drawn one by one.
+fn columns<W: fmt::Write>(
     lines: &[u8],
     starts: &[u16; FUNCTIONS + 1],
     owners: &[u8; LINES + 1],
@@ -74,38 +73,26 @@ fn columns(
     counters: &mut [u16],
     spare: &mut [u16],
     rows: &mut [u16],
-    at: usize,
-    text: &mut [u8; 65536],
-) -> Drawn
+    page: &mut W,
+) -> Result<bool, fmt::Error>
     requires { (Ready lines.now (map_of starts.now owners.now home)) × (is_hardened_lem lines.now ≡ true) × (Finishes (lines_in lines.now) variables budget trace.now) × (function < function_at (lines_in lines.now) (length (lines_in lines.now))) × (length counters.old ≡ counter_words) × (length spare.old ≡ counter_words) × (length rows.old ≡ piece_steps) }
 {
     let f = function as usize;
     let from = starts[f];
     let to = starts[f + 1];
-    let mut d = Drawn { at, mixed: false };
-    let mut place = 0;
-    while place <= to - from {
+    let mut mixed = false;
+    for place in 0..=to - from {
         let c = cells(
             lines, starts, owners, home, variables, budget, trace, function, place, counters,
             spare, rows,
         );
-        d = column::draw(
-            rt,
-            lines,
-            from,
-            place,
-            &c[from as usize..to as usize],
-            d,
-            text,
-        );
-        place += 1;
+        let own = &c[from as usize..to as usize];
+        mixed |= column::draw(lines, from, place, own, page)?;
     }
-    d
+    Ok(mixed)
 }
 
-// How many bytes the buffer then holds, the picture behind those that were written out.
-pub fn draw(
-    rt: &impl Print,
+pub fn draw<W: fmt::Write>(
     lines: &[u8],
     starts: &[u16; FUNCTIONS + 1],
     owners: &[u8; LINES + 1],
@@ -118,19 +105,19 @@ pub fn draw(
     counters: &mut [u16],
     spare: &mut [u16],
     rows: &mut [u16],
-    text: &mut [u8; 65536],
-) -> usize
+    page: &mut W,
+) -> fmt::Result
     requires { (Ready lines.now (map_of starts.now owners.now home)) × (is_hardened_lem lines.now ≡ true) × (Finishes (lines_in lines.now) variables budget trace.now) × (function < function_at (lines_in lines.now) (length (lines_in lines.now))) × (length counters.old ≡ counter_words) × (length spare.old ≡ counter_words) × (length rows.old ≡ piece_steps) }
 {
-    let at = background(
-        rt, lines, starts, owners, home, variables, budget, trace, function, counters, spare, rows,
-        text,
-    );
-    let d = columns(
-        rt, lines, starts, owners, home, variables, budget, trace, function, counters, spare, rows,
-        at, text,
-    );
+    background(
+        lines, starts, owners, home, variables, budget, trace, function, counters, spare, rows,
+        page,
+    )?;
+    let mixed = columns(
+        lines, starts, owners, home, variables, budget, trace, function, counters, spare, rows,
+        page,
+    )?;
     let f = function as usize;
     let m = starts[f + 1] - starts[f];
-    frame::end(rt, swept, m, d.mixed, d.at, text)
+    frame::end(swept, m, mixed, page)
 }

@@ -2,17 +2,17 @@
 -- lines behind them, and place m. Assumes nothing.
 use mathlib.Core.Path.{◌≡◌, refl, sym, ap, ◌∙◌}
 use mathlib.Core.List.{List}
-use Prim.Native.Nat.{ℕ, zero, suc, ◌+◌, ◌-◌, ◌≤◌, ◌<◌}
+use Prim.Native.Nat.{ℕ, zero, suc, ◌+◌, ◌-◌, ◌≤◌, ◌<◌, min, max}
 use native.Mathlib.Nat.{add-zero, add-suc}
 use native.Mathlib.Numerals.{add-one}
 use native.Mathlib.Omega.{arith}
-use borrow.Author.Tests.{eq-eqb, ne_eqb, lt-ltb, le-ltb}
+use borrow.Author.Tests.{eq-eqb, ne_eqb}
 use Rattle.rules.specs.declared.ending.Ending.{Ending}
 use Rattle.rules.specs.declared.ending.Ending.TheVariants.{Same}
 use Rattle.rules.specs.declared.ending.Counts.{Counts}
 use Rattle.rules.specs.Sweep.{one, plus, total}
 use Rattle.rules.proofs.Logic.{Order, less, same, more, order}
-use Rattle.places.specs.Places.{wide_last, wide_at, Beside, lower_of, higher_of, ending_at, unguarded_of, counted_to}
+use Rattle.places.specs.Places.{wide_last, wide_at, Beside, ending_at, unguarded_of, counted_to}
 use Rattle.places.proofs.Counting.{one_more}
 
 -- ---- ranges
@@ -50,33 +50,30 @@ pub record Span (first last at across low high : ℕ) : Type 0 where
   pub high_across : across ≤ high
   pub before : high < last
 
-span : {first last at across : ℕ} → Beside first last at across → Span first last at across (lower_of at across) (higher_of at across)
-span {first} {last} {at} {across} b = by (order at across)
-  where
-    by : Order at across → Span first last at across (lower_of at across) (higher_of at across)
-    by (less l) =
-        rw (lt-ltb at across l)
-        (record { from = b.at_from; low_at = omega arith; low_across = omega arith; high_at = omega arith; high_across = omega arith; before = b.across_before })
-    by (same e) =
-        rw (le-ltb at across (omega arith))
-        (record { from = b.across_from; low_at = omega arith; low_across = omega arith; high_at = omega arith; high_across = omega arith; before = b.at_before })
-    by (more l) =
-        rw (le-ltb at across (omega arith))
-        (record { from = b.across_from; low_at = omega arith; low_across = omega arith; high_at = omega arith; high_across = omega arith; before = b.at_before })
+span : {first last at across : ℕ} → Beside first last at across → Span first last at across (min at across) (max at across)
+span b =
+    record {
+      from = omega (arith, b.at_from, b.across_from);
+      low_at = omega arith;
+      low_across = omega arith;
+      high_at = omega arith;
+      high_across = omega arith;
+      before = omega (arith, b.at_before, b.across_before);
+    }
 
-pub span_of : {first last at across low high : ℕ} → Beside first last at across → low ≡ lower_of at across → high ≡ higher_of at across → Span first last at across low high
+pub span_of : {first last at across low high : ℕ} → Beside first last at across → low ≡ min at across → high ≡ max at across → Span first last at across low high
 span_of b p q = rw (p, q) (span b)
 
 two-more : (c : Counts) (x y : Ending) → total (plus (plus c (one x)) (one y)) ≡ suc (suc (total c))
 two-more c x y = one_more (plus c (one x)) y ∙ ap suc (one_more c x)
 
-pub unguarded-total : (at across : ℕ) (narrow : Ending) (c : Counts) {low high : ℕ} {x : Counts} → low ≡ lower_of at across → high ≡ higher_of at across → x ≡ unguarded_of at across narrow c → total x ≤ total c + (high - low) + 1
+pub unguarded-total : (at across : ℕ) (narrow : Ending) (c : Counts) {low high : ℕ} {x : Counts} → low ≡ min at across → high ≡ max at across → x ≡ unguarded_of at across narrow c → total x ≤ total c + (high - low) + 1
 unguarded-total at across narrow c p q e = rw (p, q, e) (by (order at across))
   where
-    by : Order at across → total (unguarded_of at across narrow c) ≤ total c + (higher_of at across - lower_of at across) + 1
-    by (less l) = rw (lt-ltb at across l, ne_eqb at across (λ e. omega arith)) (omega (arith, two-more c Same narrow))
-    by (same e) = rw (le-ltb at across (omega arith), eq-eqb at across e) (omega (arith, one_more c Same))
-    by (more l) = rw (le-ltb at across (omega arith), ne_eqb at across (λ e. omega arith)) (omega (arith, two-more c Same narrow))
+    by : Order at across → total (unguarded_of at across narrow c) ≤ total c + (max at across - min at across) + 1
+    by (less l) = rw (ne_eqb at across (λ e. omega arith)) (omega (arith, two-more c Same narrow))
+    by (same e) = rw (eq-eqb at across e) (omega (arith, one_more c Same))
+    by (more l) = rw (ne_eqb at across (λ e. omega arith)) (omega (arith, two-more c Same narrow))
 
 -- ---- all of them
 module _ (bs vs : List ℕ) (first last at across d left : ℕ) (narrow : Ending) (b : Beside first last at across) where
@@ -87,10 +84,10 @@ module _ (bs vs : List ℕ) (first last at across d left : ℕ) (narrow : Ending
   f p = ends (first + p)
 
   abbrev low : ℕ
-  low = lower_of at across
+  low = min at across
 
   abbrev high : ℕ
-  high = higher_of at across
+  high = max at across
 
   wide-line : (y : ℕ) → (y ≡ at → ⊥) → (y ≡ across → ⊥) → (y ≡ last → ⊥) → wide_at bs vs left y ≡ ends y
   wide-line y a c l = rw (ne_eqb y at a, ne_eqb y across c, ne_eqb y last l)
@@ -122,16 +119,22 @@ module _ (bs vs : List ℕ) (first last at across d left : ℕ) (narrow : Ending
       by (less l) =
           let q : across + 1 - first ≡ suc (suc (at - first)) = omega (arith, b.up, b.at_from) in
           let r : suc (at - first) ≡ across - first = omega (arith, b.up, b.at_from) in
-          rw (lt-ltb at across l, ne_eqb at across (λ e. omega arith), q, place at b.at_from, own)
+          let lo : min at across ≡ at = omega arith in
+          let hi : max at across ≡ across = omega arith in
+          rw (lo, hi, ne_eqb at across (λ e. omega arith), q, place at b.at_from, own)
           (ap (λ e. plus (plus (counted_to c (at - first) f) (one Same)) (one e)) (sym (ap f r ∙ place across b.across_from ∙ crossed (λ e. omega arith))))
       by (same e) =
           let q : at + 1 - first ≡ suc (across - first) = omega (arith, b.at_from) in
           let r : across - first ≡ at - first = omega arith in
-          rw (le-ltb at across (omega arith), eq-eqb at across e, q) (ap (λ x. plus (counted_to c (across - first) f) (one x)) (sym (ap f r ∙ place at b.at_from ∙ own)))
+          let lo : min at across ≡ across = omega arith in
+          let hi : max at across ≡ at = omega arith in
+          rw (lo, hi, eq-eqb at across e, q) (ap (λ x. plus (counted_to c (across - first) f) (one x)) (sym (ap f r ∙ place at b.at_from ∙ own)))
       by (more l) =
           let q : at + 1 - first ≡ suc (suc (across - first)) = omega (arith, b.down, b.across_from) in
           let r : suc (across - first) ≡ at - first = omega (arith, b.down, b.across_from) in
-          rw (le-ltb at across (omega arith), ne_eqb at across (λ e. omega arith), q, place across b.across_from, crossed (λ e. omega arith))
+          let lo : min at across ≡ across = omega arith in
+          let hi : max at across ≡ at = omega arith in
+          rw (lo, hi, ne_eqb at across (λ e. omega arith), q, place across b.across_from, crossed (λ e. omega arith))
           (plus-swap (counted_to c (across - first) f) Same narrow ∙ ap (λ x. plus (plus (counted_to c (across - first) f) (one narrow)) (one x)) (sym (ap f r ∙ place at b.at_from ∙ own)))
 
   behind-is : (c : Counts) → counted_to (counted_to c (high + 1 - first) f) (last - (high + 1)) (λ p. wide_at bs vs left (high + 1 + p)) ≡ counted_to c (last - first) f

@@ -72,12 +72,6 @@ pub record Beside (first last at across : ℕ) : Type 0 where
   pub up : across ≤ at + 1
   pub down : at ≤ across + 1
 
-abbrev pub lower_of : (a b : ℕ) → ℕ
-lower_of a b = cond (ltb a b) a b
-
-abbrev pub higher_of : (a b : ℕ) → ℕ
-higher_of a b = cond (ltb a b) b a
-
 -- the most that 32 bits hold
 abbrev pub max_count : ℕ
 max_count = 4294967295

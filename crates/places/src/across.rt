@@ -1,5 +1,5 @@
 // The one place that a do, and no guard, parts from another.
-ghost use Rattle.std.specs.Prelude.{◌≡◌, ◌-◌, ◌<◌, length};
+ghost use Rattle.std.specs.Prelude.{◌≡◌, ◌<◌, length};
 ghost use Rattle.rules.specs.Line.{lines_in};
 ghost use Rattle.rules.specs.Settled.{across};
 ghost use Rattle.places.specs.Places.{across_kind};
@@ -7,30 +7,20 @@ ghost use Rattle.places.specs.Places.{across_kind};
 use line::kind::LineKind;
 use line::read;
 
-// The line before; of line 0 there is none.
-fn before(k: u16) -> u16
-    ensures { result ≡ k - 1 }
-{
-    if k == 0 {
-        return 0;
-    }
-    k - 1
-}
-
-// The line number of that place, seen from a line of this kind, or k where there is none.
+// The line number of that place, seen from a line of this kind, or k where there is none: before line 0 there is no line.
 fn beside(kind: LineKind, k: u16) -> u16
     requires { k < 65535 }
     ensures { result ≡ across_kind kind k }
 {
     match kind {
         LineKind::Do => k + 1,
-        LineKind::Tick => before(k),
-        LineKind::Test => k,
-        LineKind::Leave => k,
-        LineKind::Out => k,
-        LineKind::Call => k,
-        LineKind::Back => k,
-        LineKind::Ret => k,
+        LineKind::Tick => k.saturating_sub(1),
+        LineKind::Test
+        | LineKind::Leave
+        | LineKind::Out
+        | LineKind::Call
+        | LineKind::Back
+        | LineKind::Ret => k,
     }
 }
 

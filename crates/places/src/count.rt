@@ -1,24 +1,12 @@
 // The endings of the jumps to every place of the running function, place m included.
 ghost use Rattle.std.specs.Prelude.{◌≡◌, ◌+◌, ◌*◌, ◌-◌, ◌≤◌, ◌<◌, length};
 ghost use Rattle.rules.specs.Line.{line_width};
-ghost use Rattle.rules.specs.Sweep.{counts, one, plus, total};
-ghost use Rattle.places.specs.Places.{DosIn, wide_at, Beside, lower_of, higher_of, unguarded_of, ending_at, max_count, counted_to};
+ghost use Rattle.rules.specs.Sweep.{one, plus, total};
+ghost use Rattle.places.specs.Places.{DosIn, wide_at, Beside, unguarded_of, ending_at, max_count, counted_to};
 
 use crate::wide;
 use rules::ending::{Counts, Ending};
 use rules::limits::VARIABLES;
-
-// No run is counted yet.
-pub fn nothing() -> Counts
-    ensures { result ≡ counts 0 0 0 0 }
-{
-    Counts {
-        alarms: 0,
-        same: 0,
-        other: 0,
-        unfinished: 0,
-    }
-}
 
 // One run more.
 fn add(c: Counts, e: Ending) -> Counts
@@ -28,27 +16,19 @@ fn add(c: Counts, e: Ending) -> Counts
     match e {
         Ending::Alarmed => Counts {
             alarms: c.alarms + 1,
-            same: c.same,
-            other: c.other,
-            unfinished: c.unfinished,
+            ..c
         },
         Ending::Same => Counts {
-            alarms: c.alarms,
             same: c.same + 1,
-            other: c.other,
-            unfinished: c.unfinished,
+            ..c
         },
         Ending::Other => Counts {
-            alarms: c.alarms,
-            same: c.same,
             other: c.other + 1,
-            unfinished: c.unfinished,
+            ..c
         },
         Ending::Unfinished => Counts {
-            alarms: c.alarms,
-            same: c.same,
-            other: c.other,
             unfinished: c.unfinished + 1,
+            ..c
         },
     }
 }
@@ -66,10 +46,8 @@ fn wides(
     ensures { result ≡ counted_to begun (to - from) (λ p. wide_at lines.now variables.now left (from + p)) }
 {
     let mut c = begun;
-    let mut line = from;
-    while line < to {
+    for line in from..to {
         c = add(c, wide::before_line(lines, line, variables, left));
-        line += 1;
     }
     c
 }
@@ -84,24 +62,6 @@ fn unguarded(at: u16, across: u16, narrow: Ending, begun: Counts) -> Counts
         return own;
     }
     add(own, narrow)
-}
-
-fn lower(a: u16, b: u16) -> u16
-    ensures { result ≡ lower_of a b }
-{
-    if a < b {
-        return a;
-    }
-    b
-}
-
-fn higher(a: u16, b: u16) -> u16
-    ensures { result ≡ higher_of a b }
-{
-    if a < b {
-        return b;
-    }
-    a
 }
 
 // The counts with those of the lines from `first` to `last`, which is place m. Every place is wide but the one where the run stands and the
@@ -121,8 +81,8 @@ pub fn places(
     requires { (Beside first last at across) × (last < 65535) × (line_width * last ≤ length lines.now) × (DosIn lines.now) × (total begun + (last - first) + 1 ≤ max_count) }
     ensures { result ≡ counted_to begun (last - first + 1) (λ p. ending_at lines.now last at across depth variables.now narrow left (first + p)) }
 {
-    let low = lower(at, across);
-    let high = higher(at, across);
+    let low = at.min(across);
+    let high = at.max(across);
     let before = wides(lines, first, low, variables, left, begun);
     let there = unguarded(at, across, narrow, before);
     let behind = wides(lines, high + 1, last, variables, left, there);

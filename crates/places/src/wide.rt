@@ -7,7 +7,6 @@ ghost use Rattle.places.specs.Places.{late, wide_do, wide_at, wide_last, DosIn};
 
 use line::kind::LineKind;
 use line::read;
-use rules::computed::Assigned;
 use rules::ending::Ending;
 use rules::limits::VARIABLES;
 use state::variables::compute;
@@ -43,13 +42,13 @@ pub fn before_line(lines: &[u8], line: u16, variables: &[u16; VARIABLES], left: 
     let kind = read::kind_at(lines, line);
     match kind {
         LineKind::Do => before_do(lines, line, variables, left),
-        LineKind::Tick => Ending::Alarmed,
-        LineKind::Test => Ending::Alarmed,
-        LineKind::Leave => Ending::Alarmed,
-        LineKind::Out => Ending::Alarmed,
-        LineKind::Call => Ending::Alarmed,
-        LineKind::Back => Ending::Alarmed,
-        LineKind::Ret => Ending::Alarmed,
+        LineKind::Tick
+        | LineKind::Test
+        | LineKind::Leave
+        | LineKind::Out
+        | LineKind::Call
+        | LineKind::Back
+        | LineKind::Ret => Ending::Alarmed,
     }
 }
 

@@ -25,6 +25,7 @@ fn read_back(rt: &(impl Input + Print)) {
     let mut lines = io::large_buffer();
     let mut rows = io::large_buffer();
     let mut listing = io::large_buffer();
-    let n = input::take_lines(rt, &mut chunk, &mut lines);
-    output::answer(rt, n, &lines, &mut rows, &mut listing);
+    if let Some(n) = input::take_lines(rt, &mut chunk, &mut lines) {
+        output::answer(rt, &lines[..n], &mut rows, &mut listing);
+    }
 }

@@ -17,9 +17,7 @@ use Rattle.rules.proofs.Encode.{lines-bytes-length}
 use Rattle.rules.proofs.Reading.{hardened-source, recognises}
 use Rattle.rules.proofs.Bounds.{bounds}
 use Rattle.reader.specs.Candidate.{Fronted}
-use Rattle.reader.specs.declared.Found.{Found}
-use Rattle.reader.specs.declared.Found.TheVariants.{NotHardened, Source}
-use Rattle.reader.specs.Found.{JudgedIs, FoundIs}
+use Rattle.reader.specs.Found.{Found, NotHardened, Source, JudgedIs, FoundIs}
 
 -- what a table hardens to is short
 lines-length : (rows : List ℕ) → length (hardened_bytes rows) ≡ 20 * length (harden (table_of rows))

@@ -1,5 +1,5 @@
 -- The rows that lines are read back to, as bytes.
-use Rattle.std.specs.Prelude.{ℕ, suc, ◌+◌, ◌*◌, ◌-◌, ◌/◌, ◌≤◌, ◌<◌, ◌≡◌, Bool, true, false, cond, List, ltb, length, take}
+use Rattle.std.specs.Prelude.{ℕ, suc, ◌+◌, ◌*◌, ◌-◌, ◌/◌, ◌≤◌, ◌<◌, ◌≡◌, Bool, true, false, cond, List, Option, Some, None, ltb, length, take}
 use Rattle.rules.specs.Line.{line_width, lines_in, line_at}
 use Rattle.rules.specs.Limits.{max_rows}
 use Rattle.rules.specs.Row.{row_width, table_bytes}
@@ -8,8 +8,6 @@ use Rattle.rows.specs.Row.{Added}
 use Rattle.line.specs.declared.kind.LineKind.{LineKind}
 use Rattle.line.specs.declared.kind.LineKind.TheVariants.{Do, Tick, Test, Leave, Out, Call, Back, Ret}
 use Rattle.line.specs.Read.{line_kind_at, struct_at}
-use Rattle.reader.specs.declared.candidate.Candidate.{Candidate}
-use Rattle.reader.specs.declared.candidate.Candidate.TheVariants.{TooLong, Bytes}
 use Rattle.reader.specs.Functions.{Short}
 
 abbrev pub is_leave_lem : LineKind → Bool
@@ -62,6 +60,15 @@ pub record Fronted (lines rows : List ℕ) (n : ℕ) : Type 0 where
   pub room : n ≤ 6156
   pub count_is : n ≡ length (source_bytes lines)
   pub front_is : take n rows ≡ source_bytes lines
+
+abbrev pub Candidate : Type 0
+Candidate = Option ℕ
+
+pattern abbrev pub TooLong : Candidate
+TooLong = None
+
+pattern abbrev pub Bytes : ℕ → Candidate
+Bytes n = Some n
 
 abbrev pub CandidateIs : (lines rows : List ℕ) → Candidate → Type 0
 CandidateIs lines rows TooLong = row_width * max_rows < length (source_bytes lines)

@@ -1,10 +1,18 @@
 -- What reading back finds.
-use Rattle.std.specs.Prelude.{ℕ, ◌≡◌, true, false, List, length}
+use Rattle.std.specs.Prelude.{ℕ, ◌≡◌, true, false, List, Option, Some, None, length}
 use Rattle.rules.specs.ReadBack.{source_bytes, is_hardened_lem}
 use Rattle.rules.specs.Calls.{check_hardened_call}
-use Rattle.reader.specs.declared.Found.{Found}
-use Rattle.reader.specs.declared.Found.TheVariants.{NotHardened, Source}
 use Rattle.reader.specs.Candidate.{Fronted}
+
+-- the lines are not hardened, or the source table has so many bytes
+abbrev pub Found : Type 0
+Found = Option ℕ
+
+pattern abbrev pub NotHardened : Found
+NotHardened = None
+
+pattern abbrev pub Source : ℕ → Found
+Source n = Some n
 
 -- each case's number (01, "What turns a call away"), and the length of the source table that it gives
 abbrev pub found_number : Found → ℕ

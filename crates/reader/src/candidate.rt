@@ -24,27 +24,10 @@ use rules::limits::{LINES, ROWS};
 // The bytes of the largest table.
 pub const LARGEST: usize = ROWS * Row::WIDTH;
 
-#[derive(Drop)]
-pub enum Candidate {
-    // More rows than a table may have.
-    TooLong,
-    // So many bytes of rows.
-    Bytes(usize),
-}
-
 fn is_leave(kind: LineKind) -> bool
     ensures { result ≡ is_leave_lem kind }
 {
-    match kind {
-        LineKind::Do => false,
-        LineKind::Tick => false,
-        LineKind::Test => false,
-        LineKind::Leave => true,
-        LineKind::Out => false,
-        LineKind::Call => false,
-        LineKind::Back => false,
-        LineKind::Ret => false,
-    }
+    matches!(kind, LineKind::Leave)
 }
 
 // Where a line goes.
@@ -76,19 +59,10 @@ fn test_kind(lines: &[u8], line: u16) -> u8
     ensures { result ≡ test_kind_lem lines.now line }
 {
     let go = go_of(lines, line);
-    if leaves_to(lines, line_before(go), line) {
+    if leaves_to(lines, go.saturating_sub(1), line) {
         return LOOP;
     }
     IF
-}
-
-fn line_before(line: u16) -> u16
-    ensures { result ≡ Prim.Native.Nat.◌-◌ line 1 }
-{
-    if line == 0 {
-        return 0;
-    }
-    line - 1
 }
 
 // A leave past the next line is an else's.
@@ -173,8 +147,8 @@ fn past_dos(opening: bool, lines: &[u8], line: u16, rows: &mut [u8], at: usize) 
     dos(lines, line, rows, at)
 }
 
-// The rows of all lines; of no more lines where the rows are too many already.
-pub fn read_rows(lines: &[u8], owners: &[u16; LINES + 1], rows: &mut [u8]) -> Candidate
+// The rows of all lines, by their number of bytes; none where they are more than a table may have: then no more lines are read.
+pub fn read_rows(lines: &[u8], owners: &[u16; LINES + 1], rows: &mut [u8]) -> Option<usize>
     requires { (Short lines.now) × (Numbered lines.now owners.now) × (length rows.old ≡ 6156) }
     ensures { CandidateIs lines.now rows.new result }
 {
@@ -184,7 +158,7 @@ pub fn read_rows(lines: &[u8], owners: &[u16; LINES + 1], rows: &mut [u8]) -> Ca
     let mut line: u16 = 0;
     while line < count {
         if at > LARGEST {
-            return Candidate::TooLong;
+            return None;
         }
         let next = past_dos(opening, lines, line, rows, at);
         if line < next {
@@ -197,5 +171,5 @@ pub fn read_rows(lines: &[u8], owners: &[u16; LINES + 1], rows: &mut [u8]) -> Ca
             line += 1;
         }
     }
-    Candidate::Bytes(at)
+    Some(at)
 }

@@ -16,16 +16,9 @@ fn is_pair(lines: &[u8], line: u16) -> bool
     ensures { result ≡ true → Pair lines.now line }
 {
     let count = (lines.len() / Line::WIDTH) as u16;
-    if line + 1 >= count {
-        return false;
-    }
-    let LineKind::Do = read::kind_at(lines, line) else {
-        return false;
-    };
-    let LineKind::Tick = read::kind_at(lines, line + 1) else {
-        return false;
-    };
-    true
+    line + 1 < count
+        && matches!(read::kind_at(lines, line), LineKind::Do)
+        && matches!(read::kind_at(lines, line + 1), LineKind::Tick)
 }
 
 // Puts the rows of the dos from this line on: the line behind the last of them and its tick.
@@ -35,13 +28,9 @@ pub fn dos(lines: &[u8], line: u16, rows: &mut [u8], at: usize) -> u16
 {
     let mut next = line;
     let mut to = at;
-    while to <= LARGEST {
-        if is_pair(lines, next) {
-            to = copied(DO, lines, next).write(rows, to);
-            next += 2;
-        } else {
-            return next;
-        }
+    while to <= LARGEST && is_pair(lines, next) {
+        to = copied(DO, lines, next).write(rows, to);
+        next += 2;
     }
     next
 }

@@ -12,16 +12,7 @@ use line::{Line, read};
 pub fn ends_function(kind: LineKind) -> bool
     ensures { result ≡ ends_function_lem kind }
 {
-    match kind {
-        LineKind::Do => false,
-        LineKind::Tick => false,
-        LineKind::Test => false,
-        LineKind::Leave => false,
-        LineKind::Out => false,
-        LineKind::Call => false,
-        LineKind::Back => false,
-        LineKind::Ret => true,
-    }
+    matches!(kind, LineKind::Ret)
 }
 
 // The function of the line after this one.
@@ -35,13 +26,6 @@ fn pass(lines: &[u8], line: u16, function: u16) -> u16
     function
 }
 
-fn store(words: &mut [u16], at: usize, x: u16)
-    requires { at < length words.old }
-    ensures { words.new ≡ lib.ListN.set words.old at x }
-{
-    words[at] = x;
-}
-
 // Word k becomes the function of line k; the word behind the last line's is the number of functions.
 pub fn number_lines(lines: &[u8], owners: &mut [u16])
     requires { (Short lines.now) × (length owners.old ≡ max_lines + 1) }
@@ -49,11 +33,9 @@ pub fn number_lines(lines: &[u8], owners: &mut [u16])
 {
     let count = (lines.len() / Line::WIDTH) as u16;
     let mut function: u16 = 0;
-    let mut line: u16 = 0;
-    while line < count {
-        store(owners, line as usize, function);
+    for line in 0..count {
+        owners[usize::from(line)] = function;
         function = pass(lines, line, function);
-        line += 1;
     }
-    store(owners, count as usize, function);
+    owners[usize::from(count)] = function;
 }

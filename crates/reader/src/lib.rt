@@ -3,13 +3,12 @@
 
 ghost use Rattle.std.specs.Prelude.{◌≡◌, length};
 ghost use Rattle.rules.specs.ReadBack.{is_hardened_lem};
-ghost use Rattle.rules.specs.Calls.{zeros};
 ghost use Rattle.reader.specs.Functions.{Short};
 ghost use Rattle.reader.specs.Candidate.{CandidateIs};
 ghost use Rattle.reader.specs.Found.{JudgedIs, FoundIs};
 
-use crate::candidate::Candidate;
 use line::Line;
+use rows::row::Row;
 use rules::limits::LINES;
 
 pub mod candidate;
@@ -21,66 +20,46 @@ pub mod row;
 // The bytes of the longest hardened table.
 const LONGEST: usize = LINES * Line::WIDTH;
 
-#[derive(Drop)]
-pub enum Found {
-    NotHardened,
-    // The bytes of the source table.
-    Source(usize),
-}
-
-// A word for each line and for the end of the table.
-fn line_words() -> [u16; LINES + 1] {
-    [0; LINES + 1]
-}
-
-// Room for the largest table, and for two rows more.
-pub fn row_bytes() -> [u8; 6156]
-    ensures { result ≡ zeros 6156 }
-{
-    [0; 6156]
-}
+// The bytes of the largest table, and of two rows more.
+pub const ROOM: usize = candidate::LARGEST + 2 * Row::WIDTH;
 
 // The rows that the lines are read back to. A function of its own, so that the words of the lines are gone when the rows are judged.
-fn candidate_of(lines: &[u8], rows: &mut [u8]) -> Candidate
+fn candidate_of(lines: &[u8], rows: &mut [u8]) -> Option<usize>
     requires { (Short lines.now) × (length rows.old ≡ 6156) }
     ensures { CandidateIs lines.now rows.new result }
 {
-    let mut owners = line_words();
+    let mut owners = [0; LINES + 1];
     functions::number_lines(lines, &mut owners);
     candidate::read_rows(lines, &owners, rows)
 }
 
 // The candidate is given; what it was read from is not looked at again.
-fn judge(lines: &[u8], rows: &[u8]) -> Found
+fn judge(lines: &[u8], rows: &[u8]) -> Option<usize>
     ensures { JudgedIs lines.now rows.now result }
 {
     if compare::hardens_to(rows, lines) {
-        return Found::Source(rows.len());
+        return Some(rows.len());
     }
-    Found::NotHardened
+    None
 }
 
-// Puts the source table of a hardened one at the front of `rows`.
-pub fn read(lines: &[u8], rows: &mut [u8]) -> Found
+// Puts the source table of a hardened one at the front of `rows`, and answers with its number of bytes; none where the lines are not
+// hardened.
+pub fn read(lines: &[u8], rows: &mut [u8]) -> Option<usize>
     requires { length rows.old ≡ 6156 }
     ensures { FoundIs lines.now rows.new result }
 {
     if lines.len() > LONGEST {
-        return Found::NotHardened;
+        return None;
     }
-    match candidate_of(lines, rows) {
-        Candidate::TooLong => Found::NotHardened,
-        Candidate::Bytes(n) => judge(lines, &rows[..n]),
-    }
+    let count = candidate_of(lines, rows)?;
+    judge(lines, &rows[..count])
 }
 
 // Only tells whether the bytes are a hardened table.
 pub fn is_hardened(lines: &[u8]) -> bool
     ensures { result ≡ is_hardened_lem lines.now }
 {
-    let mut rows = row_bytes();
-    match read(lines, &mut rows) {
-        Found::NotHardened => false,
-        Found::Source(_) => true,
-    }
+    let mut rows = [0; ROOM];
+    read(lines, &mut rows).is_some()
 }

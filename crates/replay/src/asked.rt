@@ -1,209 +1,124 @@
 // A line as it is read: a word, decimal numbers with spaces or commas between them, and bytes in hexadecimal.
-ghost use Rattle.std.specs.Prelude.{◌≡◌, ◌≤◌, ◌<◌, length};
-ghost use Rattle.replay.specs.Asked.{Within, Buffers};
+ghost use Rattle.std.specs.Prelude.{◌≡◌, ◌<◌, ◌≤◌, length};
+ghost use Rattle.std.specs.Option.{ForSome};
 
-#[derive(Clone, Copy)]
+use crate::call::Call;
+
+#[derive(Drop)]
 pub struct Asked {
-    // The first letter of the word; that of `hardened`, which is longer than `harden`, counts as `H`.
-    pub kind: u8,
-    pub letters: u8,
-    // How many words came before this one, and which number is being read.
-    pub word: u8,
-    pub slot: usize,
-    // The bytes so far, the value of a first digit, and whether one waits for its second.
-    pub length: usize,
-    pub high: u8,
-    pub half: bool,
+    pub call: Call,
+    // Of the first word; how many words came before this one.
+    letters: u8,
+    words: u8,
+    // A number counts up to 65,535. Which one is being read; a line has fewer than there is room for.
+    pub numbers: [u16; 32],
+    slot: usize,
+    // Bytes beyond the buffer are dropped. How many there are, and the first digit of one whose second is to come.
+    bytes: [u8; 65536],
+    length: usize,
+    half: Option<u8>,
+    ghost slot_in: { slot < 32 },
+    ghost length_in: { length ≤ 65536 },
+    ghost half_in: { ForSome half (λ d. d < 16) },
 }
 
-pub fn start() -> Asked
-    ensures { Within result }
-{
-    Asked {
-        kind: 0,
-        letters: 0,
-        word: 0,
-        slot: 0,
-        length: 0,
-        high: 0,
-        half: false,
+impl Asked {
+    pub fn new() -> Self {
+        Asked {
+            call: Call::Read,
+            letters: 0,
+            words: 0,
+            numbers: [0; 32],
+            slot: 0,
+            bytes: [0; 65536],
+            length: 0,
+            half: None,
+        }
+    }
+
+    // The next line. What an earlier one left in the buffers is not looked at.
+    pub fn begin(&mut self) {
+        self.call = Call::Read;
+        self.letters = 0;
+        self.words = 0;
+        self.slot = 0;
+        self.length = 0;
+        self.half = None;
+    }
+
+    pub fn bytes(&self) -> &[u8] {
+        &self.bytes[..self.length]
+    }
+
+    pub fn take(&mut self, b: u8) {
+        if b == b' ' {
+            self.next_word();
+        } else if self.words == 0 {
+            self.name(b);
+        } else if self.words < self.call.words_before_bytes() {
+            self.count(b);
+        } else {
+            self.spell(b);
+        }
+    }
+
+    fn next_word(&mut self) {
+        if self.words == 0 {
+            self.numbers[0] = 0;
+        } else {
+            self.next_number();
+        }
+        self.words = self.words.saturating_add(1);
+    }
+
+    // The next number begins at 0.
+    fn next_number(&mut self) {
+        if self.slot < 31 {
+            self.slot += 1;
+            self.numbers[self.slot] = 0;
+        }
+    }
+
+    fn name(&mut self, b: u8) {
+        if self.letters == 0 {
+            self.call = Call::begun(b);
+        } else if self.letters == 6 {
+            self.call = self.call.longer();
+        }
+        self.letters = self.letters.saturating_add(1);
+    }
+
+    fn count(&mut self, b: u8) {
+        if b == b',' {
+            self.next_number();
+            return;
+        }
+        let shifted = self.numbers[self.slot].saturating_mul(10);
+        self.numbers[self.slot] = shifted.saturating_add(u16::from(digit(b)));
+    }
+
+    // No bytes are written `-`.
+    fn spell(&mut self, b: u8) {
+        if b == b'-' || self.length == self.bytes.len() {
+            return;
+        }
+        match self.half {
+            None => self.half = Some(digit(b)),
+            Some(high) => {
+                self.bytes[self.length] = 16 * high + digit(b);
+                self.length += 1;
+                self.half = None;
+            }
+        }
     }
 }
 
-// The bytes stand behind this many words; a line of `total` has none.
-fn bytes_after(kind: u8) -> u8 {
-    match kind {
-        b'c' => 1,
-        b'f' => 1,
-        b'm' => 1,
-        b's' => 4,
-        b't' => 4,
-        b'w' => 5,
-        b'o' => 5,
-        b'H' => 7,
-        _ => 2,
-    }
-}
-
-pub fn take(b: u8, s: Asked, bytes: &mut [u8], numbers: &mut [u16]) -> Asked
-    requires { (Buffers bytes.old numbers.old) × (Within s) }
-    ensures { Within result }
-{
-    if b == b' ' {
-        return next_word(s, numbers);
-    }
-    if s.word == 0 {
-        return named(b, s);
-    }
-    if s.word < bytes_after(s.kind) {
-        return counted(b, s, numbers);
-    }
-    spelt(b, s, bytes)
-}
-
-fn one_more(word: u8) -> u8 {
-    if word < 9 {
-        return word + 1;
-    }
-    word
-}
-
-fn next_word(s: Asked, numbers: &mut [u16]) -> Asked
-    requires { (length numbers.old ≡ 32) × (Within s) }
-    ensures { Within result }
-{
-    let mut next = s;
-    next.word = one_more(s.word);
-    if s.word == 0 {
-        put(numbers, 0, 0);
-        return next;
-    }
-    next.slot = next_slot(s.slot, numbers);
-    next
-}
-
-// The next number begins at 0. A line has fewer numbers than there are slots.
-fn next_slot(slot: usize, numbers: &mut [u16]) -> usize
-    requires { (length numbers.old ≡ 32) × (slot < 32) }
-    ensures { result < 32 }
-{
-    if slot == 31 {
-        return 31;
-    }
-    put(numbers, slot + 1, 0);
-    slot + 1
-}
-
-// The first letter stays.
-fn named(b: u8, s: Asked) -> Asked
-    requires { Within s }
-    ensures { Within result }
-{
-    let mut next = s;
-    if s.letters == 0 {
-        next.kind = b;
-        next.letters = 1;
-        return next;
-    }
-    if s.letters == 6 {
-        next.kind = long(s.kind);
-        return next;
-    }
-    next.letters = s.letters + 1;
-    next
-}
-
-// A word of more than six letters.
-fn long(kind: u8) -> u8 {
-    if kind == b'h' {
-        return b'H';
-    }
-    kind
-}
-
-fn figure(b: u8) -> u32
-    ensures { result < 16 }
-{
-    nibble(b) as u32
-}
-
-fn wide(x: u16) -> u32
-    ensures { result < 65536 }
-{
-    x as u32
-}
-
-// A number as a length.
-pub fn size(x: u16) -> usize
-    ensures { result < 65536 }
-{
-    x as usize
-}
-
-// A number above 65,535 counts as that.
-fn narrow(x: u32) -> u16 {
-    if x > 65535 {
-        return 65535;
-    }
-    x as u16
-}
-
-fn put(words: &mut [u16], at: usize, x: u16)
-    requires { at < length words.old }
-{
-    words[at] = x;
-}
-
-fn counted(b: u8, s: Asked, numbers: &mut [u16]) -> Asked
-    requires { (length numbers.old ≡ 32) × (Within s) }
-    ensures { Within result }
-{
-    let mut next = s;
-    if b == b',' {
-        next.slot = next_slot(s.slot, numbers);
-        return next;
-    }
-    let k = s.slot;
-    let x = wide(numbers[k]);
-    put(numbers, k, narrow(x * 10 + figure(b)));
-    next
-}
-
-fn nibble(b: u8) -> u8
+fn digit(b: u8) -> u8
     ensures { result < 16 }
 {
     match b {
-        48..=57 => b - 48,
-        97..=102 => b - 87,
+        b'0'..=b'9' => b - b'0',
+        b'a'..=b'f' => b - b'a' + 10,
         _ => 0,
     }
-}
-
-fn store(bytes: &mut [u8], at: usize, x: u8)
-    requires { at < length bytes.old }
-{
-    bytes[at] = x;
-}
-
-// No bytes are written `-`. Bytes beyond the buffer are dropped.
-fn spelt(b: u8, s: Asked, bytes: &mut [u8]) -> Asked
-    requires { (length bytes.old ≡ 65536) × (Within s) }
-    ensures { Within result }
-{
-    let mut next = s;
-    if b == b'-' {
-        return next;
-    }
-    if s.length >= 65536 {
-        return next;
-    }
-    if s.half {
-        store(bytes, s.length, 16 * s.high + nibble(b));
-        next.length = s.length + 1;
-        next.half = false;
-        return next;
-    }
-    next.high = nibble(b);
-    next.half = true;
-    next
 }

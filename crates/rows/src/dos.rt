@@ -4,10 +4,10 @@ ghost use Rattle.rules.specs.declared.kind.Kind.{Kind};
 ghost use Rattle.rows.specs.First.{first_kind_lem};
 ghost use Rattle.rows.specs.Dos.{is_do_lem, DosAre};
 
+use crate::WIDTH;
 use crate::first::operands;
 use crate::fits::do_uses;
 use crate::kind::DO;
-use crate::{LAST, WIDTH};
 
 // The row that the bytes begin with is a do, and its fields are as a do uses them.
 fn is_do(rows: &[u8]) -> bool
@@ -23,14 +23,12 @@ pub fn dos(rows: &[u8]) -> usize
     requires { (5 < length rows.now) × (first_kind_lem rows.now ≡ Kind.Do) }
     ensures { DosAre rows.now result }
 {
-    let mut at = 1;
-    while WIDTH * at + LAST < rows.len() {
+    let count = rows.len() / WIDTH;
+    for at in 1..count {
         let from = WIDTH * at;
-        if is_do(&rows[from..]) {
-            at += 1;
-        } else {
+        if !is_do(&rows[from..]) {
             return at;
         }
     }
-    at
+    count
 }

@@ -5,7 +5,7 @@ ghost use Rattle.rules.specs.Given.{uses_switch_lem};
 ghost use Rattle.rows.specs.First.{first_kind_lem, calls_beyond_lem};
 
 use crate::fits::{fields_fit, uses_switch};
-use crate::kind::{is_call, kind_of};
+use crate::kind::is_call;
 use rules::bytes::word;
 use rules::kind::Kind;
 use rules::operands::Operands;
@@ -16,7 +16,7 @@ pub fn kind(rows: &[u8]) -> Kind
     requires { 5 < length rows.now }
     ensures { result ≡ (row_in rows.now 0).kind }
 {
-    kind_of(rows[0])
+    Kind::from(rows[0])
 }
 
 // What the row that the bytes begin with has beside its kind.

@@ -1,4 +1,4 @@
-// A row as its six bytes: read from the front of some bytes, and put behind the rows before it.
+// A row as its six bytes, whatever they say: read from the front of some bytes, and put behind the rows before it.
 ghost use Rattle.std.specs.Prelude.{◌≡◌, ◌+◌, ◌≤◌, ◌<◌, length};
 ghost use Rattle.rows.specs.Row.{six, bare_row, read_row, test_row, Added};
 

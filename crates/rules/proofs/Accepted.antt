@@ -1,5 +1,5 @@
 -- What "this table is accepted" says of each of its rows. Assumes nothing.
-use mathlib.Core.Logic.{◌⊎◌, inl, inr, ◌≢◌}
+use mathlib.Core.Logic.{◌⊎◌, inl, inr}
 use mathlib.Core.Path.{◌≡◌, refl, sym, ap, ◌∙◌}
 use mathlib.Core.Bool.{Bool, true, false}
 use mathlib.Core.List.{List, [], ◌∷◌}
@@ -17,7 +17,8 @@ use Rattle.rules.specs.Row.{Table, table_of, rows_from, row_width, kind_at, oper
 use Rattle.rules.specs.Scan.{Open, open_at}
 use Rattle.rules.specs.Refusal.{refuse_if_lem, and_then, is_accepted}
 use Rattle.rules.specs.Check.{no_whole_rows, too_many_rows, wrong_field, is_outside, misplaced_in, misplaced, left_open_lem, too_many_functions, too_many_parts, no_such_function, row_verdict, rows_verdict, calls_verdict, table_verdict, verdict_of}
-use Rattle.rules.proofs.Logic.{clash, or_left, or_right, not-false}
+use Rattle.std.proofs.lemmas.Bool.{not-false, or_parts}
+use Rattle.rules.proofs.Logic.{clash}
 
 -- what one row of an accepted table is
 pub record ProperRow (t : Table) (i : ℕ) : Type 0 where
@@ -130,14 +131,11 @@ proper-bytes bs e =
 
 -- whole rows, and at least one
 pub whole-rows : (bs : List ℕ) → no_whole_rows bs ≡ false → (0 < length bs / row_width) × (row_width * (length bs / row_width) ≡ length bs)
-whole-rows bs h = let n = by (eqb-false _ _ (or_left (eqb (length bs) 0) _ h)) in
+whole-rows bs h = let n = eqb-false _ _ (or_parts (eqb (length bs) 0) _ h).0 in
     (omega (arith, n, r), omega (arith, r))
   where
-    by : (length bs ≡ 0 → ⊥) → length bs ≢ 0
-    by x = x
-
     r : length bs % row_width ≡ 0
-    r = eqb-true _ _ (not-false _ (or_right (eqb (length bs) 0) _ h))
+    r = eqb-true _ _ (not-false _ (or_parts (eqb (length bs) 0) _ h).1)
 
 table-causes : (v w : Verdict) (b : Bool) → and_then v (and_then (refuse_if_lem b Misplaced) w) ≡ Accepted → (v ≡ Accepted) × (b ≡ false) × (w ≡ Accepted)
 table-causes (Refused r) w b e = refused-not e

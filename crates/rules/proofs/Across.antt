@@ -143,7 +143,7 @@ module _ (t : Table) where
       by false e = clash (tick_after z e) n
 
   guard_upto : (x y : ℕ) → is_tick (line_at (harden t) x) ≡ false → y < x → guard_between (harden t) x y ≡ true
-  guard_upto zero y n l = absurd (let z : ⊥ = omega arith in z)
+  guard_upto zero y n l = absurd (omega arith)
   guard_upto (suc z) y n l = wide (harden t) (suc z) y (down z (omega arith) (omega arith) (guard_below z n))
 
   guard_from : (x y : ℕ) → is_guard (line_at (harden t) x) ≡ true → x < y → guard_between (harden t) x y ≡ true

@@ -12,7 +12,8 @@ use Rattle.rules.specs.Row.{Table, kind_at}
 use Rattle.rules.specs.Line.{Line, line_at, is_guard}
 use Rattle.rules.specs.Harden.{line_of, row_lines, harden}
 use Rattle.rules.specs.Match.{guard_from_lem, guard_between}
-use Rattle.rules.proofs.Logic.{clash, or-first, or-second}
+use Rattle.std.proofs.lemmas.Bool.{or_left, or_right}
+use Rattle.rules.proofs.Logic.{clash}
 use Rattle.rules.proofs.Harden.{line-at}
 
 pub data Between (ls : List Line) (a b : ℕ) : Type 0 where
@@ -50,16 +51,16 @@ between ls a b e = by (guard_from_lem ls a (b - a)) refl e
 -- and back: a guard in either direction lies between
 guard-there : (ls : List Line) (k d x : ℕ) → k ≤ x → x < k + d → is_guard (line_at ls x) ≡ true → guard_from_lem ls k d ≡ true
 unfolding guard_from_lem
-guard-there ls k zero x a b g = absurd (let z : ⊥ = omega arith in z)
+guard-there ls k zero x a b g = absurd (omega arith)
 guard-there ls k (suc d) x a b g = by (eq-or-lt_of_le a) (λ l. guard-there ls (suc k) d x l (omega arith) g)
   where
     by : (k ≡ x) ⊎ (k < x) → (k < x → guard_from_lem ls (suc k) d ≡ true) → is_guard (line_at ls k) || guard_from_lem ls (suc k) d ≡ true
-    by (inl e) ih = or-first (is_guard (line_at ls k)) (guard_from_lem ls (suc k) d) (ap (λ y. is_guard (line_at ls y)) e ∙ g)
-    by (inr l) ih = or-second (is_guard (line_at ls k)) (ih l)
+    by (inl e) ih = or_left (is_guard (line_at ls k)) (guard_from_lem ls (suc k) d) (ap (λ y. is_guard (line_at ls y)) e ∙ g)
+    by (inr l) ih = or_right (is_guard (line_at ls k)) _ (ih l)
 
 pub wide : (ls : List Line) (a b : ℕ) → Between ls a b → guard_between ls a b ≡ true
-wide ls a b (up x p q g) = or-first (guard_from_lem ls a (b - a)) (guard_from_lem ls b (a - b)) (guard-there ls a (b - a) x p (omega arith) g)
-wide ls a b (down x p q g) = or-second (guard_from_lem ls a (b - a)) (guard-there ls b (a - b) x p (omega arith) g)
+wide ls a b (up x p q g) = or_left (guard_from_lem ls a (b - a)) (guard_from_lem ls b (a - b)) (guard-there ls a (b - a) x p (omega arith) g)
+wide ls a b (down x p q g) = or_right (guard_from_lem ls a (b - a)) _ (guard-there ls b (a - b) x p (omega arith) g)
 
 pub not_same : (ls : List Line) (a b : ℕ) → a ≡ b → Between ls a b → ⊥
 not_same ls a b e (up x p q g) = omega arith

@@ -2,7 +2,7 @@
 use mathlib.Core.Path.{◌≡◌, refl, sym, ap, ◌∙◌, subst}
 use mathlib.Core.Bool.{true, false}
 use mathlib.Core.List.{List, [], ◌∷◌}
-use Prim.Native.Nat.{ℕ, zero, suc, ◌+◌, ◌≤◌, ◌<◌}
+use Prim.Native.Nat.{ℕ, zero, suc, ◌+◌, ◌<◌}
 use native.Mathlib.Nat.{le_refl, not-suc-le-zero}
 use native.Mathlib.Omega.{arith}
 use lib.ListN.{length}
@@ -15,7 +15,8 @@ use Rattle.rules.specs.Line.{line_at}
 use Rattle.rules.specs.Harden.{line_count, line_of, row_lines, harden}
 use Rattle.rules.specs.Function.{function_at}
 use Rattle.rules.specs.Bounds.{Word, LineIn, Fits, Within, Bounds}
-use Rattle.rules.proofs.Logic.{clash, not-false}
+use Rattle.std.proofs.lemmas.Bool.{not-false}
+use Rattle.rules.proofs.Logic.{clash}
 use Rattle.rules.proofs.Accepted.{Proper, proper}
 use Rattle.rules.proofs.Harden.{line-at}
 use Rattle.rules.proofs.Function.{placed-in, InFunction, formed-here, some-function, entry}
@@ -30,9 +31,6 @@ use Rattle.rules.proofs.LineBound.{own-region, own_value, line-two, line_after, 
 module _ (t : Table) (ok : Proper t) (words : (i : ℕ) → i < length t → Word (operands_at t i).n) where
   fits-as : (i : ℕ) (k : Kind) → i < length t → kind_at t i ≡ k → fields_fit_lem k (operands_at t i) ≡ true
   fits-as i k l e = sym (ap (λ x. fields_fit_lem x (operands_at t i)) e) ∙ (ok.rows i l).fits
-
-  too_many : {A : Type 0} (x c : ℕ) → c ≤ x → x < c → A
-  too_many x c a b = absurd (let z : ⊥ = omega arith in z)
 
   row_fits : (n i : ℕ) (f : Open) (fs : List Open) → InFunction t n i f fs → (k : Kind) → kind_at t i ≡ k → (ph : ℕ) → ph < line_count k
       → Fits (harden t) n (line_of t i + ph) (line_at (row_lines t i (f ∷ fs) k) ph)
@@ -49,31 +47,31 @@ module _ (t : Table) (ok : Proper t) (words : (i : ℕ) → i < length t → Wor
     omega (arith, own_value t ok n i f fs m),
     line_after t ok n i f fs m Do 1 e refl refl,
   )
-  row_fits n i f fs m Do e (suc (suc x)) l = too_many (suc (suc x)) 2 (omega arith) l
+  row_fits n i f fs m Do e (suc (suc x)) l = absurd (omega arith)
   row_fits n i f fs m If e zero l =
       test_fits t ok n i f fs m (has_else t i) then_part If e refl refl refl (λ u. u)
       (test_fields (operands_at t i) (fits-as i If m.within e) (words i m.within))
-  row_fits n i f fs m If e (suc x) l = too_many (suc x) 1 (omega arith) l
+  row_fits n i f fs m If e (suc x) l = absurd (omega arith)
   row_fits n i f [] m Else e zero l =
       clash (ap is_then (sym (formed-here t ok m).0) ∙ not-false _ (placed-in t ok i m.within e m.open_is)) refl
   row_fits n i f (h ∷ hs) m Else e zero l = else-fits t ok n i f h hs m
-  row_fits n i f fs m Else e (suc x) l = too_many (suc x) 1 (omega arith) l
+  row_fits n i f fs m Else e (suc x) l = absurd (omega arith)
   row_fits n i f fs m Loop e zero l =
       test_fits t ok n i f fs m false loop_body Loop e refl refl refl (λ u. clash u refl)
       (test_fields (operands_at t i) (fits-as i Loop m.within e) (words i m.within))
-  row_fits n i f fs m Loop e (suc x) l = too_many (suc x) 1 (omega arith) l
+  row_fits n i f fs m Loop e (suc x) l = absurd (omega arith)
   row_fits n i f [] m End e zero l = ret-fits t ok n i f m e
   row_fits n i f (h ∷ hs) m End e zero l = end_fits t ok n i f h hs m e f.part (formed-here t ok m).0
-  row_fits n i f fs m End e (suc x) l = too_many (suc x) 1 (omega arith) l
+  row_fits n i f fs m End e (suc x) l = absurd (omega arith)
   row_fits n i f fs m Break e zero l =
       break-fits t ok n i f fs m (loop-around t ok i (omega (arith, m.within)) m.open_is (placed-in t ok i m.within e m.open_is))
-  row_fits n i f fs m Break e (suc x) l = too_many (suc x) 1 (omega arith) l
+  row_fits n i f fs m Break e (suc x) l = absurd (omega arith)
   row_fits n i f fs m Continue e zero l =
       continue-fits t ok n i f fs m (loop-around t ok i (omega (arith, m.within)) m.open_is (placed-in t ok i m.within e m.open_is))
-  row_fits n i f fs m Continue e (suc x) l = too_many (suc x) 1 (omega arith) l
+  row_fits n i f fs m Continue e (suc x) l = absurd (omega arith)
   row_fits n i f fs m Call e zero l = call_fits t ok n i f fs m e
   row_fits n i f fs m Call e (suc zero) l = back_fits t ok n i f fs m e
-  row_fits n i f fs m Call e (suc (suc x)) l = too_many (suc (suc x)) 2 (omega arith) l
+  row_fits n i f fs m Call e (suc (suc x)) l = absurd (omega arith)
   row_fits n i f fs m Unknown e ph l = absurd (not-suc-le-zero l)
 
   line-inside : (n k : ℕ) → LineOf t n k → LineIn (harden t) n k

@@ -2,7 +2,7 @@
 -- Assumes that the table is accepted, where it says so.
 use mathlib.Core.Logic.{◌≢◌, ◌⊎◌, inl, inr}
 use mathlib.Core.Path.{◌≡◌, refl, sym, ap, ◌∙◌, subst}
-use mathlib.Core.Bool.{Bool, true, false, ◌&&◌}
+use mathlib.Core.Bool.{true, false, and-false}
 use mathlib.Core.List.{List, [], ◌∷◌}
 use Prim.Native.Nat.{ℕ, suc, ◌+◌, ◌-◌, ◌≤◌, ◌<◌}
 use native.Mathlib.Nat.{le_refl, eq-or-lt_of_le}
@@ -70,10 +70,6 @@ pub record EndIs (t : Table) (i j : ℕ) : Type 0 where
 
 not-end-outside : (t : Table) (i j : ℕ) → open_at t j ≡ [] → is_end_of t i j ≡ false
 not-end-outside t i j q = rw q (and-false (is_end_lem (kind_at t j)))
-  where
-    and-false : (b : Bool) → b && false ≡ false
-    and-false true = refl
-    and-false false = refl
 
 pub end_is : (t : Table) (i : ℕ) (p : Part) → Proper t → i < length t → shape_of (kind_at t i) ≡ pushes p → EndIs t i (end_of t i)
 unfolding end_of
@@ -168,7 +164,7 @@ else_is t i l c = by (else_of t i) (ltb-true (else_of t i) (length t) c) (found 
   where
     by : (r : ℕ) → r < length t → Found (is_else_of t i) (length t - i) (suc i) r → Turned t i r
     by r b (hit h a d f) = turned_is t i r h
-    by r b (miss q f) = absurd (let z : ⊥ = omega arith in z)
+    by r b (miss q f) = absurd (omega arith)
 
 -- ---- what opened a part that is closed does not come back
 abbrev pub NoOpener : ℕ → List Open → Type 0

@@ -15,14 +15,16 @@ use Rattle.rules.specs.Bytes.{AreBytes, same}
 use Rattle.rules.specs.Row.{Row, Table, kind_of, kind_byte, row_in, rows_from, table_of, row_bytes, table_bytes, row_width, kind_at}
 use Rattle.rules.specs.Check.{no_whole_rows}
 use Rattle.rules.specs.Line.{Line, do_line, tick_line, test_line, leave_line, out_line, call_line, back_line, ret_line, line_width, line_bytes, lines_bytes, line_in_lem, lines_from, lines_in}
-use Rattle.rules.proofs.Logic.{clash, and_left, and_right, and_both}
+use Rattle.std.proofs.Math.Nat.{mod-add-div}
+use Rattle.std.proofs.lemmas.Bool.{and_from}
+use Rattle.rules.proofs.Logic.{clash, and_left, and_right}
 use Rattle.rules.proofs.Accepted.{table-length, whole-rows}
 
 -- ---- the test that two lists are the same
 pub same_refl : (xs : List ℕ) → same xs xs ≡ true
 unfolding same
 same_refl [] = refl
-same_refl (x ∷ xs) = and_both (eq-eqb x x refl) (same_refl xs)
+same_refl (x ∷ xs) = and_from _ _ (eq-eqb x x refl) (same_refl xs)
 
 pub same-is : (xs ys : List ℕ) → same xs ys ≡ true → xs ≡ ys
 unfolding same
@@ -32,10 +34,7 @@ same-is (x ∷ xs) [] e = clash e refl
 same-is (x ∷ xs) (y ∷ ys) e =
     ap (λ z. z ∷ xs) (eqb-true x y (and_left _ _ e)) ∙ ap (λ zs. y ∷ zs) (same-is xs ys (and_right (eqb x y) _ e))
 
--- ---- a word from its two bytes, and two bytes from their word
-word : (n : ℕ) → n % 256 + 256 * (n / 256) ≡ n
-word n = omega arith
-
+-- ---- the two bytes of a word
 pub word_low : (a b : ℕ) → a < 256 → (a + 256 * b) % 256 ≡ a
 word_low a b h = omega arith
 
@@ -104,7 +103,7 @@ table-bytes-length (r ∷ t) = length-append (row_bytes r) (table_bytes t) ∙ o
 
 row_of : (r : Row) (bs : List ℕ) → row_in (row_bytes r ++ bs) 0 ≡ r
 unfolding row_in row_bytes
-row_of r bs = rw (kind-of r.kind, word r.operands.n)
+row_of r bs = rw (kind-of r.kind, mod-add-div r.operands.n 256)
 
 rows_of : (t : Table) → rows_from (table_bytes t) 0 (length t) ≡ t
 unfolding rows_from table_bytes
@@ -153,14 +152,14 @@ lines-bytes-length (l ∷ ls) = length-append (line_bytes l) (lines_bytes ls) �
 
 line_in : (l : Line) (bs : List ℕ) → line_in_lem (line_bytes l ++ bs) 0 ≡ l
 unfolding line_in_lem line_bytes
-line_in (do_line o e) bs = simp word
-line_in (tick_line r e a) bs = simp word
-line_in (test_line o r s t e a b c go) bs = simp word
-line_in (leave_line r s e a b go) bs = simp word
-line_in (out_line r s t e a go) bs = simp word
-line_in (call_line r e a b go) bs = simp word
-line_in (back_line r e a b) bs = simp word
-line_in (ret_line e a) bs = simp word
+line_in (do_line o e) bs = simp mod-add-div
+line_in (tick_line r e a) bs = simp mod-add-div
+line_in (test_line o r s t e a b c go) bs = simp mod-add-div
+line_in (leave_line r s e a b go) bs = simp mod-add-div
+line_in (out_line r s t e a go) bs = simp mod-add-div
+line_in (call_line r e a b go) bs = simp mod-add-div
+line_in (back_line r e a b) bs = simp mod-add-div
+line_in (ret_line e a) bs = simp mod-add-div
 
 lines-from : (ls : List Line) → lines_from (lines_bytes ls) 0 (length ls) ≡ ls
 unfolding lines_from lines_bytes
@@ -185,13 +184,13 @@ bytes-from : (n : ℕ) (bs : List ℕ) → length bs ≡ row_width * n → AreBy
     → table_bytes (rows_from bs 0 n) ≡ bs
 unfolding table_bytes rows_from row_in
 bytes-from zero [] h w k = refl
-bytes-from zero (a ∷ bs) h w k = absurd (let z : ⊥ = omega arith in z)
-bytes-from (suc n) [] h w k = absurd (let z : ⊥ = omega arith in z)
-bytes-from (suc n) (a ∷ []) h w k = absurd (let z : ⊥ = omega arith in z)
-bytes-from (suc n) (a ∷ b ∷ []) h w k = absurd (let z : ⊥ = omega arith in z)
-bytes-from (suc n) (a ∷ b ∷ c ∷ []) h w k = absurd (let z : ⊥ = omega arith in z)
-bytes-from (suc n) (a ∷ b ∷ c ∷ d ∷ []) h w k = absurd (let z : ⊥ = omega arith in z)
-bytes-from (suc n) (a ∷ b ∷ c ∷ d ∷ e ∷ []) h w k = absurd (let z : ⊥ = omega arith in z)
+bytes-from zero (a ∷ bs) h w k = absurd (omega arith)
+bytes-from (suc n) [] h w k = absurd (omega arith)
+bytes-from (suc n) (a ∷ []) h w k = absurd (omega arith)
+bytes-from (suc n) (a ∷ b ∷ []) h w k = absurd (omega arith)
+bytes-from (suc n) (a ∷ b ∷ c ∷ []) h w k = absurd (omega arith)
+bytes-from (suc n) (a ∷ b ∷ c ∷ d ∷ []) h w k = absurd (omega arith)
+bytes-from (suc n) (a ∷ b ∷ c ∷ d ∷ e ∷ []) h w k = absurd (omega arith)
 bytes-from (suc n) (a ∷ b ∷ c ∷ d ∷ e ∷ f ∷ bs) h w k =
     let s : rows_from (a ∷ b ∷ c ∷ d ∷ e ∷ f ∷ bs) 1 n ≡ rows_from bs 0 n = rows-shift (a ∷ b ∷ c ∷ d ∷ e ∷ f ∷ []) bs 0 n refl in
     ap (λ rs. row_bytes (row_in (a ∷ b ∷ c ∷ d ∷ e ∷ f ∷ bs) 0) ++ table_bytes rs) s

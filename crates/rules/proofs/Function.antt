@@ -1,5 +1,5 @@
 -- The functions of an accepted table: the row that opens each, the row that ends it, and the rows between.
-use mathlib.Core.Logic.{◌≢◌, ◌⊎◌, inl, inr}
+use mathlib.Core.Logic.{◌⊎◌, inl, inr}
 use mathlib.Core.Path.{◌≡◌, refl, sym, ap, ◌∙◌, subst}
 use mathlib.Core.Bool.{Bool, true, false, not, cond, ◌&&◌}
 use mathlib.Core.List.{List, [], ◌∷◌}
@@ -16,7 +16,8 @@ use Rattle.rules.specs.Row.{Table, kind_at, operands_at, fields_fit_lem}
 use Rattle.rules.specs.Scan.{Part, body, then_part, else_part, loop_body, Open, shape_of, turned, open_after_lem, regions, open_at, body_region, is_function_lem, functions, function_count, function_row, end_of}
 use Rattle.rules.specs.Value.{past, takes}
 use Rattle.rules.specs.Check.{is_then, misplaced_in, is_call}
-use Rattle.rules.proofs.Logic.{clash, and_left, and_right, not-false}
+use Rattle.std.proofs.lemmas.Bool.{not-false}
+use Rattle.rules.proofs.Logic.{clash, and_left, and_right}
 use Rattle.rules.proofs.Search.{Found, hit, miss, found, first-now}
 use Rattle.rules.proofs.Accepted.{Proper, outside-nil}
 use Rattle.rules.proofs.Scan.{origin, NotIn, gone-later, gone-after, by_close, not-closing, open_next}
@@ -144,11 +145,8 @@ unfolding functions
 no_function t n zero h = omega arith
 no_function t n (suc m) h = by (is_function_lem (kind_at t m)) (h m (le_refl _)) (no_function t n m (λ i l. h i (omega arith)))
   where
-    ne : (functions t m ≡ n → ⊥) → functions t m ≢ n
-    ne x = x
-
     by : (b : Bool) → b && eqb (functions t m) n ≡ false → functions t m ≤ n → cond b (suc (functions t m)) (functions t m) ≤ n
-    by true e l = omega (arith, ne (eqb-false (functions t m) n e))
+    by true e l = omega (arith, eqb-false (functions t m) n e)
     by false e l = l
 
 pub is-function : (k : Kind) → is_function_lem k ≡ true → k ≡ Function
@@ -189,10 +187,7 @@ function-at t ok n l = by (function_row t n) (found (λ i. is_function_lem (kind
   where
     by : (o : ℕ) → Found (λ i. is_function_lem (kind_at t i) && eqb (functions t i) n) (length t) 0 o → FunctionAt t n o
     by o (hit e a b f) = function-from t ok n o (omega arith) e
-    by o (miss q f) = absurd (bad (no_function t n (length t) (λ i b. f i (omega arith) (omega arith))))
-      where
-        bad : function_count t ≤ n → ⊥
-        bad x = omega arith
+    by o (miss q f) = absurd (omega (arith, no_function t n (length t) (λ i b. f i (omega arith) (omega arith))))
 
 -- function 0 opens at row 0
 pub row_zero : (t : Table) → Proper t → kind_at t 0 ≡ Function
@@ -331,10 +326,7 @@ somewhere-next t ok n j f fs m l If e = record { top = _; others = f ∷ fs; in_
 somewhere-next t ok n j f [] m l Else e = record { top = _; others = []; in_function = move-to t ok m (suc j) m.within (open_next t j e m.open_is) refl }
 somewhere-next t ok n j f (h ∷ hs) m l Else e = record { top = _; others = h ∷ hs; in_function = move-to t ok m (suc j) m.within (open_next t j e m.open_is) refl }
 somewhere-next t ok n j f fs m l Loop e = record { top = _; others = f ∷ fs; in_function = move-to t ok m (suc j) m.within (open_next t j e m.open_is) refl }
-somewhere-next t ok n j f [] m l End e = absurd (bad (end_same t ok m e))
-  where
-    bad : j ≡ end_of t (function_row t n) → ⊥
-    bad x = omega arith
+somewhere-next t ok n j f [] m l End e = absurd (omega (arith, end_same t ok m e))
 somewhere-next t ok n j f (h ∷ hs) m l End e = record { top = h; others = hs; in_function = move-to t ok m (suc j) m.within (open_next t j e m.open_is) refl }
 somewhere-next t ok n j f fs m l Break e = record { top = f; others = fs; in_function = move-to t ok m (suc j) m.within (open_next t j e m.open_is) refl }
 somewhere-next t ok n j f fs m l Continue e = record { top = f; others = fs; in_function = move-to t ok m (suc j) m.within (open_next t j e m.open_is) refl }

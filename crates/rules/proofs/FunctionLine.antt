@@ -53,13 +53,10 @@ all_held t i q = subst (AllHeld t i) q (held t i)
 lower : (t : Table) (o m : ℕ) → m < o → is_function_lem (kind_at t m) && eqb (functions t m) (functions t o) ≡ false
 lower t o m l = by (is_function_lem (kind_at t m)) refl
   where
-    less_not : {x y : ℕ} → suc x ≤ y → x ≡ y → ⊥
-    less_not a b = omega arith
-
     by : (b : Bool) → is_function_lem (kind_at t m) ≡ b → b && eqb (functions t m) (functions t o) ≡ false
     by true e =
         ne_eqb (functions t m) (functions t o)
-        (less_not (omega (arith, functions-mono t {i = suc m} o l, functions-next t m refl, ap (λ b. cond {A = ℕ} b (suc (functions t m)) (functions t m)) e)))
+        (λ q. omega (arith, functions-mono t {i = suc m} o l, functions-next t m refl, ap (λ b. cond {A = ℕ} b (suc (functions t m)) (functions t m)) e))
     by false e = refl
 
 pub row-of-function : (t : Table) (o : ℕ) → o < length t → kind_at t o ≡ Function → function_row t (functions t o) ≡ o
@@ -151,10 +148,7 @@ placed t ok k l = by (open_at t s.row) refl
     s = locate t (length t) k (omega (arith, lines_all t))
 
     by : (fs : List Open) → open_at t s.row ≡ fs → Placed t k
-    by [] q = absurd (no_line (opens-function t ok s.row s.row_lt q))
-      where
-        no_line : kind_at t s.row ≡ Function → ⊥
-        no_line e = omega (arith, s.ph_lt, ap line_count e)
+    by [] q = absurd (omega (arith, s.ph_lt, ap line_count (opens-function t ok s.row s.row_lt q)))
     by (f ∷ fs) q =
         let n = in-some-function t ok s.row f fs s.row_lt q in
         record {

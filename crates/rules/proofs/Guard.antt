@@ -80,36 +80,27 @@ end-guard t j f fs g e loop_body q = plain-guard t j f fs _ e refl refl refl ref
 pub tick-guards : (t : Table) (j : ℕ) (f : Open) (fs : List Open) → kind_at t j ≡ Do → Guards t j f fs 1 0 (tick_line (own_region (f ∷ fs)) (value t f.region j) (value t f.region j + 1))
 tick-guards t j f fs e = record { guards = refl; at_own = refl; for_value = omega arith; within = omega arith; at_opener = λ p. below-inside 0 (omega arith); phase = sym (ap (λ x. cond {A = ℕ} (is_do_lem x) 1 0) e) }
 
-beyond : {A : Type 0} (c ph : ℕ) → c ≤ 1 → suc ph < c → A
-beyond c ph a h = absurd (let z : ⊥ = omega arith in z)
-
-beyond-two : {A : Type 0} (ph : ℕ) → suc (suc ph) < 2 → A
-beyond-two ph h = absurd (let z : ⊥ = omega arith in z)
-
 -- every line of a row
 pub sort : (t : Table) (j : ℕ) (f : Open) (fs : List Open) → Formed t (f ∷ fs) → (k : Kind) → kind_at t j ≡ k → (ph : ℕ) → ph < line_count k → Sort t j f fs ph (line_at (row_lines t j (f ∷ fs) k) ph)
 unfolding row_lines
 sort t j f fs g Function e ph h = absurd (not-suc-le-zero h)
 sort t j f fs g Do e zero h = a_do e refl refl
 sort t j f fs g Do e (suc zero) h = a_guard 0 (tick-guards t j f fs e)
-sort t j f fs g Do e (suc (suc ph)) h = beyond-two ph h
+sort t j f fs g Do e (suc (suc ph)) h = absurd (omega arith)
 sort t j f fs g If e zero h = test-guard t j f fs e refl (has_else t j)
-sort t j f fs g If e (suc ph) h = beyond 1 ph (omega arith) h
+sort t j f fs g If e (suc ph) h = absurd (omega arith)
 sort t j f fs g Else e zero h = plain-guard t j f fs _ e refl refl refl refl
-sort t j f fs g Else e (suc ph) h = beyond 1 ph (omega arith) h
+sort t j f fs g Else e (suc ph) h = absurd (omega arith)
 sort t j f fs g Loop e zero h = test-guard t j f fs e refl false
-sort t j f fs g Loop e (suc ph) h = beyond 1 ph (omega arith) h
+sort t j f fs g Loop e (suc ph) h = absurd (omega arith)
 sort t j f fs g End e zero h = end-guard t j f fs g e f.part refl
-sort t j f fs g End e (suc ph) h = beyond 1 ph (omega arith) h
+sort t j f fs g End e (suc ph) h = absurd (omega arith)
 sort t j f fs g Break e zero h = plain-guard t j f fs _ e refl refl refl refl
-sort t j f fs g Break e (suc ph) h = beyond 1 ph (omega arith) h
+sort t j f fs g Break e (suc ph) h = absurd (omega arith)
 sort t j f fs g Continue e zero h = plain-guard t j f fs _ e refl refl refl refl
-sort t j f fs g Continue e (suc ph) h = beyond 1 ph (omega arith) h
+sort t j f fs g Continue e (suc ph) h = absurd (omega arith)
 sort t j f fs g Call e zero h = plain-guard t j f fs _ e refl refl refl refl
 sort t j f fs g Call e (suc zero) h =
-    a_guard 1 (record { guards = refl; at_own = refl; for_value = refl; within = rw e (omega arith); at_opener = λ p x. absurd (no_part p (sym (ap shape_of e) ∙ x)); phase = at-phase t j 1 e refl })
-  where
-    no_part : (p : Part) → shape_of Call ≡ pushes p → ⊥
-    no_part p x = let z : ◌≡◌ {A = ℕ} 0 1 = cc in omega arith
-sort t j f fs g Call e (suc (suc ph)) h = beyond-two ph h
+    a_guard 1 (record { guards = refl; at_own = refl; for_value = refl; within = rw e (omega arith); at_opener = λ p x. cc (ap shape_of e); phase = at-phase t j 1 e refl })
+sort t j f fs g Call e (suc (suc ph)) h = absurd (omega arith)
 sort t j f fs g Unknown e ph h = absurd (not-suc-le-zero h)

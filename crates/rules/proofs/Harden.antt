@@ -1,7 +1,7 @@
 -- Which line stands where: line line_of t i + ph of the hardened table is line ph of row i. Assumes nothing.
 use mathlib.Core.Logic.{◌⊎◌, inl, inr}
 use mathlib.Core.Path.{◌≡◌, refl, ap, ◌∙◌, sym}
-use mathlib.Core.List.{List, [], ◌++◌, append_assoc}
+use mathlib.Core.List.{List, [], ◌++◌, append_assoc, append-nil}
 use Prim.Native.Nat.{ℕ, zero, suc, ◌+◌, ◌≤◌, ◌<◌}
 use native.Mathlib.Nat.{le_refl, eq-or-lt_of_le, not-suc-le-zero}
 use native.Mathlib.Decide.{le_ind}
@@ -14,7 +14,6 @@ use Rattle.rules.specs.Row.{Table, kind_at}
 use Rattle.rules.specs.Scan.{Open, open_at}
 use Rattle.rules.specs.Line.{Line, ret_line, line_at}
 use Rattle.rules.specs.Harden.{line_count, line_of, row_lines, lines_of, harden_to, harden}
-use Rattle.rules.proofs.Logic.{append-nil}
 use Rattle.rules.proofs.Value.{Silent, a_function, no_kind}
 
 pub line-mono : (t : Table) {i : ℕ} (j : ℕ) → i ≤ j → line_of t i ≤ line_of t j

@@ -30,7 +30,7 @@ case-C = (demand_3 lines given 20 4 6 listing-hardened).jumped.caught refl (lit�
 -- place 1 is before the tick of the do at place 0: no guard is between, and the source's run without that do is the one
 small-D : Told (counter_form (lines_in lines)) (lines_in lines) (table_of (source_bytes lines)) given 20 0 1 → Slipped (counter_form (lines_in lines)) (lines_in lines) (table_of (source_bytes lines)) given 20 0 1
 unfolding rows lines compute guard_from_lem
-small-D (beyond_m l q) = absurd (let z : ⊥ = omega arith in z)
+small-D (beyond_m l q) = absurd (omega arith)
 small-D (wide l w q) = clash w refl
 small-D (small l w q) = q
 

@@ -165,10 +165,7 @@ lines_all t = harden-length t (length t)
 -- ---- a line of a row before row o belongs to a function opened before it
 module _ (t : Table) (ok : Proper t) (o j : ℕ) (h : o ≤ length t) (l : j < o) where
   has-open : 0 < line_count (kind_at t j) → (fs : List Open) → open_at t j ≡ fs → (f : Open) × (hs : List Open) × (open_at t j ≡ f ∷ hs)
-  has-open c [] q = absurd (no_lines (opens-function t ok j (omega arith) q))
-    where
-      no_lines : kind_at t j ≡ Function → ⊥
-      no_lines e = omega (arith, ap line_count e)
+  has-open c [] q = absurd (omega (arith, ap line_count (opens-function t ok j (omega arith) q)))
   has-open c (f ∷ fs) q = (f, fs, q)
 
   first-line : 0 < line_count (kind_at t j) → function_at (harden t) (line_of t j) < functions t o
@@ -186,20 +183,17 @@ module _ (t : Table) (ok : Proper t) (o j : ℕ) (h : o ≤ length t) (l : j < o
   parts : (k : Kind) → kind_at t j ≡ k → 0 < line_count k → (f : Open) × (hs : List Open) × (open_at t j ≡ f ∷ hs)
   parts k e c = has-open (omega (arith, ap line_count e)) (open_at t j) refl
 
-  no_second : {A : Type 0} (x c : ℕ) → c ≤ 1 → suc x < c → A
-  no_second x c a b = absurd (let z : ⊥ = omega arith in z)
-
   later-line : (x : ℕ) (k : Kind) → kind_at t j ≡ k → suc x < line_count k → function_at (harden t) (line_of t j + suc x) < functions t o
-  later-line x Function e q = no_second x 0 (omega arith) q
+  later-line x Function e q = absurd (omega arith)
   later-line x Do e q = let p = parts Do e (omega arith) in inner-line (suc x) Do e q p.0 p.1 (open_next t j e p.2)
-  later-line x If e q = no_second x 1 (omega arith) q
-  later-line x Else e q = no_second x 1 (omega arith) q
-  later-line x Loop e q = no_second x 1 (omega arith) q
-  later-line x End e q = no_second x 1 (omega arith) q
-  later-line x Break e q = no_second x 1 (omega arith) q
-  later-line x Continue e q = no_second x 1 (omega arith) q
+  later-line x If e q = absurd (omega arith)
+  later-line x Else e q = absurd (omega arith)
+  later-line x Loop e q = absurd (omega arith)
+  later-line x End e q = absurd (omega arith)
+  later-line x Break e q = absurd (omega arith)
+  later-line x Continue e q = absurd (omega arith)
   later-line x Call e q = let p = parts Call e (omega arith) in inner-line (suc x) Call e q p.0 p.1 (open_next t j e p.2)
-  later-line x Unknown e q = no_second x 0 (omega arith) q
+  later-line x Unknown e q = absurd (omega arith)
 
   earlier : (ph : ℕ) → ph < line_count (kind_at t j) → function_at (harden t) (line_of t j + ph) < functions t o
   earlier zero q = subst (λ y. function_at (harden t) y < functions t o) (sym (add-zero (line_of t j))) (first-line q)
@@ -215,10 +209,7 @@ first-line-is : (t : Table) → Proper t → (n o : ℕ) → o ≤ length t → 
 unfolding start_of
 first-line-is t ok n o h q c =
     first_is (λ k. eqb (function_at (harden t) k) n) (length (harden t)) 0 (line_of t o) (omega arith) (omega (arith, lines_all t, line-mono t {i = o} (length t) h))
-    (λ b. eq-eqb _ _ (function-outside t ok o h q ∙ c)) (λ m a b. ne_eqb _ _ (λ e. less_not (before-row t ok o m h b) (e ∙ sym c)))
-  where
-    less_not : {x y : ℕ} → x < y → x ≡ y → ⊥
-    less_not a b = omega arith
+    (λ b. eq-eqb _ _ (function-outside t ok o h q ∙ c)) (λ m a b. ne_eqb _ _ (λ e. omega (arith, before-row t ok o m h b, c)))
 
 pub start_is : (t : Table) → Proper t → (n : ℕ) → n < function_count t → start_of (harden t) n ≡ line_of t (function_row t n)
 start_is t ok n k = let a = function-at t ok n k in first-line-is t ok n (function_row t n) (omega (arith, a.within)) a.bare a.counted

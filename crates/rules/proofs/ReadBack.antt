@@ -1,7 +1,7 @@
 -- Reading the lines of an accepted table back gives the table: row after row, the lines read so far give the rows so far.
 use mathlib.Core.Path.{◌≡◌, refl, sym, ap, ◌∙◌, subst}
 use mathlib.Core.Bool.{Bool, true, false}
-use mathlib.Core.List.{List, [], ◌∷◌, ◌++◌, append_assoc}
+use mathlib.Core.List.{List, [], ◌∷◌, ◌++◌, append_assoc, append-nil}
 use Prim.Native.Nat.{ℕ, zero, suc, ◌+◌, ◌≤◌, ◌<◌}
 use native.Mathlib.Nat.{le_refl, add-zero}
 use native.Mathlib.Omega.{arith}
@@ -15,7 +15,7 @@ use Rattle.rules.specs.Check.{is_outside, misplaced_in}
 use Rattle.rules.specs.Line.{line_at, is_ret}
 use Rattle.rules.specs.Harden.{line_count, line_of, row_lines, harden}
 use Rattle.rules.specs.ReadBack.{row_for, begins, function_row_if, unread_to, unread}
-use Rattle.rules.proofs.Logic.{clash, append-nil}
+use Rattle.rules.proofs.Logic.{clash}
 use Rattle.rules.proofs.Accepted.{Proper}
 use Rattle.rules.proofs.Scan.{open_next}
 use Rattle.rules.proofs.Harden.{line-suc, line-at, harden-length}

@@ -82,9 +82,6 @@ closes-loop then_part q t j k fs l = clash {b = true} refl cc
 closes-loop else_part q t j k fs l = clash {b = true} refl cc
 closes-loop loop_body q t j k fs l = eq-eqb (line_of t (opener_of fs)) k l
 
-part_same : (p q : Part) → pushes p ≡ pushes q → p ≡ q
-part_same p q e = cc
-
 -- ---- the line before the first line after what row i opens
 record LastLine (t : Table) (i : ℕ) (p : Part) : Type 0 where
   last : Part
@@ -105,7 +102,7 @@ last_line t ok i p l s =
       line_is = ap (line_at (harden t)) q ∙ line-at t (end_of t i) 0 en.inside (rw cl.kind_is (omega arith))
           ∙ ap (λ k. line_at (row_lines t (end_of t i) (open_at t (end_of t i)) k) 0) cl.kind_is
           ∙ ap (end_line t (end_of t i) (open_at t (end_of t i))) (ap part_of cl.open_is);
-      opened_as = part_same _ _ (sym hd.0.by ∙ ap (λ x. shape_of (kind_at t x)) cl.opened ∙ s);
+      opened_as = cc (hd.0.by, ap (λ x. shape_of (kind_at t x)) cl.opened, s);
       after_row = omega (arith, line-mono t {i = i} (end_of t i) (omega (arith, en.after_it)), line-suc t (end_of t i) cl.kind_is);
       opener_is = ap opener_of cl.open_is ∙ cl.opened;
     }
@@ -152,12 +149,9 @@ module _ (t : Table) (ok : Proper t) (i : ℕ) (f : Open) (fs : List Open) (l : 
   unfolding row_for row_lines fields_fit_lem
   for-else e =
       let hd = held-here.0 in
-      let b = before_end f.opener (origin f.part) hd.before hd.by (λ x. x.0 refl) (λ x. no_end x) in
+      let b = before_end f.opener (origin f.part) hd.before hd.by (λ x. x.0 refl) (λ x. cc) in
       ap (λ y. bare (cond y Else End) ∷ []) (lt-ltb (suc (line_of t i)) (line_of t (suc (end_of t f.opener))) (omega (arith, b, ap line_count e)))
       ∙ row_is t i e (none-used _ (fits_in t ok i l e))
-    where
-      no_end : kind_at t i ≡ End → ⊥
-      no_end x = let z : ◌≡◌ {A = ℕ} 0 1 = cc in omega arith
 
   for-end : kind_at t i ≡ End → (p : Part) → row_for (harden t) (line_of t i) (end_line t i (f ∷ fs) p) ≡ row_at t i ∷ []
   unfolding row_for fields_fit_lem
@@ -179,13 +173,10 @@ module _ (t : Table) (ok : Proper t) (i : ℕ) (f : Open) (fs : List Open) (l : 
   unfolding row_for row_lines fields_fit_lem
   for-break e x =
       let lp = loop-here (from_loop (f ∷ fs)) refl x in
-      let b = before_end lp.0.opener (origin lp.0.part) lp.3.before lp.3.by (λ y. loop-opener (f ∷ fs) lp.0 lp.1 lp.2 y) (λ y. no_end y) in
+      let b = before_end lp.0.opener (origin lp.0.part) lp.3.before lp.3.by (λ y. loop-opener (f ∷ fs) lp.0 lp.1 lp.2 y) (λ y. cc) in
       ap (λ y. bare (cond (ltb (line_of t i) (line_of t (suc (end_of t (opener_of y))))) Break Continue) ∷ []) lp.2
       ∙ ap (λ y. bare (cond y Break Continue) ∷ []) (lt-ltb (line_of t i) (line_of t (suc (end_of t lp.0.opener))) (omega (arith, b)))
       ∙ row_is t i e (none-used _ (fits_in t ok i l e))
-    where
-      no_end : kind_at t i ≡ End → ⊥
-      no_end x = let z : ◌≡◌ {A = ℕ} 0 1 = cc in omega arith
 
   for-continue : kind_at t i ≡ Continue → is_outside (from_loop (f ∷ fs)) ≡ false → row_for (harden t) (line_of t i) (line_at (row_lines t i (f ∷ fs) Continue) 0) ≡ row_at t i ∷ []
   unfolding row_for row_lines fields_fit_lem

@@ -21,7 +21,9 @@ use Rattle.rules.specs.Line.{Line, do_line, tick_line, test_line, leave_line, ou
 use Rattle.rules.specs.Harden.{line_count, line_of, test_of, row_lines, harden, hardened_bytes}
 use Rattle.rules.specs.ReadBack.{unread, source_bytes, is_hardened_lem}
 use Rattle.rules.specs.Reading.{ReadsBack, Recognises, OneSource}
-use Rattle.rules.proofs.Logic.{and_left, and_right, and_both, clash}
+use Rattle.std.proofs.lemmas.Bool.{and_from}
+use Rattle.rules.specs.Bounds.{Word}
+use Rattle.rules.proofs.Logic.{and_left, and_right, clash}
 use Rattle.rules.proofs.Accepted.{Proper, accepted-is, proper-bytes, proper}
 use Rattle.rules.proofs.Harden.{line-at}
 use Rattle.rules.proofs.Function.{not-unknown, callee_known}
@@ -55,7 +57,7 @@ hardened-source lines h = (
 pub source-hardened : (rows lines : List ℕ) → source_bytes lines ≡ rows → verdict_of rows ≡ Accepted → hardened_bytes rows ≡ lines → is_hardened_lem lines ≡ true
 unfolding is_hardened_lem
 source-hardened rows lines s v h =
-    rw s (and_both (ap is_accepted v) (ap (λ x. same x lines) h ∙ same_refl lines))
+    rw s (and_from _ _ (ap is_accepted v) (ap (λ x. same x lines) h ∙ same_refl lines))
 
 -- ---- the numbers of a table's rows are those of its lines, and words there
 number_in : Line → ℕ
@@ -68,31 +70,28 @@ number_in (call_line r e a b go) = 0
 number_in (back_line r e a b) = 0
 number_in (ret_line e a) = 0
 
-abbrev pub IsWord : ℕ → Type 0
-IsWord n = n < 65536
-
-word-or : (b : Bool) (l m : Line) → IsWord (number_in l) → IsWord (number_in m) → IsWord (number_in (cond b l m))
+word-or : (b : Bool) (l m : Line) → Word (number_in l) → Word (number_in m) → Word (number_in (cond b l m))
 word-or true l m p q = p
 word-or false l m p q = q
 
-line_word : (bs : List ℕ) → AreBytes bs → (k : ℕ) → IsWord (number_in (line_in_lem bs k))
+line_word : (bs : List ℕ) → AreBytes bs → (k : ℕ) → Word (number_in (line_in_lem bs k))
 unfolding line_in_lem number_in
 line_word bs w k =
-    let n : IsWord (word_at bs (k + 4)) = omega (arith, w.each (k + 4), w.each (k + 4 + 1)) in
-    let z : IsWord 0 = omega arith in
+    let n : Word (word_at bs (k + 4)) = omega (arith, w.each (k + 4), w.each (k + 4 + 1)) in
+    let z : Word 0 = omega arith in
     word-or (eqb (get_or bs k 0) 0x21) _ _ n
     (word-or (eqb (get_or bs k 0) 0x22) _ _ z
     (word-or (eqb (get_or bs k 0) 0x23) _ _ n
     (word-or (eqb (get_or bs k 0) 0x24) _ _ z
     (word-or (eqb (get_or bs k 0) 0x25) _ _ z (word-or (eqb (get_or bs k 0) 0x26) _ _ z (word-or (eqb (get_or bs k 0) 0x27) _ _ z z))))))
 
-words-from : (bs : List ℕ) → AreBytes bs → (i n j : ℕ) → IsWord (number_in (line_at (lines_from bs i n) j))
+words-from : (bs : List ℕ) → AreBytes bs → (i n j : ℕ) → Word (number_in (line_at (lines_from bs i n) j))
 unfolding lines_from number_in
 words-from bs w i zero j = omega arith
 words-from bs w i (suc n) zero = line_word bs w (line_width * i)
 words-from bs w i (suc n) (suc j) = words-from bs w (suc i) n j
 
-words-in : (bs : List ℕ) → AreBytes bs → (j : ℕ) → IsWord (number_in (line_at (lines_in bs) j))
+words-in : (bs : List ℕ) → AreBytes bs → (j : ℕ) → Word (number_in (line_at (lines_in bs) j))
 unfolding lines_in
 words-in bs w j = words-from bs w 0 _ j
 
@@ -110,16 +109,16 @@ unfolding test_of number_in
 test-number t i fs true = refl
 test-number t i fs false = refl
 
-module _ (t : Table) (ok : Proper t) (words : (j : ℕ) → IsWord (number_in (line_at (harden t) j))) (i : ℕ) (l : i < length t) where
+module _ (t : Table) (ok : Proper t) (words : (j : ℕ) → Word (number_in (line_at (harden t) j))) (i : ℕ) (l : i < length t) where
   -- the row's number stands in its first line
-  from-line : (k : Kind) → kind_at t i ≡ k → 0 < line_count k → number_in (line_at (row_lines t i (open_at t i) k) 0) ≡ (operands_at t i).n → IsWord (operands_at t i).n
+  from-line : (k : Kind) → kind_at t i ≡ k → 0 < line_count k → number_in (line_at (row_lines t i (open_at t i) k) 0) ≡ (operands_at t i).n → Word (operands_at t i).n
   from-line k e h q =
-      subst IsWord (ap number_in (line-at t i 0 l (rw e h)) ∙ ap (λ x. number_in (line_at (row_lines t i (open_at t i) x) 0)) e ∙ q) (words (line_of t i + 0))
+      subst Word (ap number_in (line-at t i 0 l (rw e h)) ∙ ap (λ x. number_in (line_at (row_lines t i (open_at t i) x) 0)) e ∙ q) (words (line_of t i + 0))
 
-  no_number : uses_none_lem (operands_at t i) ≡ true → IsWord (operands_at t i).n
+  no_number : uses_none_lem (operands_at t i) ≡ true → Word (operands_at t i).n
   no_number u = omega (arith, ap (λ o. o.n) (none-used (operands_at t i) u))
 
-  row_word : (k : Kind) → kind_at t i ≡ k → IsWord (operands_at t i).n
+  row_word : (k : Kind) → kind_at t i ≡ k → Word (operands_at t i).n
   unfolding row_lines number_in fields_fit_lem
   row_word Function e = no_number (fits_in t ok i l e)
   row_word Do e = from-line Do e (omega arith) refl
@@ -205,14 +204,14 @@ kind-small Continue = omega arith
 kind-small Call = omega arith
 kind-small Unknown = omega arith
 
-row-bytes : (r : Row) (bs : List ℕ) → Small r.operands → IsWord r.operands.n → AreBytes bs → AreBytes (row_bytes r ++ bs)
+row-bytes : (r : Row) (bs : List ℕ) → Small r.operands → Word r.operands.n → AreBytes bs → AreBytes (row_bytes r ++ bs)
 unfolding row_bytes
 row-bytes r bs s n w =
     more_bytes _ _ (kind-small r.kind)
     (more_bytes _ _ s.op_small
     (more_bytes _ _ s.p_small (more_bytes _ _ s.q_small (more_bytes _ _ (omega arith) (more_bytes _ _ (omega arith) w)))))
 
-pub table-are-bytes : (t : Table) → ((i : ℕ) → i < length t → Small (operands_at t i) × IsWord (operands_at t i).n) → AreBytes (table_bytes t)
+pub table-are-bytes : (t : Table) → ((i : ℕ) → i < length t → Small (operands_at t i) × Word (operands_at t i).n) → AreBytes (table_bytes t)
 unfolding table_bytes
 table-are-bytes [] h = no_bytes
 table-are-bytes (r ∷ t) h =
@@ -228,7 +227,7 @@ source-bytes lines w h =
     let q : table_of (source_bytes lines) ≡ t = table-of t in
     let ok : Proper t = subst Proper q (proper (source_bytes lines) s.0) in
     let same_lines : lines_in lines ≡ harden t = ap lines_in (sym s.1) ∙ lines_of (source_bytes lines) ∙ ap harden q in
-    let words : (j : ℕ) → IsWord (number_in (line_at (harden t) j)) = λ j. subst (λ ls. IsWord (number_in (line_at ls j))) same_lines (words-in lines w j) in
+    let words : (j : ℕ) → Word (number_in (line_at (harden t) j)) = λ j. subst (λ ls. Word (number_in (line_at ls j))) same_lines (words-in lines w j) in
     table-are-bytes t (λ i l. (small (kind_at t i) (operands_at t i) (ok.rows i l).fits, row_word t ok words i l (kind_at t i) refl))
 
 pub recognises : Recognises

@@ -15,7 +15,8 @@ use Rattle.rules.specs.Limits.{max_functions, max_regions}
 use Rattle.rules.specs.Row.{Table, kind_at}
 use Rattle.rules.specs.Scan.{Part, body, then_part, else_part, loop_body, Open, pushes, shape_of, regions_after, open_after_lem, regions, open_at, body_region, local, region_of, is_loop_body, from_loop, else_of, has_else, is_function_lem, functions}
 use Rattle.rules.specs.Check.{is_outside, misplaced_in, all_constructs, all_regions, one_too_many}
-use Rattle.rules.proofs.Logic.{clash, or_right}
+use Rattle.std.proofs.lemmas.Bool.{or_parts}
+use Rattle.rules.proofs.Logic.{clash}
 use Rattle.rules.proofs.Accepted.{Proper}
 use Rattle.rules.proofs.Scan.{Chain, chain, regions-next, open_next}
 use Rattle.rules.proofs.Value.{Held, AllHeld, held}
@@ -37,12 +38,12 @@ roomy-next i Function g [] p q r = omega arith
 roomy-next i Function g (f ∷ fs) p q r = clash refl p
 roomy-next i Do g fs p q r = r
 roomy-next i If g [] p q r = clash refl p
-roomy-next i If g (f ∷ fs) p q r = omega (arith, few_regions g (f ∷ fs) (or_right (all_constructs (f ∷ fs)) _ q))
+roomy-next i If g (f ∷ fs) p q r = omega (arith, few_regions g (f ∷ fs) (or_parts (all_constructs (f ∷ fs)) _ q).1)
 roomy-next i Else g [] p q r = tt
 roomy-next i Else g (f ∷ []) p q r = omega arith
 roomy-next i Else g (f ∷ h ∷ hs) p q r = omega (arith, few_regions g (f ∷ h ∷ hs) q)
 roomy-next i Loop g [] p q r = clash refl p
-roomy-next i Loop g (f ∷ fs) p q r = omega (arith, few_regions g (f ∷ fs) (or_right (all_constructs (f ∷ fs)) _ q))
+roomy-next i Loop g (f ∷ fs) p q r = omega (arith, few_regions g (f ∷ fs) (or_parts (all_constructs (f ∷ fs)) _ q).1)
 roomy-next i End g [] p q r = tt
 roomy-next i End g (f ∷ []) p q r = tt
 roomy-next i End g (f ∷ h ∷ hs) p q r = r

@@ -26,17 +26,11 @@ found-next p d j r e (miss q f) = miss (omega arith) (from_next p j (j + suc d) 
 
 pub found : (p : ℕ → Bool) (d j : ℕ) → Found p d j (first p d j)
 unfolding first
-found p zero j = miss (omega arith) (λ m a b. absurd (no_number m a b))
-  where
-    no_number : (m : ℕ) → j ≤ m → m < j + 0 → ⊥
-    no_number m a b = omega arith
+found p zero j = miss (omega arith) (λ m a b. absurd (omega arith))
 found p (suc d) j = by (p j) refl (found p d (suc j))
   where
-    none_below : (m : ℕ) → j ≤ m → m < j → p m ≡ false
-    none_below m a b = absurd (let z : ⊥ = omega arith in z)
-
     by : (b : Bool) → p j ≡ b → Found p d (suc j) (first p d (suc j)) → Found p (suc d) j (cond b j (first p d (suc j)))
-    by true e f = hit e (le_refl _) (omega arith) none_below
+    by true e f = hit e (le_refl _) (omega arith) (λ m a b. absurd (omega arith))
     by false e f = found-next p d j (first p d (suc j)) e f
 
 pub first-now : (p : ℕ → Bool) (d j : ℕ) → 0 < d → p j ≡ true → first p d j ≡ j

@@ -2,10 +2,9 @@
 use mathlib.Core.Path.{◌≡◌, refl, ap, ◌∙◌}
 use mathlib.Core.Bool.{Bool, false, ◌||◌}
 use Prim.Native.Nat.{ℕ, zero, suc, ◌+◌, ◌*◌, ◌≤◌, ◌<◌}
-use native.Mathlib.Nat.{suc-mul, zero-add}
+use native.Mathlib.Nat.{suc-mul}
 use native.Mathlib.Omega.{arith}
 use lib.Dec.{ltb}
-use borrow.Author.Tests.{lt-ltb}
 use Rattle.rules.specs.declared.ending.Ending.{Ending}
 use Rattle.rules.specs.declared.ending.Ending.TheVariants.{Alarmed, Same, Other, Unfinished}
 use Rattle.rules.specs.declared.ending.Counts.{Counts}
@@ -55,11 +54,7 @@ unfoldable pub any_to : ℕ → (ℕ → Bool) → Bool
 any_to zero f = false
 any_to (suc n) f = any_to n f || f n
 
-or-positive : (a b : ℕ) → ltb 0 (a + b) ≡ ltb 0 a || ltb 0 b
-or-positive zero b = ap (ltb 0) (zero-add b)
-or-positive (suc a) b = rw (lt-ltb 0 (suc a + b) (omega arith), lt-ltb 0 (suc a) (omega arith))
-
 pub other-positive : (n : ℕ) (f : ℕ → Counts) → ltb 0 (sum_counts n f).other ≡ any_to n (λ k. ltb 0 (f k).other)
 unfolding sum_counts any_to
 other-positive zero f = refl
-other-positive (suc n) f = or-positive (sum_counts n f).other (f n).other ∙ ap (λ y. y || ltb 0 (f n).other) (other-positive n f)
+other-positive (suc n) f = grind (arith, other-positive n f)

@@ -37,6 +37,11 @@ unfoldable pub sum : (ℕ → ℕ) → ℕ → ℕ
 sum f zero = 0
 sum f (suc n) = sum f n + f n
 
+pub sum-none : (n : ℕ) → sum (λ g. 0) n ≡ 0
+unfolding sum
+sum-none zero = refl
+sum-none (suc n) = omega (arith, sum-none n)
+
 pub sum-add : (f g : ℕ → ℕ) (n : ℕ) → sum (λ x. f x + g x) n ≡ sum f n + sum g n
 unfolding sum
 sum-add f g zero = refl
@@ -67,11 +72,7 @@ two-in-all k (f ∷ fs) (suc n) = by (eqb f.region n) refl (two-in-all k (f ∷ 
 
 taken-in-all : (t : Table) (n i : ℕ) → sum (λ g. taken t g i) n ≤ 2 * i
 unfolding taken sum
-taken-in-all t n zero = omega (arith, zeros n)
-  where
-    zeros : (m : ℕ) → sum (λ g. 0) m ≡ 0
-    zeros zero = refl
-    zeros (suc m) = omega (arith, zeros m)
+taken-in-all t n zero = omega (arith, sum-none n)
 taken-in-all t n (suc i) =
     omega
     (arith, taken-in-all t n i, two-in-all (kind_at t i) (open_at t i) n, sum-add (λ g. taken t g i) (λ g. takes_in (kind_at t i) g (open_at t i)) n)

@@ -1,4 +1,5 @@
-// What a public call answers beside the buffers that it was lent.
+// What a public call answers beside the buffers that it was lent. Causes and outcomes are numbers here, and a refusal no Err: these are the
+// structs of include/finuraho.h.
 use crate::limits::VARIABLES;
 
 // A call that writes a table: the number of 01 and the length of the answer in bytes.

@@ -8,7 +8,7 @@ pub enum Ending {
 }
 
 // How many runs ended with an alarm, finished with the trace of the unstruck run, finished with another, and did not finish.
-#[derive(Clone, Copy)]
+#[derive(Clone, Copy, Default)]
 pub struct Counts {
     pub alarms: u32,
     pub same: u32,

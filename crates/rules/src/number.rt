@@ -12,12 +12,6 @@ impl From<Refusal> for u8 {
     }
 }
 
-pub fn of_refusal(r: Refusal) -> u8
-    ensures { result ≡ refusal_number r }
-{
-    u8::from(r)
-}
-
 // Accepted is 0.
 pub fn of_verdict(v: Result<(), Refusal>) -> u8
     ensures { result ≡ number_of v }

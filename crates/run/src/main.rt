@@ -13,18 +13,20 @@ ghost use Rattle.std.specs.Prelude.{◌≡◌, length};
 
 mod answer;
 
-use command::arguments::{Asked, Given};
+use command::arguments::{Asked, Jump, Mode};
 use command::{arguments, wrong};
-use console::input::Read;
+use console::page::Page;
+use console::standard_error::StandardError;
 use console::{input, output, start};
 use rules::answer::Ran;
-use rules::limits::{COUNTERS, NO_STEP, VARIABLES};
+use rules::limits::{COUNTERS, NO_STEP};
 use rules::strike::strike_by;
-use show::source_steps::Told;
 use show::{hardened_steps, source_steps};
 use slip::amount::Amount;
 use slip::find;
 use std::env::Env;
+use std::fmt;
+use std::fmt::Write as _;
 
 // Slots for the longest trace.
 fn slots() -> [u16; 65535] {
@@ -48,119 +50,96 @@ trace lists a trace of more than 20 rows, show lists each step.
 
 fn take_words(rt: &(impl Env + Input + Print)) {
     let mut buffer = io::buffer();
-    let mut variables = [0u16; VARIABLES];
-    match arguments::read(rt, &mut buffer, &mut variables) {
-        Given::Wrong(f) => {
-            let expected = f.expected;
-            let n = output::within(f.length, &buffer);
-            wrong::say(&mut buffer[..n], expected);
+    match arguments::read(rt, &mut buffer) {
+        Err(f) => {
+            let n = f.length.min(buffer.len());
+            wrong::say(&mut buffer[..n], f.expected);
         }
-        Given::Right(a) => {
+        Ok(a) => {
             let mut bytes = io::large_buffer();
             tell_no_jump(a);
-            run(rt, a, variables, &mut buffer, &mut bytes);
+            run(rt, a, &mut buffer, &mut bytes);
         }
     }
 }
 
 // No budget holds step 65,535, so that a jump before it is none.
 fn tell_no_jump(a: Asked) {
-    if a.struck && a.step == NO_STEP {
-        io::write_all(2, b"step 65535 is no jump: no budget holds it\n");
+    if let Some(Jump { step: NO_STEP, .. }) = a.jump {
+        let _ = writeln!(StandardError, "step 65535 is no jump: no budget holds it");
     }
 }
 
-fn run(
-    rt: &(impl Input + Print),
-    a: Asked,
-    variables: [u16; VARIABLES],
-    chunk: &mut [u8],
-    bytes: &mut [u8],
-)
+fn run(rt: &(impl Input + Print), a: Asked, chunk: &mut [u8], bytes: &mut [u8])
     requires { 65536 ≡ length bytes.old }
 {
-    match take(rt, a.hardened, chunk, bytes) {
-        Read::Bytes(n) => {
-            let all = output::within(n, bytes);
-            run_table(rt, a, &bytes[..all], variables);
-        }
-        Read::Nothing => {}
+    if let Some(n) = take(rt, a.mode, chunk, bytes) {
+        run_table(rt, a, output::front(n, bytes));
     }
 }
 
-// The lines or the rows, as bytes.
-fn take(rt: &(impl Input + Print), hardened: bool, chunk: &mut [u8], bytes: &mut [u8]) -> Read
+// The rows or the lines, as bytes.
+fn take(rt: &(impl Input + Print), mode: Mode, chunk: &mut [u8], bytes: &mut [u8]) -> Option<usize>
     requires { 65536 ≡ length bytes.old }
 {
-    if hardened {
-        return input::take_lines(rt, chunk, bytes);
+    match mode {
+        Mode::Source => input::take_rows(rt, chunk, bytes),
+        Mode::Hardened | Mode::Sweep => input::take_lines(rt, chunk, bytes),
     }
-    input::take_rows(rt, chunk, bytes)
 }
 
-fn run_table(rt: &impl Print, a: Asked, table: &[u8], variables: [u16; VARIABLES]) {
-    let mut text = io::large_buffer();
+fn run_table(rt: &impl Print, a: Asked, table: &[u8]) {
+    let mut page = Page::new(rt);
     let mut trace = slots();
-    let told = list_steps(rt, a, table, variables, &mut trace, &mut text);
-    let amount = amount(a, table, variables, &mut trace);
-    let r = ran(a, table, variables, &mut trace);
-    answer::tell(rt, r, a, told, amount, &trace, &mut text);
+    let calls = list_steps(a, table, &mut trace, &mut page);
+    let amount = amount(a, table, &mut trace);
+    let r = ran(a, table, &mut trace);
+    // Where output is lost the page says so.
+    let _ = answer::tell(r, a.trace, calls, amount, &trace, &mut page);
+    page.flush();
 }
 
 // What a jump amounts to, told before the run: it overwrites the slots.
-fn amount(a: Asked, table: &[u8], variables: [u16; VARIABLES], trace: &mut [u16; 65535]) -> Amount {
-    if a.struck {
-        return find::of_jump(table, variables, a.budget, a.step, a.place, trace);
-    }
-    Amount::NotSmall
+fn amount(a: Asked, table: &[u8], trace: &mut [u16; 65535]) -> Amount {
+    let Some(jump) = a.jump else {
+        return Amount::NotSmall;
+    };
+    find::of_jump(
+        table,
+        a.variables_or_zero(),
+        a.budget_or_most(),
+        jump.step,
+        jump.place,
+        trace,
+    )
 }
 
-// A source run is always walked, since that counts its calls.
-fn list_steps(
-    rt: &impl Print,
+// With the word `show`. A source run is always walked, since that counts its calls.
+fn list_steps<W: fmt::Write>(
     a: Asked,
     table: &[u8],
-    variables: [u16; VARIABLES],
     trace: &mut [u16; 65535],
-    text: &mut [u8; 65536],
-) -> Told {
-    if a.hardened {
-        return Told {
-            at: list_lines(rt, a, table, variables, trace, text),
-            calls: 0,
-        };
+    page: &mut W,
+) -> Option<u16> {
+    let variables = a.variables_or_zero();
+    let budget = a.budget_or_most();
+    if a.mode == Mode::Source {
+        return Some(source_steps::tell(table, variables, budget, a.show, trace, page));
     }
-    source_steps::tell(rt, table, variables, a.budget, a.show, trace, text)
+    if a.show {
+        let strike = a.jump.and_then(|jump| strike_by(jump.step, jump.place));
+        hardened_steps::list(table, variables, budget, strike, trace, page);
+    }
+    None
 }
 
-// With the word `show`: how many bytes the buffer then holds.
-fn list_lines(
-    rt: &impl Print,
-    a: Asked,
-    table: &[u8],
-    variables: [u16; VARIABLES],
-    trace: &mut [u16; 65535],
-    text: &mut [u8; 65536],
-) -> usize {
-    if !a.show {
-        return 0;
+fn ran(a: Asked, table: &[u8], trace: &mut [u16; 65535]) -> Ran {
+    let variables = a.variables_or_zero();
+    let budget = a.budget_or_most();
+    if a.mode == Mode::Source {
+        return finuraho::run_source(table, variables, budget, trace);
     }
-    let strike = strike_by(a.step, a.place);
-    hardened_steps::list(rt, table, variables, a.budget, strike, trace, text)
-}
-
-fn ran(a: Asked, table: &[u8], variables: [u16; VARIABLES], trace: &mut [u16; 65535]) -> Ran {
-    if a.hardened {
-        let mut counters = [0u16; COUNTERS];
-        return finuraho::run_hardened(
-            table,
-            variables,
-            a.budget,
-            a.step,
-            a.place,
-            trace,
-            &mut counters,
-        );
-    }
-    finuraho::run_source(table, variables, a.budget, trace)
+    let (step, place) = a.jump.map_or((NO_STEP, 0), |jump| (jump.step, jump.place));
+    let mut counters = [0u16; COUNTERS];
+    finuraho::run_hardened(table, variables, budget, step, place, trace, &mut counters)
 }

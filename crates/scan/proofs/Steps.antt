@@ -1,4 +1,5 @@
 -- What each function that takes a row answers, as laws: one for each of its returns. Assumes nothing.
+use mathlib.Core.Logic.{◌⊎◌, inl, inr}
 use mathlib.Core.Path.{◌≡◌, refl, sym, ap, ◌∙◌}
 use mathlib.Core.Bool.{Bool, true, false, cond, not, ◌||◌}
 use mathlib.Core.List.{List, [], ◌∷◌}
@@ -17,8 +18,7 @@ use Rattle.rules.specs.Check.{is_outside, is_then, misplaced_in, one_too_many, a
 use Rattle.walk.proofs.Verdicts.{row-misplaced, row-functions}
 use Rattle.table.proofs.Functions.{next-function}
 use Rattle.scan.specs.declared.open.Standing.{Standing}
-use Rattle.scan.specs.declared.open.Next.{Next}
-use Rattle.scan.specs.declared.open.Next.TheVariants.{Faulty, On}
+use Rattle.scan.specs.Next.{Next, Faulty, On}
 use Rattle.scan.specs.Standing.{part_byte, Parts, Sane, loop_bytes, loops_without_lem}
 use Rattle.scan.specs.Next.{NextOk, Plain, by_do, by_call, PlainOk, Jump, by_break, by_continue, JumpOk, Enters, by_if, by_loop, EnterOk}
 use Rattle.scan.proofs.Limits.{or-true, few_parts, few_regions, many-regions, many-constructs}
@@ -300,17 +300,13 @@ pub ruleset closings = (close-out, close-on)
 
 -- ---- a row of any kind
 module _ {k : Kind} {s : Standing} {ps : List ℕ} {r : Next} (v : Sane s ps) where
-  pub step-do : k ≡ Do → PlainOk s r → NextOk k s ps ps r
-  step-do q p = p.for_all k ps (by_do q) v
+  pub step-plain : (k ≡ Do) ⊎ (k ≡ Call) → PlainOk s r → NextOk k s ps ps r
+  step-plain (inl q) p = p.for_all k ps (by_do q) v
+  step-plain (inr q) p = p.for_all k ps (by_call q) v
 
-  pub step_call : k ≡ Call → PlainOk s r → NextOk k s ps ps r
-  step_call q p = p.for_all k ps (by_call q) v
-
-  pub step-break : k ≡ Break → JumpOk s r → NextOk k s ps ps r
-  step-break q p = p.for_all k ps (by_break q) v
-
-  pub step-continue : k ≡ Continue → JumpOk s r → NextOk k s ps ps r
-  step-continue q p = p.for_all k ps (by_continue q) v
+  pub step-jump : (k ≡ Break) ⊎ (k ≡ Continue) → JumpOk s r → NextOk k s ps ps r
+  step-jump (inl q) p = p.for_all k ps (by_break q) v
+  step-jump (inr q) p = p.for_all k ps (by_continue q) v
 
 module _ {k : Kind} {s : Standing} {ps ps' : List ℕ} {r : Next} where
   pub step-function : k ≡ Function → NextOk Function s ps ps' r → NextOk k s ps ps' r
@@ -331,4 +327,4 @@ module _ {k : Kind} {s : Standing} {ps ps' : List ℕ} {r : Next} where
 pub step-unknown : {k : Kind} {s : Standing} {ps : List ℕ} → k ≡ Unknown → NextOk k s ps ps (Faulty WrongField)
 step-unknown q = record { sane = tt; leads = λ bs i a w. wrong_row bs i a q }
 
-pub ruleset steps = (step-do, step_call, step-break, step-continue, step-function, step-else, step_end, step-if, step_loop, step-unknown)
+pub ruleset steps = (step-plain, step-jump, step-function, step-else, step_end, step-if, step_loop, step-unknown)

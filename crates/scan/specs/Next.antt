@@ -1,17 +1,26 @@
 -- What a row of each kind promises: that it has no fault and where the pass stands after it, or why it is refused. Assumes nothing:
 -- these are definitions.
-use Rattle.std.specs.Prelude.{ℕ, suc, ◌+◌, ◌*◌, ◌<◌, ◌≡◌, List, length, drop}
+use Rattle.std.specs.Prelude.{Result, Ok, Err, ℕ, suc, ◌+◌, ◌*◌, ◌<◌, ◌≡◌, List, length, drop}
 use Rattle.rules.specs.declared.kind.Kind.{Kind}
 use Rattle.rules.specs.declared.kind.Kind.TheVariants.{Do, If, Loop, Break, Continue, Call}
+use Rattle.rules.specs.declared.refusal.Refusal.{Refusal}
 use Rattle.rules.specs.Verdict.{Refused}
 use Rattle.rules.specs.Row.{row_width, table_of}
 use Rattle.rules.specs.Scan.{then_part, loop_body}
 use Rattle.rules.specs.Check.{row_verdict}
 use Rattle.rows.specs.First.{first_kind_lem}
 use Rattle.scan.specs.declared.open.Standing.{Standing}
-use Rattle.scan.specs.declared.open.Next.{Next}
-use Rattle.scan.specs.declared.open.Next.TheVariants.{Faulty, On}
 use Rattle.scan.specs.Standing.{part_byte, Stands, Sane}
+
+-- after a row: why it is turned away, or what is open
+abbrev pub Next : Type 0
+Next = Result Standing Refusal
+
+pattern abbrev pub Faulty : Refusal → Next
+Faulty c = Err c
+
+pattern abbrev pub On : Standing → Next
+On s = Ok s
 
 -- row i of the table that the bytes spell is of kind k, or has a wrong field where k is Unknown
 pub record At (k : Kind) (bs : List ℕ) (i : ℕ) : Type 0 where

@@ -10,7 +10,7 @@ use rules::refusal::Refusal;
 
 // The open parts and the loop bodies among them, the regions opened in the running function, and the functions opened.
 // Beside it goes a byte for each open part, the function's body first: the kind byte of the row that opened it.
-#[derive(Drop)]
+#[derive(Clone, Copy)]
 pub struct Standing {
     pub depth: usize,
     pub loops: usize,
@@ -18,46 +18,39 @@ pub struct Standing {
     pub count: usize,
 }
 
-// After a row: why it is turned away, or what is open.
-#[derive(Drop)]
-pub enum Next {
-    Faulty(Refusal),
-    On(Standing),
-}
-
 // A row that opens and closes nothing.
-pub fn plain(s: Standing) -> Next
+pub fn plain(s: Standing) -> Result<Standing, Refusal>
     ensures { PlainOk s result }
 {
     if s.depth == 0 {
-        return Next::Faulty(Refusal::Misplaced);
+        return Err(Refusal::Misplaced);
     }
-    Next::On(s)
+    Ok(s)
 }
 
 // A break or a continue.
-fn jump(s: Standing) -> Next
+fn jump(s: Standing) -> Result<Standing, Refusal>
     ensures { JumpOk s result }
 {
     if s.loops == 0 {
-        return Next::Faulty(Refusal::Misplaced);
+        return Err(Refusal::Misplaced);
     }
-    Next::On(s)
+    Ok(s)
 }
 
 // A function's body opens.
-fn begin(s: Standing, parts: &mut [u8]) -> Next
+fn begin(s: Standing, parts: &mut [u8]) -> Result<Standing, Refusal>
     requires { Sane s parts.old }
     ensures { NextOk Kind.Function s parts.old parts.new result }
 {
     if s.depth != 0 {
-        return Next::Faulty(Refusal::Misplaced);
+        return Err(Refusal::Misplaced);
     }
     if s.count >= FUNCTIONS {
-        return Next::Faulty(Refusal::TooManyFunctions);
+        return Err(Refusal::TooManyFunctions);
     }
     parts[0] = FUNCTION;
-    Next::On(Standing {
+    Ok(Standing {
         depth: 1,
         loops: 0,
         opened: 1,
@@ -66,50 +59,48 @@ fn begin(s: Standing, parts: &mut [u8]) -> Next
 }
 
 // A then part or a loop body opens: its byte, and the loop bodies that are open then.
-fn enter(part: u8, loops: usize, s: Standing, parts: &mut [u8]) -> Next
+fn enter(part: u8, loops: usize, s: Standing, parts: &mut [u8]) -> Result<Standing, Refusal>
     requires { Sane s parts.old }
     ensures { EnterOk part loops s parts.old parts.new result }
 {
     if s.depth == 0 {
-        return Next::Faulty(Refusal::Misplaced);
+        return Err(Refusal::Misplaced);
     }
     if s.depth > CONSTRUCTS {
-        return Next::Faulty(Refusal::TooManyParts);
+        return Err(Refusal::TooManyParts);
     }
     if s.opened >= REGIONS {
-        return Next::Faulty(Refusal::TooManyParts);
+        return Err(Refusal::TooManyParts);
     }
     let inner = s.depth;
     parts[inner] = part;
-    Next::On(Standing {
+    Ok(Standing {
         depth: inner + 1,
         loops,
         opened: s.opened + 1,
-        count: s.count,
+        ..s
     })
 }
 
 // The else part takes the place of the then part.
-pub fn turn(s: Standing, parts: &mut [u8]) -> Next
+pub fn turn(s: Standing, parts: &mut [u8]) -> Result<Standing, Refusal>
     requires { Sane s parts.old }
     ensures { NextOk Kind.Else s parts.old parts.new result }
 {
     if s.depth == 0 {
-        return Next::Faulty(Refusal::Misplaced);
+        return Err(Refusal::Misplaced);
     }
     let inner = s.depth - 1;
     if parts[inner] != IF {
-        return Next::Faulty(Refusal::Misplaced);
+        return Err(Refusal::Misplaced);
     }
     if s.opened >= REGIONS {
-        return Next::Faulty(Refusal::TooManyParts);
+        return Err(Refusal::TooManyParts);
     }
     parts[inner] = ELSE;
-    Next::On(Standing {
-        depth: s.depth,
-        loops: s.loops,
+    Ok(Standing {
         opened: s.opened + 1,
-        count: s.count,
+        ..s
     })
 }
 
@@ -125,38 +116,35 @@ fn loops_without(part: u8, loops: usize) -> usize
 }
 
 // The innermost part closes.
-pub fn close(s: Standing, parts: &mut [u8]) -> Next
+pub fn close(s: Standing, parts: &mut [u8]) -> Result<Standing, Refusal>
     requires { Sane s parts.old }
     ensures { NextOk Kind.End s parts.old parts.new result }
 {
     if s.depth == 0 {
-        return Next::Faulty(Refusal::Misplaced);
+        return Err(Refusal::Misplaced);
     }
     let inner = s.depth - 1;
     let loops = loops_without(parts[inner], s.loops);
-    Next::On(Standing {
+    Ok(Standing {
         depth: inner,
         loops,
-        opened: s.opened,
-        count: s.count,
+        ..s
     })
 }
 
 // A row of this kind; Unknown stands for a row with a wrong field.
-pub fn step(kind: Kind, s: Standing, parts: &mut [u8]) -> Next
+pub fn step(kind: Kind, s: Standing, parts: &mut [u8]) -> Result<Standing, Refusal>
     requires { Sane s parts.old }
     ensures { NextOk kind s parts.old parts.new result }
 {
     match kind {
         Kind::Function => begin(s, parts),
-        Kind::Do => plain(s),
+        Kind::Do | Kind::Call => plain(s),
         Kind::If => enter(IF, s.loops, s, parts),
         Kind::Else => turn(s, parts),
         Kind::Loop => enter(LOOP, s.loops + 1, s, parts),
         Kind::End => close(s, parts),
-        Kind::Break => jump(s),
-        Kind::Continue => jump(s),
-        Kind::Call => plain(s),
-        Kind::Unknown => Next::Faulty(Refusal::WrongField),
+        Kind::Break | Kind::Continue => jump(s),
+        Kind::Unknown => Err(Refusal::WrongField),
     }
 }

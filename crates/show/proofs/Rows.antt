@@ -43,8 +43,8 @@ module _ {bs : List ℕ} {budget left calls : ℕ} {start p : Parts} (r : Walkin
     one-first : run_from (table_of bs) left p ≡ onward a.step (λ k. run_from (table_of bs) (left - 1) a.parts) (answer_of a)
     one-first = ap (λ n. run_from (table_of bs) n p) (let z : left ≡ 1 + (left - 1) = omega arith in z) ∙ e.with_more (left - 1)
 
-    pub walks_on : (k : ℕ) → a.step ≡ Went k → (made : ℕ) → made ≡ calls + call_at (table_of bs) p.registers.at → Walking bs budget start (left - 1) made a.parts
-    walks_on k z made q =
+    went_on : (k : ℕ) → a.step ≡ Went k → (made : ℕ) → made ≡ calls + call_at (table_of bs) p.registers.at → Walking bs budget start (left - 1) made a.parts
+    went_on k z made q =
         record {
           going = e.goes_on (left - 1) k (subst (λ n. Going bs n p) (let y : left ≡ 1 + (left - 1) = omega arith in y) r.going) z;
           same = r.same ∙ one-first ∙ ap (λ o. onward o (λ j. run_from (table_of bs) (left - 1) a.parts) (answer_of a)) z;
@@ -52,6 +52,10 @@ module _ {bs : List ℕ} {budget left calls : ℕ} {start p : Parts} (r : Walkin
           calls_are = omega (arith, r.calls_are, q, calls-went (table_of bs) p a e.answer_is k z left h);
           few = omega (arith, r.few, q, few-calls (table_of bs) p.registers.at);
         }
+
+    pub walks_on : (k : ℕ) → a.step ≡ Went k → {next : ℕ} → left - 1 ≡ next → (made : ℕ) → made ≡ calls + call_at (table_of bs) p.registers.at
+        → Walking bs budget start next made a.parts
+    walks_on k z fewer made q = subst (λ n. Walking bs budget start n made a.parts) fewer (went_on k z made q)
 
     pub walks_over : IsEnd a.step → WalkedTo (table_of bs) budget start a calls
     walks_over n =

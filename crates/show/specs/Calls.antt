@@ -32,7 +32,7 @@ pub record WalkedTo (t : Table) (budget : ℕ) (p : Parts) (a : After) (calls : 
   pub answer_is : run_from t budget p ≡ answer_of a
   pub calls_are : calls ≡ calls_from t budget p
 
--- the calls of a table as given; a refused one has none, and nothing of it is listed
-pub record CallsTold (rows : List ℕ) (budget : ℕ) (vars : List ℕ) (bytes calls : ℕ) : Type 0 where
+-- the calls of a table as given; a refused one has none, and nothing of it is listed: the page stays
+pub record CallsTold {W : Type 0} (rows : List ℕ) (budget : ℕ) (vars : List ℕ) (before page : W) (calls : ℕ) : Type 0 where
   pub accepted : given_verdict rows ≡ Accepted → calls ≡ calls_in (table_of (chain_bytes rows)) budget vars
-  pub refused : (c : Refusal) → given_verdict rows ≡ Refused c → (calls ≡ 0) × (bytes ≡ 0)
+  pub refused : (c : Refusal) → given_verdict rows ≡ Refused c → (calls ≡ 0) × (page ≡ before)

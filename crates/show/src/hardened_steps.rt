@@ -4,74 +4,63 @@ ghost use Rattle.std.specs.Prelude.{◌≡◌, true, ◌≤◌, length};
 ghost use Rattle.rules.specs.Limits.{counter_words};
 ghost use Rattle.rules.specs.Line.{lines_in};
 ghost use Rattle.rules.specs.ReadBack.{is_hardened_lem};
-ghost use Rattle.machine.specs.Step.{map_of};
+ghost use Rattle.machine.specs.Runnable.{map_in};
 ghost use Rattle.machine.specs.Run.{parts_in, stopped_with};
-ghost use Rattle.machine.specs.Stands.{Ready, Going};
+ghost use Rattle.machine.specs.Stands.{Going};
 ghost use Rattle.strike.specs.Struck.{struck_of};
 ghost use Rattle.show.specs.Due.{turn_of};
 
 use crate::{due, limit, line_text};
 use guard::counters;
-use machine::{map, run};
-use rules::limits::{COUNTERS, FUNCTIONS, LINES, VARIABLES};
+use machine::run;
+use machine::table::Runnable;
+use rules::limits::{COUNTERS, VARIABLES};
 use rules::step::Step;
 use rules::strike::Jump;
 use state::machine::{Machine, Stopped, begun};
+use std::fmt;
 use strike::struck::land;
 
-// What comes next is listed, and then made: the jump that is due, with no step after it, or one step.
-fn turn(
-    rt: &impl Print,
-    lines: &[u8],
-    starts: &[u16; FUNCTIONS + 1],
-    owners: &[u8; LINES + 1],
-    home: u16,
+// What comes next is listed, and then made: the jump that is due, with no step after it, or one step. The run goes on where it can't be
+// listed: what is lost the page knows.
+fn turn<W: fmt::Write>(
+    table: &Runnable,
     machine: Machine,
     strike: Option<Jump>,
     counters: &mut [u16],
     trace: &mut [u16],
-    at: &mut usize,
-    text: &mut [u8; 65536],
+    page: &mut W,
 ) -> Stopped
-    requires { (Ready lines.now (map_of starts.now owners.now home)) × (Going (lines_in lines.now) 1 (parts_in machine counters.old trace.old)) }
-    ensures { stopped_with result counters.new trace.new ≡ turn_of lines.now (map_of starts.now owners.now home) strike (parts_in machine counters.old trace.old) }
+    requires { Going (lines_in table.now.lines.now) 1 (parts_in machine counters.old trace.old) }
+    ensures { stopped_with result counters.new trace.new ≡ turn_of table.now.lines.now (map_in table.now) strike (parts_in machine counters.old trace.old) }
 {
     if due::is_due(strike) {
         let place = due::place_of(strike);
-        *at = line_text::list_jump(rt, place, *at, text);
-        return land(
-            lines, starts, owners, home, machine, 0, place, counters, trace,
-        );
+        let _ = line_text::list_jump(place, page);
+        return land(table, machine, 0, place, counters, trace);
     }
     let h = machine.registers;
-    *at = line_text::list(rt, lines, starts, h, counters, *at, text);
-    run::step(lines, starts, owners, home, machine, counters, trace)
+    let _ = line_text::list(table, h, counters, page);
+    run::step(table, machine, counters, trace)
 }
 
-fn walk(
-    rt: &impl Print,
-    lines: &[u8],
-    starts: &[u16; FUNCTIONS + 1],
-    owners: &[u8; LINES + 1],
-    home: u16,
+fn walk<W: fmt::Write>(
+    table: &Runnable,
     start: Machine,
     budget: u16,
     strike: Option<Jump>,
     counters: &mut [u16],
     trace: &mut [u16],
-    at: &mut usize,
-    text: &mut [u8; 65536],
+    page: &mut W,
 ) -> Stopped
-    requires { (Ready lines.now (map_of starts.now owners.now home)) × (Going (lines_in lines.now) budget (parts_in start counters.old trace.old)) }
-    ensures { stopped_with result counters.new trace.new ≡ struck_of lines.now (map_of starts.now owners.now home) budget strike (parts_in start counters.old trace.old) }
+    requires { Going (lines_in table.now.lines.now) budget (parts_in start counters.old trace.old) }
+    ensures { stopped_with result counters.new trace.new ≡ struck_of table.now.lines.now (map_in table.now) budget strike (parts_in start counters.old trace.old) }
 {
     let mut m = start;
     let mut left = budget;
     let mut rest = strike;
     while 0 < left {
-        let x = turn(
-            rt, lines, starts, owners, home, m, rest, counters, trace, at, text,
-        );
+        let x = turn(table, m, rest, counters, trace, page);
         let s = x.step;
         let Step::Went(_) = s else {
             return x;
@@ -87,64 +76,46 @@ fn walk(
     }
 }
 
+// Here, and not as an array in place: so the proof has a name for them.
 fn no_counters() -> [u16; COUNTERS]
     ensures { length result ≡ counter_words }
 {
     [0; COUNTERS]
 }
 
-// The steps of a hardened table's run, and how many bytes the buffer then holds. What it leaves in the trace is not looked at afterwards.
-fn list_accepted(
-    rt: &impl Print,
+// The steps of a hardened table's run. What it leaves in the trace is not looked at afterwards.
+fn list_accepted<W: fmt::Write>(
     lines: &[u8],
     variables: [u16; VARIABLES],
     budget: u16,
     strike: Option<Jump>,
     trace: &mut [u16],
-    text: &mut [u8; 65536],
-) -> usize
+    page: &mut W,
+)
     requires lines_value { is_hardened_lem lines.now ≡ true }
     requires budget_in_bounds { budget ≤ length trace.old }
 {
-    let mut starts = map::no_starts();
-    let mut owners = map::no_owners();
+    let table = Runnable::of(lines);
     let mut counters = no_counters();
-    map::survey(lines, &mut starts, &mut owners);
-    let home = map::home_of(lines, &starts, &owners);
     counters::fresh(&mut counters, 0, 1);
-    let mut at = 0;
-    let x = walk(
-        rt,
-        lines,
-        &starts,
-        &owners,
-        home,
-        begun(0, variables),
-        budget,
-        strike,
-        &mut counters,
-        trace,
-        &mut at,
-        text,
-    );
+    let start = begun(0, variables);
+    let x = walk(&table, start, budget, strike, &mut counters, trace, page);
     let s = x.step;
-    limit::list(rt, s, at, text)
+    let _ = limit::list(s, page);
 }
 
 // Nothing is listed where the lines are no hardened table.
-pub fn list(
-    rt: &impl Print,
+pub fn list<W: fmt::Write>(
     lines: &[u8],
     variables: [u16; VARIABLES],
     budget: u16,
     strike: Option<Jump>,
     trace: &mut [u16],
-    text: &mut [u8; 65536],
-) -> usize
+    page: &mut W,
+)
     requires { budget ≤ length trace.old }
 {
     if reader::is_hardened(lines) {
-        return list_accepted(rt, lines, variables, budget, strike, trace, text);
+        list_accepted(lines, variables, budget, strike, trace, page);
     }
-    0
 }

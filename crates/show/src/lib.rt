@@ -6,6 +6,5 @@ mod front;
 pub mod hardened_steps;
 mod limit;
 mod line_text;
-mod name;
 mod row_text;
 pub mod source_steps;

@@ -1,29 +1,12 @@
 // The limit that a run met, or the row that overflows, as `show` lists it behind the steps.
-use console::print;
 use rules::step::Step;
+use std::fmt;
 
-pub fn list(rt: &impl Print, s: Step, at: usize, text: &mut [u8; 65536]) -> usize {
+pub fn list<W: fmt::Write>(s: Step, page: &mut W) -> fmt::Result {
     match s {
-        Step::Went(_) => at,
-        Step::Finished => at,
-        Step::Alarm => at,
-        Step::TooManyOpen(n) => too_many_open(rt, n, at, text),
-        Step::Beyond(last) => beyond(rt, last, at, text),
-        Step::Overflow(row, _) => overflow(rt, row, at, text),
+        Step::Went(_) | Step::Finished | Step::Alarm => Ok(()),
+        Step::TooManyOpen(n) => writeln!(page, "{n} functions are open"),
+        Step::Beyond(last) => writeln!(page, "the last place is {last}"),
+        Step::Overflow(row, _) => writeln!(page, "row {row} overflows"),
     }
-}
-
-fn too_many_open(rt: &impl Print, n: u16, at: usize, text: &mut [u8; 65536]) -> usize {
-    let number = print::number(rt, n as u64, at, text);
-    print::word(rt, b" functions are open\n", number, text)
-}
-
-fn beyond(rt: &impl Print, last: u16, at: usize, text: &mut [u8; 65536]) -> usize {
-    let named = print::named(rt, b"the last place is ", last, at, text);
-    print::put(rt, b'\n', named, text)
-}
-
-fn overflow(rt: &impl Print, row: u16, at: usize, text: &mut [u8; 65536]) -> usize {
-    let named = print::named(rt, b"row ", row, at, text);
-    print::word(rt, b" overflows\n", named, text)
 }

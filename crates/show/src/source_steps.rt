@@ -12,13 +12,14 @@ ghost use Rattle.source.specs.Run.{parts_in, stopped_with, Going};
 ghost use Rattle.show.specs.Calls.{call_at, WalkedTo, CallsTold, spent_at};
 
 use crate::{limit, row_text};
-use chain::{Linked, SIZE, link};
+use chain::{SIZE, link};
 use layout::row;
 use rows::kind::is_call;
 use rules::limits::{FUNCTIONS, ROWS, VARIABLES};
 use rules::step::Step;
 use source::{goes, run};
 use state::machine::{Machine, Registers, Stopped, begun};
+use std::fmt;
 
 // Where a walk stopped, and the calls on its way.
 #[derive(Drop)]
@@ -27,34 +28,19 @@ struct Walked {
     calls: u16,
 }
 
-// What is told of a run: the bytes that the buffer then holds, and the calls made.
-#[derive(Clone, Copy)]
-pub struct Told {
-    pub at: usize,
-    pub calls: u16,
-}
-
-fn list_step(
-    rt: &impl Print,
-    rows: &[u8],
-    h: Registers,
-    show: bool,
-    at: usize,
-    text: &mut [u8; 65536],
-) -> usize
+// The run goes on where a step can't be listed: what is lost the page knows.
+fn list_step<W: fmt::Write>(rows: &[u8], h: Registers, show: bool, page: &mut W)
     requires { Inside rows.now h.at }
 {
     if show {
-        return row_text::list(rt, rows, h, at, text);
+        let _ = row_text::list(rows, h, page);
     }
-    at
 }
 
-fn list_end(rt: &impl Print, s: Step, show: bool, at: usize, text: &mut [u8; 65536]) -> usize {
+fn list_end<W: fmt::Write>(s: Step, show: bool, page: &mut W) {
     if show {
-        return limit::list(rt, s, at, text);
+        let _ = limit::list(s, page);
     }
-    at
 }
 
 // The calls once the step of this row is done.
@@ -62,7 +48,7 @@ fn with_row(rows: &[u8], h: Registers, calls: u16) -> u16
     requires { (Inside rows.now h.at) × (calls < 65535) }
     ensures { result ≡ calls + call_at (table_of rows.now) h.at }
 {
-    if is_call(row::kind(rows, row::index(h.at))) {
+    if is_call(row::kind(rows, usize::from(h.at))) {
         return calls + 1;
     }
     calls
@@ -78,26 +64,23 @@ fn spent(m: Machine) -> Stopped
     }
 }
 
-fn walk(
-    rt: &impl Print,
+fn walk<W: fmt::Write>(
     rows: &[u8],
     goes: &[u16; ROWS],
     start: Machine,
     budget: u16,
     trace: &mut [u16],
     show: bool,
-    at: &mut usize,
-    text: &mut [u8; 65536],
+    page: &mut W,
 ) -> Walked
     requires { (Known rows.now goes.now) × (Going rows.now budget (parts_in start trace.old)) }
     ensures { WalkedTo (table_of rows.now) budget (parts_in start trace.old) (stopped_with result.stopped trace.new) result.calls }
 {
     let mut m = start;
-    let mut left = budget;
     let mut calls = 0;
-    while 0 < left {
+    for _step in 0..budget {
         let h = m.registers;
-        *at = list_step(rt, rows, h, show, *at, text);
+        list_step(rows, h, show, page);
         let made = with_row(rows, h, calls);
         let x = run::step(rows, goes, m, trace);
         let s = x.step;
@@ -106,7 +89,6 @@ fn walk(
         };
         m = x.machine;
         calls = made;
-        left -= 1;
     }
     Walked {
         stopped: spent(m),
@@ -115,8 +97,7 @@ fn walk(
 }
 
 // An accepted table's run.
-fn tell_accepted(
-    rt: &impl Print,
+fn tell_accepted<W: fmt::Write>(
     rows: &[u8],
     ends: &[u16; ROWS],
     elses: &[u16; ROWS],
@@ -125,38 +106,24 @@ fn tell_accepted(
     budget: u16,
     show: bool,
     trace: &mut [u16],
-    text: &mut [u8; 65536],
-) -> Told
+    page: &mut W,
+) -> u16
     requires rows_value { verdict_of rows.now ≡ Accepted }
     requires links { Links (table_of rows.now) ends.now elses.now heads.now }
     requires budget_in_bounds { budget ≤ length trace.old }
-    ensures { result.calls ≡ calls_in (table_of rows.now) budget variables }
+    ensures { result ≡ calls_in (table_of rows.now) budget variables }
 {
     let mut goes = [0u16; ROWS];
     goes::find(rows, ends, elses, heads, &mut goes);
-    let mut at = 0;
-    let w = walk(
-        rt,
-        rows,
-        &goes,
-        begun(1, variables),
-        budget,
-        trace,
-        show,
-        &mut at,
-        text,
-    );
+    let w = walk(rows, &goes, begun(1, variables), budget, trace, show, page);
     let x = w.stopped;
     let s = x.step;
-    Told {
-        at: list_end(rt, s, show, at, text),
-        calls: w.calls,
-    }
+    list_end(s, show, page);
+    w.calls
 }
 
 // A table with a switch, whose rows are those of its chain. Nothing is listed where the table is refused.
-fn tell_switched(
-    rt: &impl Print,
+fn tell_switched<W: fmt::Write>(
     rows: &[u8],
     ends: &mut [u16; ROWS],
     elses: &mut [u16; ROWS],
@@ -165,17 +132,16 @@ fn tell_switched(
     budget: u16,
     show: bool,
     trace: &mut [u16],
-    text: &mut [u8; 65536],
-) -> Told
+    page: &mut W,
+) -> u16
     requires { budget ≤ length trace.old }
-    ensures { CallsTold rows.now budget variables result.at result.calls }
+    ensures { CallsTold rows.now budget variables page.old page.new result }
 {
     let mut chain = [0u8; SIZE];
     match link(rows, &mut chain, ends, elses, heads) {
-        Linked::Refused(_) => Told { at: 0, calls: 0 },
-        Linked::Bytes(n) => {
+        Err(_) => 0,
+        Ok(n) => {
             tell_accepted(
-                rt,
                 &chain[..n],
                 ends,
                 elses,
@@ -184,33 +150,33 @@ fn tell_switched(
                 budget,
                 show,
                 trace,
-                text,
+                page,
             )
         }
     }
 }
 
-pub fn tell(
-    rt: &impl Print,
+// How many calls the run makes.
+pub fn tell<W: fmt::Write>(
     rows: &[u8],
     variables: [u16; VARIABLES],
     budget: u16,
     show: bool,
     trace: &mut [u16],
-    text: &mut [u8; 65536],
-) -> Told
+    page: &mut W,
+) -> u16
     requires { budget ≤ length trace.old }
-    ensures { CallsTold rows.now budget variables result.at result.calls }
+    ensures { CallsTold rows.now budget variables page.old page.new result }
 {
     let mut ends = [0u16; ROWS];
     let mut elses = [0u16; ROWS];
     let mut heads = [0u16; FUNCTIONS];
     match table::check::check(rows, &mut ends, &mut elses, &mut heads) {
         Err(_) => tell_switched(
-            rt, rows, &mut ends, &mut elses, &mut heads, variables, budget, show, trace, text,
+            rows, &mut ends, &mut elses, &mut heads, variables, budget, show, trace, page,
         ),
         Ok(()) => tell_accepted(
-            rt, rows, &ends, &elses, &heads, variables, budget, show, trace, text,
+            rows, &ends, &elses, &heads, variables, budget, show, trace, page,
         ),
     }
 }

@@ -20,6 +20,7 @@ use Rattle.rules.specs.Links.{is_opening}
 use Rattle.rules.proofs.Logic.{clash, and_left}
 use Rattle.rules.proofs.Value.{held}
 use Rattle.rules.proofs.Accepted.{proper, table-length}
+use Rattle.layout.specs.declared.scope.Scope.{Scope}
 use Rattle.layout.specs.Scope.{Surveyed}
 use Rattle.layout.specs.Spot.{Inside, InLoop}
 use Rattle.layout.proofs.Around.{opened-by}
@@ -79,7 +80,7 @@ loop-open : (fs : List Open) → is_outside (from_loop fs) ≡ false → is_outs
 loop-open [] e = clash refl e
 loop-open (f ∷ fs) e = refl
 
-module _ {bs m : List ℕ} {i : ℕ} (s : Surveyed bs m) (l : i < length bs / 6) where
+module _ {bs : List ℕ} {m : List Scope} {i : ℕ} (s : Surveyed bs m) (l : i < length bs / 6) where
   abbrev t : Table
   t = table_of bs
 

@@ -23,6 +23,7 @@ use Rattle.rules.proofs.Scan.{chain}
 use Rattle.rules.proofs.Accepted.{proper, table-length}
 use Rattle.rules.proofs.Close.{end_is}
 use Rattle.rules.proofs.Function.{formed, is_body_lem}
+use Rattle.layout.specs.declared.scope.Scope.{Scope}
 use Rattle.layout.specs.Scope.{Surveyed}
 use Rattle.layout.specs.Spot.{Inside, Opens, in_body, is_loop_lem, OpenerIs, LoopIs, CalleeIs, Ends, Elses}
 use Rattle.layout.proofs.Scopes.{few_rows}
@@ -88,7 +89,7 @@ loop-part t i then_part e = clash e refl
 loop-part t i else_part e = clash e refl
 loop-part t i loop_body e = refl
 
-module _ {bs map : List ℕ} {i : ℕ} {b : Bool} (s : Surveyed bs map) (n : Inside bs i) (w : b ≡ in_body (table_of bs) i) where
+module _ {bs : List ℕ} {map : List Scope} {i : ℕ} {b : Bool} (s : Surveyed bs map) (n : Inside bs i) (w : b ≡ in_body (table_of bs) i) where
   in_table : i < length (table_of bs)
   in_table = omega (arith, n.row, table-length bs)
 
@@ -156,8 +157,13 @@ module _ (bs : List ℕ) (i : ℕ) {k : Kind} (q : k ≡ kind_at (table_of bs) i
       → r ≡ 4096 * code_of (table_of bs) i + go_of_lem (table_of bs) i
   word-is K c {op} {g} v y e = e ∙ ap (λ z. 4096 * z + g) (codes K c v) ∙ ap (λ z. 4096 * code_of (table_of bs) i + z) y
 
+  -- two kinds go on at the next row
+  pub next-word : (k ≡ Function) ⊎ (k ≡ Unknown) → {r : ℕ} → ◌≡◌ {A = ℕ} r 0 → r ≡ 4096 * code_of (table_of bs) i + go_of_lem (table_of bs) i
+  next-word (inl c) e = word-is Function c refl (function-goes bs i q c) e
+  next-word (inr c) e = word-is Unknown c refl (unknown-goes bs i q c) e
+
 -- both are small
-module _ {bs map : List ℕ} {i : ℕ} (s : Surveyed bs map) (l : i < length bs / 6) where
+module _ {bs : List ℕ} {map : List Scope} {i : ℕ} (s : Surveyed bs map) (l : i < length bs / 6) where
   pub small-code : {k : Kind} {op : ℕ} → k ≡ kind_at (table_of bs) i → op ≡ (operands_at (table_of bs) i).op → (K : Kind) → k ≡ K → code_by K op < 16
   small-code q v K c = subst (λ z. z < 16) (sym (codes bs i q K c v)) (code-low bs i s.accepted l)
 
@@ -187,7 +193,7 @@ fill_on {bs} {goes} {i} {r} a f l is = record { le = omega arith; long = length-
         ap (λ y. get_or (set goes i r) y 0) e ∙ get_or-set_same goes i r 0 (omega (arith, f.long, few_rows bs a)) ∙ is ∙ ap word (sym e)
     by j (inr x) = get_or-set_other goes i j r 0 (λ y. omega arith) ∙ f.below j (omega arith)
 
-pub filled : {bs map goes : List ℕ} {i : ℕ} → Surveyed bs map → Filling bs goes i → length bs / 6 ≤ i → Known bs goes
+pub filled : {bs : List ℕ} {map : List Scope} {goes : List ℕ} {i : ℕ} → Surveyed bs map → Filling bs goes i → length bs / 6 ≤ i → Known bs goes
 filled {bs} s f h =
     record {
       accepted = s.accepted;

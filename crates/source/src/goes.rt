@@ -9,12 +9,12 @@ ghost use Rattle.rules.specs.Scan.{open_at, part_of, end_of};
 ghost use Rattle.rules.specs.Check.{verdict_of};
 ghost use Rattle.rules.specs.Links.{Links};
 ghost use Rattle.rules.specs.Source.{false_row};
-ghost use Rattle.layout.specs.Scope.{Surveyed};
-ghost use Rattle.layout.specs.Spot.{Inside, Opens, Ends, Elses, Heads};
+ghost use Rattle.layout.specs.Spot.{Inside, Opens};
 ghost use Rattle.source.specs.Goes.{end_goes_lem, go_of_lem, code_of, Known};
 
-use layout::scope::MAP;
-use layout::{row, scope, spot};
+use layout::linked::Linked;
+use layout::scope::{MAP, Scope};
+use layout::{row, scope};
 use rules::kind::Kind;
 use rules::limits::{FUNCTIONS, ROWS};
 
@@ -45,36 +45,35 @@ pub const END: u16 = 9;
 pub const CALL: u16 = 10;
 
 // Past the end of what row o opens.
-fn past(rows: &[u8], ends: &[u16], o: usize) -> u16
-    requires { (verdict_of rows.now ≡ Accepted) × (Ends rows.now ends.now) × (Opens rows.now o) }
-    ensures { result ≡ suc (end_of (table_of rows.now) o) }
+fn past(table: &Linked, o: usize) -> u16
+    requires { Opens table.now.rows.now o }
+    ensures { result ≡ suc (end_of (table_of table.now.rows.now) o) }
 {
-    ends[o] + 1
+    table.ends[o] + 1
 }
 
 // To the else part of the if in row i, or past its end where there is none.
-fn if_go(rows: &[u8], ends: &[u16], elses: &[u16], i: usize) -> u16
-    requires rows_value { (verdict_of rows.now ≡ Accepted) × (Ends rows.now ends.now) × (Elses rows.now elses.now) }
-    requires i_in_bounds { (i < length rows.now / 6) × (kind_at (table_of rows.now) i ≡ Kind.If) }
-    ensures { result ≡ false_row (table_of rows.now) i }
+fn if_go(table: &Linked, i: usize) -> u16
+    requires { (i < length table.now.rows.now / 6) × (kind_at (table_of table.now.rows.now) i ≡ Kind.If) }
+    ensures { result ≡ false_row (table_of table.now.rows.now) i }
 {
-    let x = elses[i];
+    let x = table.elses[i];
     if x == 0 {
-        return past(rows, ends, i);
+        return past(table, i);
     }
     x + 1
 }
 
 // To nowhere from the end of a function, to the test from the end of a loop, past the end of an if.
-fn end_go(rows: &[u8], map: &[u16], i: usize) -> u16
-    requires { (Surveyed rows.now map.now) × (Inside rows.now i) }
-    ensures { result ≡ end_goes_lem (table_of rows.now) i (part_of (open_at (table_of rows.now) i)) }
+fn end_go(table: &Linked, i: usize) -> u16
+    requires { Inside table.now.rows.now i }
+    ensures { result ≡ end_goes_lem (table_of table.now.rows.now) i (part_of (open_at (table_of table.now.rows.now) i)) }
 {
-    if spot::in_body(rows, map, i) {
+    if table.in_body(i) {
         return 0;
     }
-    let o = spot::opener_of(rows, map, i);
-    if spot::is_loop(rows, o) {
+    let o = table.opener_of(i);
+    if table.is_loop(o) {
         return o as u16;
     }
     (i + 1) as u16
@@ -86,7 +85,7 @@ fn op_of(rows: &[u8], i: usize) -> u16
     ensures { result ≡ (operands_at (table_of rows.now) i).op }
 {
     let o = row::operands_of(rows, i);
-    o.op as u16
+    u16::from(o.op)
 }
 
 // What a row does and where it goes, in one word.
@@ -98,43 +97,31 @@ fn in_one(code: u16, go: u16) -> u16
 }
 
 // The word of row i.
-fn row_word(rows: &[u8], map: &[u16], ends: &[u16], elses: &[u16], heads: &[u16], i: usize) -> u16
-    requires surveyed { (Surveyed rows.now map.now) × (i < length rows.now / 6) }
-    requires ends { (Ends rows.now ends.now) × (Elses rows.now elses.now) × (Heads rows.now heads.now) }
-    ensures { result ≡ 4096 * code_of (table_of rows.now) i + go_of_lem (table_of rows.now) i }
+fn row_word(table: &Linked, i: usize) -> u16
+    requires { i < length table.now.rows.now / 6 }
+    ensures { result ≡ 4096 * code_of (table_of table.now.rows.now) i + go_of_lem (table_of table.now.rows.now) i }
 {
-    match row::kind(rows, i) {
-        Kind::Function => in_one(NEXT, 0),
-        Kind::Do => in_one(op_of(rows, i) + SET, 0),
-        Kind::If => in_one(op_of(rows, i) + EQUAL, if_go(rows, ends, elses, i)),
-        Kind::Else => in_one(GO, past(rows, ends, spot::opener_of(rows, map, i))),
-        Kind::Loop => in_one(op_of(rows, i) + EQUAL, past(rows, ends, i)),
-        Kind::End => in_one(END, end_go(rows, map, i)),
-        Kind::Break => in_one(GO, past(rows, ends, spot::loop_of(rows, map, i))),
-        Kind::Continue => in_one(GO, spot::loop_of(rows, map, i) as u16),
-        Kind::Call => in_one(CALL, (spot::callee_of(rows, map, heads, i) + 1) as u16),
-        Kind::Unknown => in_one(NEXT, 0),
+    match row::kind(table.rows, i) {
+        Kind::Function | Kind::Unknown => in_one(NEXT, 0),
+        Kind::Do => in_one(op_of(table.rows, i) + SET, 0),
+        Kind::If => in_one(op_of(table.rows, i) + EQUAL, if_go(table, i)),
+        Kind::Else => in_one(GO, past(table, table.opener_of(i))),
+        Kind::Loop => in_one(op_of(table.rows, i) + EQUAL, past(table, i)),
+        Kind::End => in_one(END, end_go(table, i)),
+        Kind::Break => in_one(GO, past(table, table.loop_of(i))),
+        Kind::Continue => in_one(GO, table.loop_of(i) as u16),
+        Kind::Call => in_one(CALL, (table.callee_of(i) + 1) as u16),
     }
 }
 
 // What every row does and where it goes, from the scopes of the rows and the links.
-fn fill(
-    rows: &[u8],
-    map: &[u16],
-    ends: &[u16],
-    elses: &[u16],
-    heads: &[u16],
-    goes: &mut [u16; ROWS],
-)
-    requires surveyed { (Surveyed rows.now map.now) × (length goes.old ≡ max_rows) }
-    requires ends { (Ends rows.now ends.now) × (Elses rows.now elses.now) × (Heads rows.now heads.now) }
-    ensures { Known rows.now goes.new }
+fn fill(table: &Linked, goes: &mut [u16; ROWS])
+    requires { length goes.old ≡ max_rows }
+    ensures { Known table.now.rows.now goes.new }
 {
-    let n = rows.len() / row::WIDTH;
-    let mut i = 0;
-    while i < n {
-        goes[i] = row_word(rows, map, ends, elses, heads, i);
-        i += 1;
+    let n = table.rows.len() / row::WIDTH;
+    for i in 0..n {
+        goes[i] = row_word(table, i);
     }
 }
 
@@ -150,7 +137,14 @@ pub fn find(
     requires goes_len { length goes.old ≡ max_rows }
     ensures { Known rows.now goes.new }
 {
-    let mut map = [0u16; MAP];
+    let mut map = [Scope::OUTERMOST; MAP];
     scope::survey(rows, &mut map);
-    fill(rows, &map, ends, elses, heads, goes);
+    let table = Linked {
+        rows,
+        map: &map,
+        ends,
+        elses,
+        heads,
+    };
+    fill(&table, goes);
 }

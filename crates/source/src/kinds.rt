@@ -35,7 +35,7 @@ fn go_of(rows: &[u8], goes: &[u16; ROWS], h: Registers) -> u16
     requires { (Standing rows.now h) × (Known rows.now goes.now) }
     ensures { result ≡ go_of_lem (table_of rows.now) h.at }
 {
-    goes[row::index(h.at)] % 4096
+    goes[usize::from(h.at)] % 4096
 }
 
 // What it does.
@@ -43,7 +43,7 @@ pub fn code_of(rows: &[u8], goes: &[u16; ROWS], h: Registers) -> u16
     requires { (Standing rows.now h) × (Known rows.now goes.now) }
     ensures { result ≡ code_of (table_of rows.now) h.at }
 {
-    goes[row::index(h.at)] / 4096
+    goes[usize::from(h.at)] / 4096
 }
 
 // Its fields. The caller knows its op and hands it on as a number that the compiler sees, so that nothing is left of the tests of it.
@@ -51,7 +51,7 @@ fn fields(rows: &[u8], h: Registers, op: u8) -> Operands
     requires { (Standing rows.now h) × ((operands_at (table_of rows.now) h.at).op ≡ op) }
     ensures { result ≡ operands_at (table_of rows.now) h.at }
 {
-    let o = row::operands_of(rows, row::index(h.at));
+    let o = row::operands_of(rows, usize::from(h.at));
     Operands {
         op,
         p: o.p,
@@ -143,6 +143,6 @@ pub fn call_row(
     if DEEPEST <= h.depth + 1 {
         return stay(Step::TooManyOpen(DEEPEST), standing(h, h.at, h.steps));
     }
-    let o = row::operands_of(rows, row::index(h.at));
+    let o = row::operands_of(rows, usize::from(h.at));
     opening(h, o.n as u8, go_of(rows, goes, h), resumes, functions)
 }

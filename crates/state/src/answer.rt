@@ -7,7 +7,8 @@ use crate::machine::Stopped;
 use rules::answer::Ran;
 use rules::step::Step;
 
-// The number that 01 has for what a run ended with.
+// The number that 01 has for what a run ended with, by a match, as 01 asks.
+#[tactic(auto, unfolding(rules::specs::Run::outcome_of_lem))]
 pub fn outcome_of(step: Step) -> u8
     ensures { result ≡ outcome_of_lem step }
 {

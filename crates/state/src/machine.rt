@@ -17,7 +17,8 @@ pub struct Registers {
     pub traced: u16,
 }
 
-// Where each function that waits goes on, and its number; the variables; the registers.
+// Where each function that waits goes on, and its number; the variables; the registers. Arrays side by side: 01 asks for this form of
+// the machine.
 #[derive(Clone, Copy)]
 pub struct Machine {
     pub resumes: [u16; OPEN],

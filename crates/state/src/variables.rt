@@ -20,6 +20,7 @@ fn difference_of(p: u16, x: u16, y: u16) -> Option<Assigned>
 }
 
 // Which variable a do gives which number. All arithmetic on variables is here, for either run.
+#[tactic(auto, unfolding(rules::specs::Variables::computed))]
 pub fn compute(o: Operands, variables: &[u16; VARIABLES]) -> Option<Assigned>
     requires { VariablesIn o }
     ensures { result ≡ computed o variables.now }
@@ -40,6 +41,7 @@ pub fn compute(o: Operands, variables: &[u16; VARIABLES]) -> Option<Assigned>
     difference_of(p, x, y)
 }
 
+#[tactic(auto, unfolding(rules::specs::Variables::holds_on))]
 pub fn holds(o: Operands, variables: &[u16; VARIABLES]) -> bool
     requires { VariablesIn o }
     ensures { result ≡ holds_on o variables.now }

@@ -17,31 +17,28 @@ use machine::run;
 use rules::limits::{FUNCTIONS, LINES, VARIABLES};
 use rules::step::Step;
 use state::machine::{Registers, afresh, begun};
+use std::fmt;
 use sweeper::steps::is_other;
 
 // One step's jump, where it finished with another trace.
-fn tell(
-    rt: &impl Print,
+fn tell<W: fmt::Write>(
     lines: &[u8],
     starts: &[u16; FUNCTIONS + 1],
     h: Registers,
     n: Narrow,
     step: u16,
-    at: usize,
-    text: &mut [u8; 65536],
-) -> usize
+    page: &mut W,
+) -> fmt::Result
     requires { Lands lines.now starts.now h n.line }
 {
     let ending = n.ending;
     if is_other(ending) {
-        return jump::tell(rt, lines, starts, h, n.line, step, at, text);
+        return jump::tell(lines, starts, h, n.line, step, page);
     }
-    at
+    Ok(())
 }
 
-// How many bytes the buffer then holds.
-pub fn walk(
-    rt: &impl Print,
+pub fn walk<W: fmt::Write>(
     lines: &[u8],
     starts: &[u16; FUNCTIONS + 1],
     owners: &[u8; LINES + 1],
@@ -52,16 +49,14 @@ pub fn walk(
     counters: &mut [u16],
     spare: &mut [u16],
     rows: &mut [u16],
-    text: &mut [u8; 65536],
-) -> usize
+    page: &mut W,
+) -> fmt::Result
     requires { (Ready lines.now (map_of starts.now owners.now home)) × (is_hardened_lem lines.now ≡ true) × (Finishes (lines_in lines.now) variables budget trace.now) × (length counters.old ≡ counter_words) × (length spare.old ≡ counter_words) × (length rows.old ≡ piece_steps) }
 {
     fresh(counters, 0, 1);
     let mut m = begun(0, variables);
     let mut at = 0;
-    let mut next = 0;
-    let mut left = budget;
-    while 0 < left {
+    for step in 0..budget {
         let h = m.registers;
         let n = narrow::across(
             lines,
@@ -69,21 +64,20 @@ pub fn walk(
             owners,
             home,
             m,
-            left,
+            budget - step,
             &trace[at..],
             counters,
             spare,
             rows,
         );
-        next = tell(rt, lines, starts, h, n, budget - left, next, text);
+        tell(lines, starts, h, n, step, page)?;
         let x = run::step(lines, starts, owners, home, m, counters, rows);
         let s = x.step;
         let Step::Went(_) = s else {
-            return next;
+            return Ok(());
         };
         at += x.machine.registers.traced as usize;
         m = afresh(x.machine);
-        left -= 1;
     }
-    next
+    Ok(())
 }

@@ -16,12 +16,14 @@ mod jump;
 mod list;
 mod map;
 
-use command::sweep_words::{SweepAsked, SweepGiven};
+use command::sweep_words::{SweepAsked, SweepFault};
 use command::{sweep_words, wrong};
-use console::input::Read;
+use console::page::Page;
+use console::standard_error::StandardError;
 use console::{input, output, start};
-use rules::limits::{COUNTERS, VARIABLES};
+use rules::limits::COUNTERS;
 use std::env::Env;
+use std::fmt::Write;
 
 // Slots for the longest trace.
 fn slots() -> [u16; 65535] {
@@ -46,58 +48,39 @@ map draws how every jump inside function F ends, as an SVG picture.
 
 fn take_words(rt: &(impl Env + Input + Print)) {
     let mut buffer = io::buffer();
-    let mut variables = [0u16; VARIABLES];
-    match sweep_words::read(rt, &mut buffer, &mut variables) {
-        SweepGiven::Wrong(f) => {
-            let expected = f.expected;
-            let n = output::within(f.length, &buffer);
-            wrong::say(&mut buffer[..n], expected);
+    match sweep_words::read(rt, &mut buffer) {
+        Err(SweepFault::Word(f)) => {
+            let n = f.length.min(buffer.len());
+            wrong::say(&mut buffer[..n], f.expected);
         }
-        SweepGiven::Mapless => {
-            io::write_all(2, b"function= needs the word map\n");
+        Err(SweepFault::Mapless) => {
+            let _ = writeln!(StandardError, "function= needs the word map");
         }
-        SweepGiven::Right(a) => {
+        Ok(a) => {
             let mut bytes = io::large_buffer();
-            take_lines(rt, a, variables, &mut buffer, &mut bytes);
+            take_lines(rt, a, &mut buffer, &mut bytes);
         }
     }
 }
 
-fn take_lines(
-    rt: &(impl Input + Print),
-    a: SweepAsked,
-    variables: [u16; VARIABLES],
-    chunk: &mut [u8],
-    bytes: &mut [u8],
-)
+fn take_lines(rt: &(impl Input + Print), a: SweepAsked, chunk: &mut [u8], bytes: &mut [u8])
     requires { 65536 ≡ length bytes.old }
 {
-    match input::take_lines(rt, chunk, bytes) {
-        Read::Bytes(n) => {
-            let all = output::within(n, bytes);
-            sweep(rt, a, &bytes[..all], variables);
-        }
-        Read::Nothing => {}
+    if let Some(n) = input::take_lines(rt, chunk, bytes) {
+        sweep(rt, a, output::front(n, bytes));
     }
 }
 
-fn sweep(rt: &impl Print, a: SweepAsked, lines: &[u8], variables: [u16; VARIABLES]) {
-    let mut text = io::large_buffer();
+fn sweep(rt: &impl Print, a: SweepAsked, lines: &[u8]) {
+    let mut page = Page::new(rt);
     let mut trace = slots();
     let mut counters = [0u16; COUNTERS];
-    let r = finuraho::sweep(lines, variables, a.budget, &mut trace, &mut counters);
-    if r.number != 0 {
-        output::refused(rt, r.number, &mut text);
-        return;
-    }
-    answer::answer(
-        rt,
-        a,
-        r,
-        lines,
-        variables,
-        &mut trace,
-        &mut counters,
-        &mut text,
-    );
+    let r = finuraho::sweep(lines, a.variables, a.budget, &mut trace, &mut counters);
+    // Where output is lost the page says so.
+    let _ = if r.number != 0 {
+        writeln!(page, "refused {}", r.number)
+    } else {
+        answer::answer(a, r, lines, &mut trace, &mut counters, &mut page)
+    };
+    page.flush();
 }

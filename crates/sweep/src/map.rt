@@ -8,22 +8,22 @@ ghost use Rattle.machine.specs.Stands.{Ready};
 ghost use Rattle.compare.specs.Compared.{piece_steps};
 ghost use Rattle.sweeper.specs.Steps.{Finishes};
 
-use console::print;
+use console::standard_error::StandardError;
 use picture::function;
 use rules::answer::Swept;
 use rules::limits::{FUNCTIONS, LINES, VARIABLES};
+use std::fmt;
+use std::fmt::Write as _;
 
 // On standard error: nothing is drawn.
 fn tell_missing(wanted: u8, last: u8) {
-    io::write_all(2, b"function ");
-    io::print_decimal(2, wanted as u64);
-    io::write_all(2, b" is not there: the last one is ");
-    io::print_decimal(2, last as u64);
-    io::write_all(2, b"\n");
+    let _ = writeln!(
+        StandardError,
+        "function {wanted} is not there: the last one is {last}"
+    );
 }
 
-pub fn show(
-    rt: &impl Print,
+pub fn show<W: fmt::Write>(
     lines: &[u8],
     starts: &[u16; FUNCTIONS + 1],
     owners: &[u8; LINES + 1],
@@ -36,18 +36,17 @@ pub fn show(
     counters: &mut [u16],
     spare: &mut [u16],
     rows: &mut [u16],
-    text: &mut [u8; 65536],
-)
+    page: &mut W,
+) -> fmt::Result
     requires { (Ready lines.now (map_of starts.now owners.now home)) × (is_hardened_lem lines.now ≡ true) × (Finishes (lines_in lines.now) variables budget trace.now) × (length counters.old ≡ counter_words) × (length spare.old ≡ counter_words) × (length rows.old ≡ piece_steps) }
 {
     let last = function::last_of(lines, starts, owners, home);
     if last < wanted {
         tell_missing(wanted, last);
-        return;
+        return Ok(());
     }
-    let at = function::draw(
-        rt, lines, starts, owners, home, variables, budget, trace, wanted, swept, counters, spare,
-        rows, text,
-    );
-    print::flush(rt, at, text);
+    function::draw(
+        lines, starts, owners, home, variables, budget, trace, wanted, swept, counters, spare,
+        rows, page,
+    )
 }

@@ -30,7 +30,8 @@ use Rattle.machine.proofs.Runs.{Ended, run-agrees}
 use Rattle.machine.proofs.Start.{stands-start, going_start}
 use Rattle.compare.specs.Compared.{Stood, Standing}
 use Rattle.sweeper.specs.Table.{is_finish_lem, outcome_in, traced, traced_of}
-use Rattle.sweeper.proofs.Walking.{form, state_of, stood-start}
+use Rattle.sweeper.specs.Walk.{form, state_of}
+use Rattle.sweeper.proofs.Walking.{stood-start}
 
 finish-is : (tr : List ℕ) (a : Answer Counters) → is_finish_lem (ending_of tr a) ≡ eqb (outcome_of_lem a.step) 1
 unfolding ending_of

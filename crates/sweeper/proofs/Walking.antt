@@ -4,9 +4,9 @@ use mathlib.Core.Logic.{◌≢◌}
 use mathlib.Core.Bool.{cond}
 use mathlib.Core.List.{List, []}
 use Prim.Native.Nat.{ℕ, suc, ◌+◌, ◌-◌, ◌≤◌, ◌<◌}
+use native.Mathlib.Numerals.{add-one}
 use native.Mathlib.Omega.{arith}
-use lib.ListN.{length, take, drop, length-append, length-drop}
-use lib.Seq.{take-length}
+use lib.ListN.{length, drop, length-append}
 use lib.Dec.{eqb}
 use Rattle.rules.specs.declared.ending.Ending.TheVariants.{Same}
 use Rattle.rules.specs.declared.step.Step.TheVariants.{Went}
@@ -14,10 +14,7 @@ use Rattle.rules.specs.Strike.{None}
 use Rattle.rules.specs.Line.{lines_in}
 use Rattle.rules.specs.State.{retraced}
 use Rattle.rules.specs.Run.{Answer, run, outcome_of_lem}
-use Rattle.rules.specs.Form.{Form}
-use Rattle.rules.specs.Hardened.{Counters, Hardened, counter_form, striking_step}
-use Rattle.rules.specs.RunPromise.{state_at}
-use Rattle.rules.specs.Sweep.{unstruck_run}
+use Rattle.rules.specs.Hardened.{Counters, striking_step}
 use Rattle.rules.specs.Settled.{across, narrow_ending, StandsBefore, SweepLaw}
 use Rattle.rules.proofs.Form.Trace.{run_on_steps}
 use Rattle.rules.proofs.Form.Walk.{some-step, start_is, in-budget, known-trace, narrow_rest, walk-over, WalksOn, walks_on}
@@ -36,23 +33,7 @@ use Rattle.compare.specs.declared.narrow.Narrow.{Narrow}
 use Rattle.compare.specs.Compared.{piece_steps, Stood, Standing, ends_at}
 use Rattle.compare.specs.Narrow.{NarrowIs}
 use Rattle.compare.proofs.Comparing.{restand, going-piece}
-
-abbrev pub form : (bs : List ℕ) → Form Counters
-form bs = counter_form (lines_in bs)
-
-abbrev pub unstruck : (bs vs : List ℕ) → (b : ℕ) → Answer Counters
-unstruck bs vs b = unstruck_run (form bs) (lines_in bs) vs b
-
-abbrev pub state_of : (bs vs : List ℕ) → (k : ℕ) → Hardened
-state_of bs vs k = state_at (form bs) (lines_in bs) vs k
-
--- the loop stands before step k, with `left` steps of the budget to come and `at` rows of the trace behind it
-pub record Walking (bs vs : List ℕ) (b k left : ℕ) (m : Machine) (ws : List ℕ) (at : ℕ) : Type 0 where
-  pub going : k < (unstruck bs vs b).steps
-  pub left_is : left ≡ b - k
-  pub stood : Stood (lines_in bs) m ws (state_of bs vs k)
-  pub at_is : at ≡ length (state_of bs vs k).trace
-  pub few_rows : at ≤ k
+use Rattle.sweeper.specs.Walk.{form, unstruck, state_of, Walking}
 
 -- ---- the start
 pub stood-start : (bs vs ws : List ℕ) (m : Machine) → Sound (lines_in bs) → m ≡ begun_at 0 vs → length ws ≡ 1024 → Stood (lines_in bs) m (fresh_at ws 0 1) (state_of bs vs 0)
@@ -63,15 +44,19 @@ stood-start bs vs ws m so bg long =
       no_steps = ap (λ y. y.steps) (begins bg).registers_are;
     })
 
-pub walk-starts : (bs vs ws : List ℕ) (b : ℕ) (m : Machine) → Sound (lines_in bs) → m ≡ begun_at 0 vs → length ws ≡ 1024 → (us : List ℕ) → us ≡ fresh_at ws 0 1 → outcome_of_lem (unstruck bs vs b).step ≡ 1 → Walking bs vs b 0 b m us 0
+pub walk-starts : (bs vs ws : List ℕ) (b : ℕ) (m : Machine) → Sound (lines_in bs) → m ≡ begun_at 0 vs → length ws ≡ 1024 → (us : List ℕ) → us ≡ fresh_at ws 0 1 → outcome_of_lem (unstruck bs vs b).step ≡ 1 → Walking bs vs b 0 (b - 0) m us 0
 walk-starts bs vs ws b m so bg long us e fin =
     record {
       going = some-step (form bs) (lines_in bs) vs b fin;
-      left_is = omega arith;
+      left_is = refl;
       stood = subst (λ x. Stood (lines_in bs) m x (state_of bs vs 0)) (sym e) (stood-start bs vs ws m so bg long);
       at_is = sym (ap (λ s. length s.trace) (start_is (form bs) (lines_in bs) vs));
       few_rows = omega arith;
     }
+
+-- as the loop counts
+pub counted-on : {bs vs : List ℕ} {b k left : ℕ} {m : Machine} {ws : List ℕ} {at : ℕ} → Walking bs vs b (suc k) left m ws at → Walking bs vs b (k + 1) (b - (k + 1)) m ws at
+counted-on w = rw add-one (record { going = w.going; left_is = refl; stood = w.stood; at_is = w.at_is; few_rows = w.few_rows })
 
 -- ---- what the loop knows before a step
 module _ (bs vs : List ℕ) (b k left : ℕ) (m : Machine) (ws : List ℕ) (at : ℕ) (w : Walking bs vs b k left m ws at) where
@@ -155,7 +140,3 @@ module _ (bs vs : List ℕ) (b k left : ℕ) (m : Machine) (ws : List ℕ) (at :
   -- the run ends before the budget does
   pub never_spent : {A : Type 0} → left ≤ 0 → A
   never_spent h = absurd (let z : ⊥ = omega (arith, w.left_is, in_steps) in z)
-
--- a slice from row `at` on
-pub from_there : (tr : List ℕ) (at : ℕ) → take (length tr - at) (drop at tr) ≡ drop at tr
-from_there tr at = ap (λ n. take n (drop at tr)) (sym (length-drop at tr)) ∙ take-length (drop at tr)

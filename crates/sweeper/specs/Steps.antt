@@ -1,20 +1,13 @@
--- The steps of an unstruck run that finishes, and what the places of the running function are counted by.
-use Rattle.std.specs.Prelude.{ℕ, ◌+◌, ◌*◌, ◌-◌, ◌≤◌, ◌<◌, ◌≡◌, List, length, get_or}
+-- What the places of the running function are counted by.
+use Rattle.std.specs.Prelude.{ℕ, ◌+◌, ◌*◌, ◌-◌, ◌≤◌, ◌<◌, List, length, get_or}
 use Rattle.rules.specs.declared.ending.Ending.{Ending}
 use Rattle.rules.specs.declared.ending.Counts.{Counts}
 use Rattle.rules.specs.Limits.{max_functions}
-use Rattle.rules.specs.Line.{Line, line_width}
-use Rattle.rules.specs.Run.{outcome_of_lem}
-use Rattle.rules.specs.Hardened.{counter_form}
-use Rattle.rules.specs.Sweep.{total, unstruck_run}
+use Rattle.rules.specs.Line.{line_width}
+use Rattle.rules.specs.Sweep.{total}
 use Rattle.state.specs.declared.machine.Machine.{Machine}
 use Rattle.state.specs.declared.machine.Registers.{Registers}
 use Rattle.places.specs.Places.{DosIn, Beside, ending_at, max_count, counted_to}
-
--- the unstruck run finishes in the budget, with this trace
-pub record Finishes (ls : List Line) (vars : List ℕ) (budget : ℕ) (trace : List ℕ) : Type 0 where
-  pub finished : outcome_of_lem (unstruck_run (counter_form ls) ls vars budget).step ≡ 1
-  pub trace_is : trace ≡ (unstruck_run (counter_form ls) ls vars budget).state.trace
 
 -- the first line of the running function, and its place m as a line number
 abbrev pub first_of : (starts : List ℕ) → Registers → ℕ

@@ -1,21 +1,13 @@
 -- What the sweep of a hardened table answers and leaves in the slots and the words.
-use Rattle.std.specs.Prelude.{ℕ, ◌≡◌, ◌≢◌, Bool, true, false, cond, List, eqb, length}
+use Rattle.std.specs.Prelude.{ℕ, ◌≡◌, ◌≢◌, Bool, true, false, cond, List, eqb, length, Option, Some, None}
 use Rattle.rules.specs.declared.ending.Ending.{Ending}
 use Rattle.rules.specs.declared.ending.Ending.TheVariants.{Alarmed, Same, Other, Unfinished}
 use Rattle.rules.specs.Limits.{counter_words}
-use Rattle.rules.specs.Line.{lines_in}
-use Rattle.rules.specs.Function.{ret_value}
 use Rattle.rules.specs.Run.{outcome_of_lem}
 use Rattle.rules.specs.Calls.{over, zeros}
 use Rattle.rules.specs.Sweep.{any_other}
 use Rattle.rules.specs.SweepCall.{unstruck_of, counts_of}
-use Rattle.machine.specs.Stands.{Located}
-use Rattle.sweeper.specs.declared.table.Count as Count
-use Rattle.sweeper.specs.declared.table.Count.TheVariants as count
-use Rattle.sweeper.specs.declared.table.Search as Search
-use Rattle.sweeper.specs.declared.table.Search.TheVariants as search
-use Rattle.sweeper.specs.declared.table.Prepared as Prepared
-use Rattle.sweeper.specs.declared.table.Prepared.TheVariants as prepared
+use Rattle.rules.specs.declared.ending.Counts.{Counts}
 
 -- a run that ends so is finished
 abbrev pub is_finish_lem : Ending → Bool
@@ -41,40 +33,41 @@ traced_of bs vs b slots =
     traced (length (unstruck_of bs vs b).state.trace) (over (unstruck_of bs vs b).state.trace slots)
 
 -- where it finishes it is recorded; else nothing is changed
-abbrev pub PreparedBy : (lines vars : List ℕ) → (budget : ℕ) → (slots words slots' words' : List ℕ) → Prepared.Prepared → Type 0
-PreparedBy bs vs b slots words slots' words' prepared.NotFinished = (outcome_in bs vs b ≢ 1) × (slots' ≡ slots) × (words' ≡ words)
-PreparedBy bs vs b slots words slots' words' (prepared.Traced home n) =
-    (outcome_in bs vs b ≡ 1) × (home ≡ ret_value (lines_in bs) 0) × (traced n slots' ≡ traced_of bs vs b slots)
+abbrev pub PreparedBy : (lines vars : List ℕ) → (budget : ℕ) → (slots words slots' words' : List ℕ) → Option ℕ → Type 0
+PreparedBy bs vs b slots words slots' words' None = (outcome_in bs vs b ≢ 1) × (slots' ≡ slots) × (words' ≡ words)
+PreparedBy bs vs b slots words slots' words' (Some n) = (outcome_in bs vs b ≡ 1) × (traced n slots' ≡ traced_of bs vs b slots)
 
-pub record PreparedIs (lines vars : List ℕ) (budget : ℕ) (slots words starts owners slots' words' : List ℕ) (r : Prepared.Prepared) : Type 0 where
-  pub located : Located (lines_in lines) starts owners
-  pub is : PreparedBy lines vars budget slots words slots' words' r
+-- what is asked has been shown all steps, and the words are 0; else nothing is changed
+abbrev pub AnsweredBy : {A : Type 0} → (struck : ℕ → A → Type 0) → (lines vars : List ℕ) → (budget : ℕ) → (slots words slots' words' : List ℕ) → Option A → Type 0
+AnsweredBy S bs vs b slots words slots' words' None = (outcome_in bs vs b ≢ 1) × (slots' ≡ slots) × (words' ≡ words)
+AnsweredBy S bs vs b slots words slots' words' (Some x) =
+    (outcome_in bs vs b ≡ 1) × (slots' ≡ over (unstruck_of bs vs b).state.trace slots) × (words' ≡ zeros counter_words) × S (unstruck_of bs vs b).steps x
 
 -- ---- the answers, with the slots and the words after them
 pub record Sweeping : Type 0 where
-  pub answer : Count.Count
+  pub answer : Option Counts
   pub slots : List ℕ
   pub words : List ℕ
 
-abbrev pub swept_with : Count.Count → (slots words : List ℕ) → Sweeping
+abbrev pub swept_with : Option Counts → (slots words : List ℕ) → Sweeping
 swept_with r slots words = record { answer = r; slots = slots; words = words }
 
 abbrev pub swept_of : (lines vars : List ℕ) → (budget : ℕ) → (slots words : List ℕ) → Sweeping
 swept_of bs vs b slots words =
     cond (eqb (outcome_in bs vs b) 1)
-    (swept_with (count.Of (counts_of bs vs b)) (over (unstruck_of bs vs b).state.trace slots) (zeros counter_words))
-    (swept_with count.NotFinished slots words)
+    (swept_with (Some (counts_of bs vs b)) (over (unstruck_of bs vs b).state.trace slots) (zeros counter_words))
+    (swept_with None slots words)
 
 pub record Asking : Type 0 where
-  pub answer : Search.Search
+  pub answer : Option Bool
   pub slots : List ℕ
   pub words : List ℕ
 
-abbrev pub asked_with : Search.Search → (slots words : List ℕ) → Asking
+abbrev pub asked_with : Option Bool → (slots words : List ℕ) → Asking
 asked_with r slots words = record { answer = r; slots = slots; words = words }
 
 abbrev pub asked_of : (lines vars : List ℕ) → (budget : ℕ) → (slots words : List ℕ) → Asking
 asked_of bs vs b slots words =
     cond (eqb (outcome_in bs vs b) 1)
-    (asked_with (search.Found (any_other (counts_of bs vs b))) (over (unstruck_of bs vs b).state.trace slots) (zeros counter_words))
-    (asked_with search.NotFinished slots words)
+    (asked_with (Some (any_other (counts_of bs vs b))) (over (unstruck_of bs vs b).state.trace slots) (zeros counter_words))
+    (asked_with None slots words)

@@ -5,11 +5,9 @@ ghost use Rattle.rules.specs.SweepCall.{sweep_call, sweep_other_call};
 ghost use Rattle.sweeper.specs.Call.{refused_swept, refused_any_lem, counts_in, sweeps, asks};
 
 use crate::table;
-use crate::table::{Count, Search};
 use rules::answer::{AnyOther, Swept};
 use rules::ending::Counts;
 use rules::limits::{COUNTERS, VARIABLES};
-use rules::number;
 use rules::refusal::Refusal;
 
 // A number added later returns as 1 does: it, and zeros.
@@ -17,7 +15,7 @@ pub fn refused(r: Refusal) -> Swept
     ensures { result ≡ refused_swept r }
 {
     Swept {
-        number: number::of_refusal(r),
+        number: u8::from(r),
         alarms: 0,
         same: 0,
         other: 0,
@@ -29,7 +27,7 @@ pub fn refused_any(r: Refusal) -> AnyOther
     ensures { result ≡ refused_any_lem r }
 {
     AnyOther {
-        number: number::of_refusal(r),
+        number: u8::from(r),
         other: false,
     }
 }
@@ -66,8 +64,8 @@ pub fn sweep(
     }
     let x = table::sweep(lines, variables, budget, trace, &mut counters[..COUNTERS]);
     match x {
-        Count::NotFinished => refused(Refusal::NotFinished),
-        Count::Of(c) => counted(c),
+        Some(c) => counted(c),
+        None => refused(Refusal::NotFinished),
     }
 }
 
@@ -91,7 +89,7 @@ pub fn sweep_other(
     }
     let x = table::sweep_other(lines, variables, budget, trace, &mut counters[..COUNTERS]);
     match x {
-        Search::NotFinished => refused_any(Refusal::NotFinished),
-        Search::Found(other) => AnyOther { number: 0, other },
+        Some(other) => AnyOther { number: 0, other },
+        None => refused_any(Refusal::NotFinished),
     }
 }

@@ -4,3 +4,5 @@
 pub mod call;
 pub mod steps;
 pub mod table;
+pub mod unstruck;
+pub mod walk;

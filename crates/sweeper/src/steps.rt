@@ -1,152 +1,106 @@
-// The steps of an unstruck run that finishes and whose trace is known: each is struck with every place of the function running then. One test
-// settles a place, and the jump across one do is run.
-ghost use Rattle.std.specs.Prelude.{◌≡◌, true, length};
-ghost use Rattle.rules.specs.Limits.{counter_words};
+// What the two sweeps ask: how many runs end in each way, and whether any finishes with another trace. At each step of the unstruck run one
+// test settles a place of the function running then, and the jump across one do is run.
+ghost use Rattle.std.specs.Prelude.{◌≡◌};
 ghost use Rattle.rules.specs.Line.{lines_in};
-ghost use Rattle.rules.specs.ReadBack.{is_hardened_lem};
-ghost use Rattle.rules.specs.Hardened.{counter_form};
-ghost use Rattle.rules.specs.Sweep.{sweep_of, any_other};
+ghost use Rattle.rules.specs.Sweep.{sum_counts, sweep_step, any_other};
 ghost use Rattle.rules.specs.Settled.{is_other_lem};
-ghost use Rattle.machine.specs.Step.{map_of};
-ghost use Rattle.machine.specs.Stands.{Ready};
-ghost use Rattle.compare.specs.Compared.{piece_steps};
-ghost use Rattle.sweeper.specs.Steps.{Finishes, InTable, places_of};
+ghost use Rattle.sweeper.specs.Walk.{form};
+ghost use Rattle.sweeper.specs.Steps.{InTable, places_of};
 
+use crate::unstruck::Unstruck;
+use crate::walk::Asked;
 use compare::narrow;
-use guard::counters::fresh;
-use machine::run;
-use places::count::{nothing, places};
+use compare::spare::Spare;
+use machine::table::Runnable;
+use places::count::places;
 use rules::ending::{Counts, Ending};
-use rules::limits::{FUNCTIONS, LINES, VARIABLES};
-use rules::step::Step;
-use state::machine::{Machine, afresh, begun};
+use state::machine::Machine;
 
 // The places of the function that runs in this machine.
 fn strike_all(
-    lines: &[u8],
-    starts: &[u16; FUNCTIONS + 1],
+    table: &Runnable,
     m: Machine,
     across: u16,
     narrow: Ending,
     left: u16,
     begun: Counts,
 ) -> Counts
-    requires { InTable lines.now starts.now m.registers across begun }
-    ensures { result ≡ places_of lines.now starts.now m across narrow left begun }
+    requires { InTable table.now.lines.now table.now.starts m.registers across begun }
+    ensures { result ≡ places_of table.now.lines.now table.now.starts m across narrow left begun }
 {
     let h = m.registers;
     let variables = m.variables;
     let f = h.function as usize;
-    let first = starts[f];
-    let last = starts[f + 1];
+    let first = table.starts[f];
+    let last = table.starts[f + 1];
     places(
-        lines, first, last, h.at, across, h.depth, &variables, narrow, left, begun,
+        table.lines,
+        first,
+        last,
+        h.at,
+        across,
+        h.depth,
+        &variables,
+        narrow,
+        left,
+        begun,
     )
 }
 
-pub fn count(
-    lines: &[u8],
-    starts: &[u16; FUNCTIONS + 1],
-    owners: &[u8; LINES + 1],
-    home: u16,
-    variables: [u16; VARIABLES],
-    budget: u16,
-    trace: &[u16],
-    counters: &mut [u16],
-    spare: &mut [u16],
-    rows: &mut [u16],
-) -> Counts
-    requires { (Ready lines.now (map_of starts.now owners.now home)) × (is_hardened_lem lines.now ≡ true) × (Finishes (lines_in lines.now) variables budget trace.now) × (length counters.old ≡ counter_words) × (length spare.old ≡ counter_words) × (length rows.old ≡ piece_steps) }
-    ensures { result ≡ sweep_of (counter_form (lines_in lines.now)) (lines_in lines.now) variables budget }
-{
-    fresh(counters, 0, 1);
-    let mut m = begun(0, variables);
-    let mut c = nothing();
-    let mut at = 0;
-    let mut left = budget;
-    while 0 < left {
-        let n = narrow::across(
-            lines,
-            starts,
-            owners,
-            home,
-            m,
-            left,
-            &trace[at..],
-            counters,
-            spare,
-            rows,
-        );
+// The four counts, of all places of each step.
+#[derive(Drop)]
+pub struct Counting {
+    pub counts: Counts,
+}
+
+impl Asked for Counting {
+    ghost struck = { λ lines vars b k it. it.counts ≡ sum_counts k (sweep_step (form lines) (lines_in lines) vars b) };
+
+    fn strike(
+        &mut self,
+        run: &Unstruck,
+        step: u16,
+        machine: Machine,
+        known: &[u16],
+        counters: &[u16],
+        spare: &mut Spare,
+    ) -> bool {
+        let left = run.budget - step;
+        let n = narrow::across(run.table, machine, left, known, counters, spare);
         let ending = n.ending;
-        c = strike_all(lines, starts, m, n.line, ending, left, c);
-        let x = run::step(lines, starts, owners, home, m, counters, rows);
-        let s = x.step;
-        let Step::Went(_) = s else {
-            return c;
-        };
-        at += x.machine.registers.traced as usize;
-        m = afresh(x.machine);
-        left -= 1;
+        self.counts = strike_all(run.table, machine, n.line, ending, left, self.counts);
+        true
     }
-    c
 }
 
 pub fn is_other(e: Ending) -> bool
     ensures { result ≡ is_other_lem e }
 {
-    match e {
-        Ending::Alarmed => false,
-        Ending::Same => false,
-        Ending::Other => true,
-        Ending::Unfinished => false,
-    }
+    matches!(e, Ending::Other)
 }
 
-// Whether any of them finishes with another trace: only the jump across one do can, so nothing else is tried.
-pub fn any(
-    lines: &[u8],
-    starts: &[u16; FUNCTIONS + 1],
-    owners: &[u8; LINES + 1],
-    home: u16,
-    variables: [u16; VARIABLES],
-    budget: u16,
-    trace: &[u16],
-    counters: &mut [u16],
-    spare: &mut [u16],
-    rows: &mut [u16],
-) -> bool
-    requires { (Ready lines.now (map_of starts.now owners.now home)) × (is_hardened_lem lines.now ≡ true) × (Finishes (lines_in lines.now) variables budget trace.now) × (length counters.old ≡ counter_words) × (length spare.old ≡ counter_words) × (length rows.old ≡ piece_steps) }
-    ensures { result ≡ any_other (sweep_of (counter_form (lines_in lines.now)) (lines_in lines.now) variables budget) }
-{
-    fresh(counters, 0, 1);
-    let mut m = begun(0, variables);
-    let mut at = 0;
-    let mut left = budget;
-    while 0 < left {
-        let n = narrow::across(
-            lines,
-            starts,
-            owners,
-            home,
-            m,
-            left,
-            &trace[at..],
-            counters,
-            spare,
-            rows,
-        );
-        let ending = n.ending;
-        if is_other(ending) {
-            return true;
-        }
-        let x = run::step(lines, starts, owners, home, m, counters, rows);
-        let s = x.step;
-        let Step::Went(_) = s else {
-            return false;
-        };
-        at += x.machine.registers.traced as usize;
-        m = afresh(x.machine);
-        left -= 1;
+// Whether any finishes with another trace: only the jump across one do can, so nothing else is tried.
+#[derive(Drop)]
+pub struct Searching {
+    pub found: bool,
+}
+
+impl Asked for Searching {
+    ghost struck = { λ lines vars b k it. it.found ≡ any_other (sum_counts k (sweep_step (form lines) (lines_in lines) vars b)) };
+
+    fn strike(
+        &mut self,
+        run: &Unstruck,
+        step: u16,
+        machine: Machine,
+        known: &[u16],
+        counters: &[u16],
+        spare: &mut Spare,
+    ) -> bool {
+        let left = run.budget - step;
+        let n = narrow::across(run.table, machine, left, known, counters, spare);
+        let found = self.found | is_other(n.ending);
+        self.found = found;
+        !found
     }
-    false
 }

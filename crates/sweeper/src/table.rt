@@ -1,214 +1,131 @@
 // The sweep of a hardened table. The unstruck run is tried first, so that nothing is written where it does not finish.
-ghost use Rattle.std.specs.Prelude.{◌≡◌, true, ◌+◌, ◌≤◌, eqb, length};
-ghost use Rattle.rules.specs.Limits.{counter_words, max_functions, max_lines};
-ghost use Rattle.rules.specs.Line.{lines_in};
+ghost use Rattle.std.specs.Prelude.{◌≡◌, true, ◌≤◌, eqb, length};
+ghost use Rattle.rules.specs.Limits.{counter_words};
 ghost use Rattle.rules.specs.ReadBack.{is_hardened_lem};
-ghost use Rattle.rules.specs.Run.{outcome_of_lem};
-ghost use Rattle.rules.specs.Hardened.{counter_form};
-ghost use Rattle.rules.specs.Sweep.{unstruck_run};
-ghost use Rattle.machine.specs.Step.{map_of};
-ghost use Rattle.machine.specs.Stands.{Ready};
-ghost use Rattle.compare.specs.Compared.{piece_steps};
-ghost use Rattle.sweeper.specs.Table.{is_finish_lem, traced, traced_of, PreparedIs, swept_with, swept_of, asked_with, asked_of};
+ghost use Rattle.sweeper.specs.Table.{is_finish_lem, outcome_in, traced, traced_of, PreparedBy, AnsweredBy, swept_with, swept_of, asked_with, asked_of};
 
-use crate::steps;
+use crate::steps::{Counting, Searching};
+use crate::unstruck::Unstruck;
+use crate::walk::{Asked, walk};
 use compare::pieces;
+use compare::spare::Spare;
 use guard::counters;
-use machine::map;
 use machine::run::run_lines;
+use machine::table::Runnable;
 use rules::ending::{Counts, Ending};
-use rules::limits::{COUNTERS, FUNCTIONS, LINES, VARIABLES};
+use rules::limits::VARIABLES;
 use state::machine::begun;
-
-#[derive(Drop)]
-pub enum Count {
-    NotFinished,
-    Of(Counts),
-}
-
-#[derive(Drop)]
-pub enum Search {
-    NotFinished,
-    Found(bool),
-}
-
-// Where the run finishes: the a of function 0's ret, and how long its trace is.
-#[derive(Drop)]
-pub enum Prepared {
-    NotFinished,
-    Traced(u16, u16),
-}
-
-pub fn no_words() -> [u16; COUNTERS]
-    ensures { length result ≡ counter_words }
-{
-    [0; COUNTERS]
-}
 
 fn is_finish(e: Ending) -> bool
     ensures { result ≡ is_finish_lem e }
 {
-    match e {
-        Ending::Alarmed => false,
-        Ending::Same => true,
-        Ending::Other => true,
-        Ending::Unfinished => false,
-    }
+    matches!(e, Ending::Same | Ending::Other)
 }
 
-// Whether the unstruck run finishes in the budget. It is made with counters of its own, and no slot is written.
-fn finishes(
-    lines: &[u8],
-    starts: &[u16; FUNCTIONS + 1],
-    owners: &[u8; LINES + 1],
-    home: u16,
-    variables: [u16; VARIABLES],
-    budget: u16,
-    spare: &mut [u16],
-    rows: &mut [u16],
-) -> bool
-    requires { (Ready lines.now (map_of starts.now owners.now home)) × (length spare.old ≡ counter_words) × (length rows.old ≡ piece_steps) }
-    ensures { result ≡ eqb (outcome_of_lem (unstruck_run (counter_form (lines_in lines.now)) (lines_in lines.now) variables budget).step) 1 }
+// Whether the unstruck run finishes in the budget. It is made with the spare counters, and no slot is written.
+fn finishes(table: &Runnable, variables: [u16; VARIABLES], budget: u16, spare: &mut Spare) -> bool
+    ensures { result ≡ eqb (outcome_in table.now.lines.now variables budget) 1 }
 {
-    counters::fresh(spare, 0, 1);
+    counters::fresh(&mut spare.counters, 0, 1);
     let start = begun(0, variables);
-    let e = pieces::ending(lines, starts, owners, home, start, budget, &[], spare, rows);
+    let e = pieces::ending(table, start, budget, &[], spare);
     is_finish(e)
 }
 
 // The unstruck run, its trace recorded: how long that is.
 fn record_trace(
-    lines: &[u8],
-    starts: &[u16; FUNCTIONS + 1],
-    owners: &[u8; LINES + 1],
-    home: u16,
+    table: &Runnable,
     variables: [u16; VARIABLES],
     budget: u16,
     trace: &mut [u16],
     words: &mut [u16],
 ) -> u16
-    requires { (Ready lines.now (map_of starts.now owners.now home)) × (budget ≤ length trace.old) × (length words.old ≡ counter_words) }
-    ensures { traced result trace.new ≡ traced_of lines.now variables budget trace.old }
+    requires { (budget ≤ length trace.old) × (length words.old ≡ counter_words) }
+    ensures { traced result trace.new ≡ traced_of table.now.lines.now variables budget trace.old }
 {
     counters::fresh(words, 0, 1);
     let start = begun(0, variables);
-    let x = run_lines(lines, starts, owners, home, start, budget, words, trace);
+    let x = run_lines(table, start, budget, words, trace);
     let h = x.machine.registers;
     h.traced
 }
 
-// Where the functions are, and the trace of the unstruck run, where that finishes.
+// How long the trace of the unstruck run is, where that finishes: it is in the slots then.
 pub fn prepare(
+    table: &Runnable,
+    variables: [u16; VARIABLES],
+    budget: u16,
+    trace: &mut [u16],
+    words: &mut [u16],
+    spare: &mut Spare,
+) -> Option<u16>
+    requires { (budget ≤ length trace.old) × (length words.old ≡ counter_words) }
+    ensures { PreparedBy table.now.lines.now variables budget trace.old words.old trace.new words.new result }
+{
+    if finishes(table, variables, budget, spare) {
+        let n = record_trace(table, variables, budget, trace, words);
+        return Some(n);
+    }
+    None
+}
+
+// What is asked, answered over all steps; nothing where the run does not finish. The words are 0 where it does.
+fn answer<A: Asked + Drop>(
     lines: &[u8],
     variables: [u16; VARIABLES],
     budget: u16,
     trace: &mut [u16],
     words: &mut [u16],
-    starts: &mut [u16; FUNCTIONS + 1],
-    owners: &mut [u8; LINES + 1],
-    spare: &mut [u16],
-    rows: &mut [u16],
-) -> Prepared
-    requires { (is_hardened_lem lines.now ≡ true) × (budget ≤ length trace.old) × (length words.old ≡ counter_words) × (length starts.old ≡ max_functions + 1) × (length owners.old ≡ max_lines + 1) × (length spare.old ≡ counter_words) × (length rows.old ≡ piece_steps) }
-    ensures { PreparedIs lines.now variables budget trace.old words.old starts.new owners.new trace.new words.new result }
+    mut asked: A,
+) -> Option<A>
+    requires room { (is_hardened_lem lines.now ≡ true) × (budget ≤ length trace.old) × (length words.old ≡ counter_words) }
+    requires held { A.struck lines.now variables budget 0 asked }
+    ensures { AnsweredBy (A.struck lines.now variables budget) lines.now variables budget trace.old words.old trace.new words.new result }
 {
-    map::survey(lines, starts, owners);
-    let home = map::home_of(lines, starts, owners);
-    if finishes(lines, starts, owners, home, variables, budget, spare, rows) {
-        let n = record_trace(lines, starts, owners, home, variables, budget, trace, words);
-        return Prepared::Traced(home, n);
-    }
-    Prepared::NotFinished
+    let table = Runnable::of(lines);
+    let mut spare = Spare::new();
+    let n = prepare(&table, variables, budget, trace, words, &mut spare)?;
+    let run = Unstruck {
+        table: &table,
+        variables,
+        budget,
+        trace: &trace[..n as usize],
+    };
+    walk(&run, words, &mut spare, &mut asked);
+    counters::clear(words);
+    Some(asked)
 }
 
-// The four counts. The words are 0 afterwards.
+// The four counts; none where the run does not finish. The words are 0 where it does.
 pub fn sweep(
     lines: &[u8],
     variables: [u16; VARIABLES],
     budget: u16,
     trace: &mut [u16],
     words: &mut [u16],
-) -> Count
+) -> Option<Counts>
     requires { (is_hardened_lem lines.now ≡ true) × (budget ≤ length trace.old) × (length words.old ≡ counter_words) }
     ensures { swept_with result trace.new words.new ≡ swept_of lines.now variables budget trace.old words.old }
 {
-    let mut starts = map::no_starts();
-    let mut owners = map::no_owners();
-    let mut spare = no_words();
-    let mut rows = pieces::no_rows();
-    let p = prepare(
-        lines,
-        variables,
-        budget,
-        trace,
-        words,
-        &mut starts,
-        &mut owners,
-        &mut spare,
-        &mut rows,
-    );
-    let Prepared::Traced(home, n) = p else {
-        return Count::NotFinished;
+    let counting = Counting {
+        counts: Counts::default(),
     };
-    let length = n as usize;
-    let c = steps::count(
-        lines,
-        &starts,
-        &owners,
-        home,
-        variables,
-        budget,
-        &trace[..length],
-        words,
-        &mut spare,
-        &mut rows,
-    );
-    counters::clear(words);
-    Count::Of(c)
+    let x = answer(lines, variables, budget, trace, words, counting)?;
+    Some(x.counts)
 }
 
-// Whether the third count is above 0.
+// Whether the third count is above 0; no answer where the run does not finish.
 pub fn sweep_other(
     lines: &[u8],
     variables: [u16; VARIABLES],
     budget: u16,
     trace: &mut [u16],
     words: &mut [u16],
-) -> Search
+) -> Option<bool>
     requires { (is_hardened_lem lines.now ≡ true) × (budget ≤ length trace.old) × (length words.old ≡ counter_words) }
     ensures { asked_with result trace.new words.new ≡ asked_of lines.now variables budget trace.old words.old }
 {
-    let mut starts = map::no_starts();
-    let mut owners = map::no_owners();
-    let mut spare = no_words();
-    let mut rows = pieces::no_rows();
-    let p = prepare(
-        lines,
-        variables,
-        budget,
-        trace,
-        words,
-        &mut starts,
-        &mut owners,
-        &mut spare,
-        &mut rows,
-    );
-    let Prepared::Traced(home, n) = p else {
-        return Search::NotFinished;
-    };
-    let length = n as usize;
-    let any = steps::any(
-        lines,
-        &starts,
-        &owners,
-        home,
-        variables,
-        budget,
-        &trace[..length],
-        words,
-        &mut spare,
-        &mut rows,
-    );
-    counters::clear(words);
-    Search::Found(any)
+    let searching = Searching { found: false };
+    let x = answer(lines, variables, budget, trace, words, searching)?;
+    Some(x.found)
 }

@@ -22,10 +22,9 @@ use Rattle.rules.proofs.Accepted.{Proper, proper, refused-not}
 use Rattle.rules.proofs.Close.{end_is}
 use Rattle.walk.specs.Standing.{Linked}
 use Rattle.table.specs.Checking.{Scanned, AllOk}
-use Rattle.table.specs.declared.check.All.{All}
-use Rattle.table.specs.declared.check.All.TheVariants.{Rejected, Counted}
 use Rattle.walk.proofs.Once.{else-below}
 use Rattle.walk.proofs.Verdicts.{none_open}
+use Rattle.std.specs.Prelude.{Result, Ok, Err}
 
 -- ---- the links of an accepted table
 module _ (t : Table) {e l : List ℕ} (w : Linked t (length t) e l) where
@@ -89,11 +88,11 @@ module _ {bs e l a : List ℕ} where
       too_long h = refused-checked (rw (ne_eqb (length bs) 0 some, whole, lt-ltb 1024 (length bs / 6) h))
 
       module _ (few : length bs / 6 ≤ 1024) where
-        module _ {r : All} (ok : AllOk bs e l a r) where
-          pub rejected : {c : Refusal} → r ≡ Rejected c → Checked bs (Refused c) e l a
+        module _ {r : Result ℕ Refusal} (ok : AllOk bs e l a r) where
+          pub rejected : {c : Refusal} → r ≡ Err c → Checked bs (Refused c) e l a
           rejected m = let o = rw m at ok in refused-checked (sym (verdict-of bs some whole few ∙ o.leads))
 
-          pub counted : {n : ℕ} {v : Verdict} → r ≡ Counted n → v ≡ calls_verdict (table_of bs) (length (table_of bs)) → Checked bs v e l a
+          pub counted : {n : ℕ} {v : Verdict} → r ≡ Ok n → v ≡ calls_verdict (table_of bs) (length (table_of bs)) → Checked bs v e l a
           counted m q =
               let o = rw m at ok in
               let z : _ ≡ verdict_of bs = q ∙ sym (verdict-of bs some whole few ∙ none_open (table_of bs) o.leads.good o.leads.closed) in
@@ -102,5 +101,5 @@ module _ {bs e l a : List ℕ} where
 pub ruleset checks = (no_bytes, ragged, too_long, rejected, counted)
 
 -- the count that `functions` answers
-pub count_is : (bs e l a : List ℕ) (r : All) (n : ℕ) → AllOk bs e l a r → r ≡ Counted n → n ≡ function_count (table_of bs)
+pub count_is : (bs e l a : List ℕ) (r : Result ℕ Refusal) (n : ℕ) → AllOk bs e l a r → r ≡ Ok n → n ≡ function_count (table_of bs)
 count_is bs e l a r n ok m = let o = rw m at ok in o.leads.count

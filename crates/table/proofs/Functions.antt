@@ -1,5 +1,6 @@
 -- A function of the table: from the row that opens it, outside of every function, to past its end row. What `body` and `function`
 -- answer, as laws. Assumes nothing.
+use mathlib.Core.Logic.{◌≢◌}
 use mathlib.Core.Logic.{◌⊎◌, inl, inr}
 use mathlib.Core.Path.{◌≡◌, refl, sym, ap, ◌∙◌}
 use mathlib.Core.Bool.{Bool, true, false, ◌&&◌}
@@ -29,15 +30,13 @@ use Rattle.walk.specs.Standing.{Inside}
 use Rattle.table.specs.Outside.{Headed, Outside}
 use Rattle.walk.specs.Walked.{TurnedAway, seq_rows, SeqOk}
 use Rattle.table.specs.Checking.{stray_cause, one_rows, OneOk}
-use Rattle.walk.specs.declared.answer.Seq.{Seq}
-use Rattle.walk.specs.declared.answer.Seq.TheVariants.{Broken, AtEnd, AtElse}
-use Rattle.table.specs.declared.check.One.{One}
-use Rattle.table.specs.declared.check.One.TheVariants.{Unsound, Long}
+use Rattle.walk.specs.Answer.{SeqAnswer, Broken, AtEnd, AtElse}
 use Rattle.walk.proofs.Linking.{stays-linked, end-linked}
 use Rattle.rows.proofs.Rows.{drops, is_known, Reads, reads, reads_wrong, cut-length, cut-within, cut_on}
 use Rattle.walk.proofs.Verdicts.{wrong-refused, row-good, misplaced-refused, functions-refused}
 use Rattle.walk.proofs.Stepping.{inside-at, same-functions, else-misplaced}
 use Rattle.walk.proofs.Nested.{seq-at}
+use Rattle.std.specs.Prelude.{Result, Ok, Err}
 
 abbrev body_of : (base g : ℕ) → Open
 body_of base g = record { part = body; opener = base; region = g }
@@ -152,31 +151,43 @@ outside-at w p q s = rw (← p, ← q, ← s) w
 
 -- ---- what `body` and `function` answer
 unsound : {xs : List ℕ} {base n : ℕ} {e l a e' l' a' : List ℕ} {c : Refusal} → 5 < length xs
-    → ((bs : List ℕ) → Outside bs xs base n e l a → TurnedAway bs c) → OneOk xs base n e l a e' l' a' (Unsound c)
+    → ((bs : List ℕ) → Outside bs xs base n e l a → TurnedAway bs c) → OneOk xs base n e l a e' l' a' (Err c)
 unfolding one_rows
 unsound long f = record { some = omega arith; fit = omega arith; leads = f }
 
+no-function : (k : Kind) → k ≢ Function → is_function_lem k ≡ false
+no-function Function m = absurd (m refl)
+no-function Do m = refl
+no-function If m = refl
+no-function Else m = refl
+no-function Loop m = refl
+no-function End m = refl
+no-function Break m = refl
+no-function Continue m = refl
+no-function Call m = refl
+no-function Unknown m = refl
+
 module _ {xs : List ℕ} {base n : ℕ} {e l a : List ℕ} (long : 5 < length xs) where
-  pub function-stray : {k : Kind} {f : Bool} {c : Refusal} → k ≡ first_kind_lem xs → f ≡ is_function_lem k → f ≡ false → c ≡ stray_cause k
-      → OneOk xs base n e l a e l a (Unsound c)
-  function-stray {k} p q m s = rw s (unsound long (λ bs w. outside-stray w long k (sym p) (sym q ∙ m)))
+  pub function-stray : {k : Kind} {c : Refusal} → k ≡ first_kind_lem xs → k ≢ Function → c ≡ stray_cause k
+      → OneOk xs base n e l a e l a (Err c)
+  function-stray {k} p m s = rw s (unsound long (λ bs w. outside-stray w long k (sym p) (no-function k m)))
 
   module _ (q : first_kind_lem xs ≡ Function) where
-    pub body-many : 32 ≤ n → OneOk xs base n e l a e l a (Unsound TooManyFunctions)
+    pub body-many : 32 ≤ n → OneOk xs base n e l a e l a (Err TooManyFunctions)
     body-many c = unsound long (λ bs w. outside-many w long q c)
 
-    module _ {a' e' l' : List ℕ} {r : Seq} (c : n < 32) (y : a' ≡ set a n base)
+    module _ {a' e' l' : List ℕ} {r : SeqAnswer} (c : n < 32) (y : a' ≡ set a n base)
         (ok : SeqOk (take (length xs - 6) (drop 6 xs)) (base + 1) 0 1 false e l e' l' r) where
-      pub body-broken : {f : Refusal} → r ≡ Broken f → OneOk xs base n e l a e' l' a' (Unsound f)
+      pub body-broken : {f : Refusal} → r ≡ Broken f → OneOk xs base n e l a e' l' a' (Err f)
       body-broken m = let s = seq-at xs 6 ok m in unsound long (λ bs w. s.leads bs _ [] (suc n) (outside-opens w long q c))
 
-      pub body-turned : {k o : ℕ} → r ≡ AtElse k o → OneOk xs base n e l a e' l' a' (Unsound Misplaced)
+      pub body-turned : {k o : ℕ} → r ≡ AtElse k o → OneOk xs base n e l a e' l' a' (Err Misplaced)
       unfolding seq_rows
       body-turned {k} m = let s = seq-at xs 6 ok m in
           unsound long (λ bs w. let v = s.leads bs _ [] (suc n) (outside-opens w long q c) in
           else-misplaced v.here (omega (arith, s.fit, length-drop (6 * k) (drop 6 xs))) v.kind_is refl)
 
-      pub body_ended : {k o : ℕ} {e'' : List ℕ} → r ≡ AtEnd k o → e'' ≡ set e' base (base + 1 + k) → OneOk xs base n e l a e'' l' a' (Long (k + 2))
+      pub body_ended : {k o : ℕ} {e'' : List ℕ} → r ≡ AtEnd k o → e'' ≡ set e' base (base + 1 + k) → OneOk xs base n e l a e'' l' a' (Ok (k + 2))
       unfolding seq_rows one_rows
       body_ended {k} m z = let s = seq-at xs 6 ok m in rw (y, z) (record {
         some = omega arith;
@@ -192,6 +203,6 @@ function-at xs k f p q m = sym p ∙ is-function k (sym q ∙ m)
 
 pub ruleset bodies = (body-many, body-broken, body-turned, body_ended)
 
-pub one-rows : (r : One) (k : ℕ) → r ≡ Long k → one_rows r ≡ k
+pub one-rows : (r : Result ℕ Refusal) (k : ℕ) → r ≡ Ok k → one_rows r ≡ k
 unfolding one_rows
 one-rows r k m = ap one_rows m

@@ -19,11 +19,9 @@ use Rattle.rules.proofs.Accepted.{table-length}
 use Rattle.rows.specs.First.{calls_beyond_lem}
 use Rattle.table.specs.Outside.{Outside}
 use Rattle.table.specs.Checking.{one_rows, OneOk, AllOk}
-use Rattle.table.specs.declared.check.One.{One}
-use Rattle.table.specs.declared.check.One.TheVariants.{Unsound, Long}
-use Rattle.table.specs.declared.check.All.TheVariants.{Rejected, Counted}
 use Rattle.rows.proofs.Rows.{rest_all, drops, cut-end, cut-row, cut-within}
 use Rattle.table.proofs.Functions.{outside-at}
+use Rattle.std.specs.Prelude.{Result, Ok, Err}
 
 -- ---- the functions: up to row `at`, with n of them
 pub record AllTo (bs ends elses heads : List ℕ) (at n : ℕ) : Type 0 where
@@ -65,22 +63,22 @@ all_start {bs} s p q r = record {
   };
 }
 
-one_at : (xs : List ℕ) {base n : ℕ} {e l a e' l' a' : List ℕ} {r r' : One} (k : ℕ)
+one_at : (xs : List ℕ) {base n : ℕ} {e l a e' l' a' : List ℕ} {r r' : Result ℕ Refusal} (k : ℕ)
     → OneOk (take (length xs - k) (drop k xs)) base n e l a e' l' a' r → r ≡ r' → OneOk (drop k xs) base n e l a e' l' a' r'
 one_at xs k h q = rw (rest_all k xs, q) at h
 
 module _ {bs e l a : List ℕ} {at n : ℕ} (v : AllTo bs e l a at n) where
-  pub all_done : length bs ≤ 6 * at + 5 → AllOk bs e l a (Counted n)
+  pub all_done : length bs ≤ 6 * at + 5 → AllOk bs e l a (Ok n)
   all_done h =
       let q : at ≡ length (table_of bs) = cut-end bs (drop (6 * at) bs) at refl v.le (omega (arith, length-drop (6 * at) bs)) in
       let w : Outside bs (drop (6 * at) bs) (length (table_of bs)) n e l a = outside-at v.stands refl q refl in
       record { leads = record { good = w.good; closed = w.parts; count = sym w.count; links = w.links; headed = w.headed } }
 
-  module _ {e' l' a' : List ℕ} {r : One} (ok : OneOk (take (length bs - 6 * at) (drop (6 * at) bs)) at n e l a e' l' a' r) where
-    pub all_rejected : {c : Refusal} → r ≡ Unsound c → AllOk bs e' l' a' (Rejected c)
+  module _ {e' l' a' : List ℕ} {r : Result ℕ Refusal} (ok : OneOk (take (length bs - 6 * at) (drop (6 * at) bs)) at n e l a e' l' a' r) where
+    pub all_rejected : {c : Refusal} → r ≡ Err c → AllOk bs e' l' a' (Err c)
     all_rejected m = record { leads = (one_at bs (6 * at) ok m).leads bs v.stands }
 
-    pub all_on : {k : ℕ} → r ≡ Long k → AllTo bs e' l' a' (at + k) (n + 1)
+    pub all_on : {k : ℕ} → r ≡ Ok k → AllTo bs e' l' a' (at + k) (n + 1)
     unfolding one_rows
     all_on {k} m =
         let s = one_at bs (6 * at) ok m in
@@ -140,5 +138,3 @@ module _ {bs : List ℕ} {at : ℕ} (v : CallsTo bs at) where
       le = omega arith;
       good = ap (calls_verdict (table_of bs)) (add-one at) ∙ calls-one (table_of bs) at false v.good (beyond-is bs at n h q ∙ sym ok ∙ m);
     }
-
-pub ruleset calling = (calls-start, calls-done, calls-beyond, calls-on)

@@ -10,7 +10,7 @@ use lib.Dec.{eqb}
 use lib.ListN.{length, take, get_or}
 use lib.Seq.{take-suc, take-nil, take_all}
 use Rattle.text.specs.declared.read.Reader.{Reader}
-use Rattle.text.specs.declared.read.Digit.TheVariants.{Value, Other}
+use Rattle.std.specs.Prelude.{Some, None}
 use Rattle.text.specs.Hex.{is_digit, digit_value, digit_of_lem}
 use Rattle.text.specs.Reading.{Sofar, spoil, end_line, add_digit, next_byte, read_on, spoilt_reader, newline_reader}
 use Rattle.text.specs.Reading.{Holds, Sane, Started, Fed, Added}
@@ -116,7 +116,7 @@ module _ (d b : ℕ) (r : Reader) (rows : List ℕ) (sane : Sane d r rows) where
           sane = sane-spoilt d r rows sane;
         })
 
-    pub fed-other : {q : Reader} → (b ≡ 10 → ⊥) → Other ≡ digit_of_lem b → q ≡ spoilt_reader r → Fed d (b ∷ []) r rows q rows
+    pub fed-other : {q : Reader} → (b ≡ 10 → ⊥) → None ≡ digit_of_lem b → q ≡ spoilt_reader r → Fed d (b ∷ []) r rows q rows
     unfolding read_on
     fed-other n e is =
         rw is
@@ -125,7 +125,7 @@ module _ (d b : ℕ) (r : Reader) (rows : List ℕ) (sane : Sane d r rows) where
           sane = sane-spoilt d r rows sane;
         })
 
-    pub fed-digit : {v : ℕ} {q : Reader} {after : List ℕ} → (b ≡ 10 → ⊥) → r.column < d → Value v ≡ digit_of_lem b
+    pub fed-digit : {v : ℕ} {q : Reader} {after : List ℕ} → (b ≡ 10 → ⊥) → r.column < d → Some v ≡ digit_of_lem b
         → Added v r rows q after → Fed d (b ∷ []) r rows q after
     unfolding read_on
     fed-digit {v} {q} {after} n k e a =

@@ -1,6 +1,6 @@
 -- Texts that are stored one behind the other, a line of digits, a number and a refusal. Assumes nothing.
 use Prim.Native.Nat.{ℕ, suc, ◌+◌, ◌*◌, ◌/◌, ◌%◌, ◌≤◌, ◌<◌}
-use mathlib.Core.Path.{◌≡◌, refl, ap, ◌∙◌}
+use mathlib.Core.Path.{◌≡◌, refl, sym, ap, ◌∙◌}
 use mathlib.Core.Bool.{Bool, true, false, cond}
 use mathlib.Core.List.{List, [], ◌∷◌, ◌++◌}
 use native.Mathlib.Nat.{add-zero, zero-add}
@@ -8,7 +8,7 @@ use native.Mathlib.Numerals.{add-one}
 use native.Mathlib.Omega.{arith}
 use borrow.Author.Tests.{lt-ltb, le-ltb}
 use lib.Dec.{ltb}
-use lib.ListN.{length, take, set, get_or, length-append}
+use lib.ListN.{length, take, drop, set, get_or, length-append}
 use lib.Seq.{sets, length-sets, sets-eq, take-suc, take_all}
 use Rattle.text.specs.Hex.{digit, hex, newline}
 use Rattle.text.specs.Listing.{decimal, refused_word, refused_text, Written, Puts}
@@ -112,6 +112,13 @@ module _ (n : ℕ) where
 pub word-length : length refused_word ≡ 8
 unfolding refused_word
 word-length = refl
+
+-- the word over a buffer's first bytes
+pub put-front : {word out : List ℕ} → 8 ≤ length out → word ≡ 114 ∷ 101 ∷ 102 ∷ 117 ∷ 115 ∷ 101 ∷ 100 ∷ 32 ∷ []
+    → Puts refused_word 0 out (word ++ drop 8 out) 8
+unfolding refused_word
+put-front {word} {out} h e =
+    rw e (record { after_is = sym (sets-eq refused_word out 0 (rw word-length h)); next_is = refl })
 
 pub refused : (n : ℕ) {before b₁ b₂ after : List ℕ} {i j k : ℕ} → 12 ≤ length before → Puts refused_word 0 before b₁ i
     → Puts (decimal n) i b₁ b₂ j → Puts (10 ∷ []) j b₂ after k → Written (refused_text n) before after k

@@ -1,7 +1,5 @@
 -- Bytes as text (01, "A table and its listing"): two lowercase hexadecimal digits a byte, so many bytes a line.
-use Rattle.std.specs.Prelude.{ℕ, ◌+◌, ◌*◌, ◌-◌, ◌/◌, ◌%◌, Bool, true, cond, ◌&&◌, ◌||◌, List, [], ◌∷◌, ◌++◌, eqb, ltb, leb, length}
-use Rattle.text.specs.declared.read.Digit.{Digit}
-use Rattle.text.specs.declared.read.Digit.TheVariants.{Value, Other}
+use Rattle.std.specs.Prelude.{Option, Some, None, ℕ, ◌+◌, ◌*◌, ◌-◌, ◌/◌, ◌%◌, Bool, true, cond, ◌&&◌, ◌||◌, List, [], ◌∷◌, ◌++◌, eqb, ltb, leb, length}
 
 -- 0 to 9 and a to f
 abbrev pub is_digit : ℕ → Bool
@@ -10,9 +8,9 @@ is_digit b = (leb 48 b && leb b 57) || (leb 97 b && leb b 102)
 abbrev pub digit_value : ℕ → ℕ
 digit_value b = cond (leb b 57) (b - 48) (b - 87)
 
--- a byte as a digit
-unfoldable pub digit_of_lem : ℕ → Digit
-digit_of_lem b = cond (is_digit b) (Value (digit_value b)) Other
+-- the value of a byte, where it is a digit
+unfoldable pub digit_of_lem : ℕ → Option ℕ
+digit_of_lem b = cond (is_digit b) (Some (digit_value b)) None
 
 abbrev pub digit : ℕ → ℕ
 digit v = cond (ltb v 10) (48 + v) (87 + v)

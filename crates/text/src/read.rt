@@ -4,7 +4,7 @@ ghost use Rattle.text.specs.Hex.{digit_of_lem};
 ghost use Rattle.text.specs.Reading.{good_at, spoilt_reader, newline_reader, Sane, Started, Fed, Added};
 
 // A malformed line was met; the digits so far on the line; the value of the last first digit; the bytes stored.
-#[derive(Drop)]
+#[derive(Clone, Copy)]
 pub struct Reader {
     pub bad: bool,
     pub column: usize,
@@ -12,32 +12,22 @@ pub struct Reader {
     pub length: usize,
 }
 
-// What a byte of text says.
-#[derive(Drop)]
-pub enum Digit {
-    Value(u8),
-    Other,
-}
-
-fn digit_of(b: u8) -> Digit
+// The value of a byte of text, where it is a digit.
+#[tactic(auto, using(std::proofs::lemmas::Bool::Decides::nat_tests), unfolding(crate::specs::Hex::digit_of_lem))]
+fn digit_of(b: u8) -> Option<u8>
     ensures { result ≡ digit_of_lem b }
 {
     match b {
-        48..=57 => Digit::Value(b - 48),
-        97..=102 => Digit::Value(b - 87),
-        _ => Digit::Other,
+        b'0'..=b'9' => Some(b - b'0'),
+        b'a'..=b'f' => Some(b - b'a' + 10),
+        _ => None,
     }
 }
 
 fn spoilt(r: Reader) -> Reader
     ensures { result ≡ spoilt_reader r }
 {
-    Reader {
-        bad: true,
-        column: r.column,
-        high: r.high,
-        length: r.length,
-    }
+    Reader { bad: true, ..r }
 }
 
 fn at_newline(r: Reader, digits: usize) -> Reader
@@ -46,12 +36,7 @@ fn at_newline(r: Reader, digits: usize) -> Reader
     if r.column != digits {
         return spoilt(r);
     }
-    Reader {
-        bad: r.bad,
-        column: 0,
-        high: r.high,
-        length: r.length,
-    }
+    Reader { column: 0, ..r }
 }
 
 // A byte's first digit is kept, its second one makes the byte, which is stored where there is room.
@@ -59,29 +44,23 @@ fn add_digit(v: u8, r: Reader, rows: &mut [u8]) -> Reader
     requires { (v < 16) × (r.column < 1000) × (r.high < 16) × (r.length ≤ length rows.old) }
     ensures { Added v r rows.old result rows.new }
 {
-    let at = r.length;
+    let column = r.column + 1;
     if r.column % 2 == 0 {
         return Reader {
-            bad: r.bad,
-            column: r.column + 1,
+            column,
             high: v,
-            length: at,
+            ..r
         };
     }
+    let at = r.length;
     if at >= rows.len() {
-        return Reader {
-            bad: r.bad,
-            column: r.column + 1,
-            high: r.high,
-            length: at,
-        };
+        return Reader { column, ..r };
     }
     rows[at] = 16 * r.high + v;
     Reader {
-        bad: r.bad,
-        column: r.column + 1,
-        high: r.high,
+        column,
         length: at + 1,
+        ..r
     }
 }
 
@@ -93,16 +72,15 @@ fn take_byte(b: u8, digits: usize, r: Reader, rows: &mut [u8]) -> Reader
     if r.bad {
         return r;
     }
-    if b == 10 {
+    if b == b'\n' {
         return at_newline(r, digits);
     }
     if r.column >= digits {
         return spoilt(r);
     }
-    let d = digit_of(b);
-    match d {
-        Digit::Value(v) => add_digit(v, r, rows),
-        Digit::Other => spoilt(r),
+    match digit_of(b) {
+        Some(v) => add_digit(v, r, rows),
+        None => spoilt(r),
     }
 }
 
@@ -123,10 +101,8 @@ pub fn feed(text: &[u8], digits: usize, r: Reader, rows: &mut [u8]) -> Reader
     ensures { Fed digits text.now r rows.old result rows.new }
 {
     let mut q = r;
-    let mut i = 0;
-    while i < text.len() {
-        q = take_byte(text[i], digits, q, rows);
-        i += 1;
+    for b in text {
+        q = take_byte(*b, digits, q, rows);
     }
     q
 }
@@ -135,11 +111,5 @@ pub fn feed(text: &[u8], digits: usize, r: Reader, rows: &mut [u8]) -> Reader
 pub fn is_good(r: Reader, digits: usize) -> bool
     ensures { result ≡ good_at digits r.bad r.column }
 {
-    if r.bad {
-        return false;
-    }
-    if r.column == 0 {
-        return true;
-    }
-    r.column == digits
+    !r.bad && (r.column == 0 || r.column == digits)
 }

@@ -8,9 +8,9 @@ fn figure(v: u8) -> u8
     ensures { result ≡ digit v }
 {
     if v < 10 {
-        return 48 + v;
+        return b'0' + v;
     }
-    87 + v
+    b'a' - 10 + v
 }
 
 fn put(b: u8, at: usize, out: &mut [u8]) -> usize
@@ -35,12 +35,10 @@ fn put_line(group: &[u8], at: usize, out: &mut [u8]) -> usize
     ensures { Puts (hex group.now ++ (newline ∷ [])) at out.old out.new result }
 {
     let mut next = at;
-    let mut i = 0;
-    while i < group.len() {
-        next = put_hex(group[i], next, out);
-        i += 1;
+    for x in group {
+        next = put_hex(*x, next, out);
     }
-    out[next] = 10;
+    out[next] = b'\n';
     next + 1
 }
 
@@ -50,11 +48,8 @@ pub fn listing(table: &[u8], width: usize, out: &mut [u8]) -> usize
     ensures { Written (listing_text width table.now) out.old out.new result }
 {
     let mut at = 0;
-    let mut from = 0;
-    while from < table.len() {
-        let to = from + width;
-        at = put_line(&table[from..to], at, out);
-        from = to;
+    for group in table.chunks_exact(width) {
+        at = put_line(group, at, out);
     }
     at
 }
@@ -64,29 +59,22 @@ fn put_decimal(n: u8, at: usize, out: &mut [u8]) -> usize
     ensures { Puts (decimal n) at out.old out.new result }
 {
     if n < 10 {
-        return put(48 + n, at, out);
+        return put(b'0' + n, at, out);
     }
     if n < 100 {
-        let second = put(48 + n / 10, at, out);
-        return put(48 + n % 10, second, out);
+        let second = put(b'0' + n / 10, at, out);
+        return put(b'0' + n % 10, second, out);
     }
-    let second = put(48 + n / 100, at, out);
-    let third = put(48 + n / 10 % 10, second, out);
-    put(48 + n % 10, third, out)
+    let second = put(b'0' + n / 100, at, out);
+    let third = put(b'0' + n / 10 % 10, second, out);
+    put(b'0' + n % 10, third, out)
 }
 
 fn put_word(out: &mut [u8]) -> usize
     requires { 8 ≤ length out.old }
     ensures { Puts refused_word 0 out.old out.new result }
 {
-    out[0] = 114;
-    out[1] = 101;
-    out[2] = 102;
-    out[3] = 117;
-    out[4] = 115;
-    out[5] = 101;
-    out[6] = 100;
-    out[7] = 32;
+    out[..8].copy_from_slice(b"refused ");
     8
 }
 
@@ -97,5 +85,5 @@ pub fn refusal(number: u8, out: &mut [u8]) -> usize
 {
     let first = put_word(out);
     let last = put_decimal(number, first, out);
-    put(10, last, out)
+    put(b'\n', last, out)
 }

@@ -1,6 +1,6 @@
 -- What `construct` answers for each kind of row, as laws. Assumes nothing.
 use mathlib.Core.Path.{◌≡◌, refl, sym, ◌∙◌}
-use mathlib.Core.Bool.{Bool, true, false, cond}
+use mathlib.Core.Bool.{Bool, true, false}
 use mathlib.Core.List.{List}
 use Prim.Native.Nat.{ℕ, zero, suc, ◌+◌, ◌*◌, ◌≤◌, ◌<◌}
 use native.Mathlib.Nat.{add-zero, le_refl}
@@ -15,14 +15,17 @@ use Rattle.rules.specs.Row.{row_width, row_in, fields_fit_lem}
 use Rattle.rules.specs.Scan.{Open}
 use Rattle.rows.specs.First.{first_kind_lem}
 use Rattle.walk.specs.Standing.{Inside}
-use Rattle.walk.specs.Walked.{TurnedAway, step_rows, jump_step, StepOk}
-use Rattle.walk.specs.declared.answer.Step.{Step}
-use Rattle.walk.specs.declared.answer.Step.TheVariants.{Faulty, Past, EndHere, ElseHere}
+use Rattle.walk.specs.Walked.{TurnedAway, step_rows, fields_verdict, jump_step, StepOk}
+use Rattle.rules.specs.Verdict.{Verdict, Accepted, Refused}
+use Rattle.std.specs.Prelude.{Ok, Err}
+use Rattle.std.specs.Result.{result_and}
+use mathlib.Core.Logic.{◌⊎◌, inl, inr}
 use Rattle.rows.specs.Dos.{DosAre}
 use Rattle.rows.proofs.Fields.{none-fits}
 use Rattle.rows.proofs.FirstRow.{first_fits, first-wrong}
 use Rattle.rows.proofs.Rows.{drops}
 use Rattle.walk.proofs.Stepping.{inside-at, inside_do, inside-wrong, inside_function, inside_call, inside_break, inside_break_out, inside_continue, inside_continue_out}
+use Rattle.walk.specs.Answer.{StepAnswer, Faulty, Past, EndHere, ElseHere}
 
 -- where a walk stands after dos
 pub dos-past : {bs xs : List ℕ} {i : ℕ} {h : Open} {hs : List Open} {d o : ℕ} {b : Bool} {n : ℕ} {e l : List ℕ} {count : ℕ}
@@ -86,46 +89,63 @@ module _ {xs : List ℕ} {base d o : ℕ} {e l : List ℕ} (long : 5 < length xs
   a-continue false q = faulty long (λ bs h hs n w. inside_continue_out w long q refl)
 
 -- what the first byte's name and the test of the fields say of the row
-pub kind_at : (xs : List ℕ) (k : Kind) {k' : Kind} {f : Bool} → k' ≡ (row_in xs 0).kind → k' ≡ k → f ≡ fields_fit_lem k (row_in xs 0).operands
-    → f ≡ true → first_kind_lem xs ≡ k
-kind_at xs k p m q t = sym (first_fits xs (sym m ∙ p) q t)
+fits-or-not : (xs : List ℕ) (k : Kind) {v : Verdict} → v ≡ fields_verdict k xs
+    → ((v ≡ Accepted) × (fields_fit_lem k (row_in xs 0).operands ≡ true)) ⊎ ((v ≡ Refused WrongField) × (fields_fit_lem k (row_in xs 0).operands ≡ false))
+fits-or-not xs k {v} q = by (fields_fit_lem k (row_in xs 0).operands) refl
+  where
+    by : (f : Bool) → fields_fit_lem k (row_in xs 0).operands ≡ f
+        → ((v ≡ Accepted) × (fields_fit_lem k (row_in xs 0).operands ≡ true)) ⊎ ((v ≡ Refused WrongField) × (fields_fit_lem k (row_in xs 0).operands ≡ false))
+    by true e = inl (rw e at q, e)
+    by false e = inr (rw e at q, e)
+
+pub kind_at : (xs : List ℕ) (k : Kind) {k' : Kind} {v : Verdict} {u : Unit {0}} → k' ≡ (row_in xs 0).kind → k' ≡ k → v ≡ fields_verdict k xs → v ≡ Ok u
+    → first_kind_lem xs ≡ k
+kind_at xs k {v = v} p m q t = by (fits-or-not xs k q)
+  where
+    by : ((v ≡ Accepted) × (fields_fit_lem k (row_in xs 0).operands ≡ true)) ⊎ ((v ≡ Refused WrongField) × (fields_fit_lem k (row_in xs 0).operands ≡ false))
+        → first_kind_lem xs ≡ k
+    by (inl e) = sym (first_fits xs (sym m ∙ p) refl e.1)
+    by (inr e) = cc
 
 module _ {xs : List ℕ} {base d o : ℕ} {b : Bool} {e l : List ℕ} {k : Kind} (long : 5 < length xs) (p : k ≡ (row_in xs 0).kind) where
-  pub at-wrong : {c : Kind} {f : Bool} → k ≡ c → f ≡ fields_fit_lem c (row_in xs 0).operands → f ≡ false
-      → StepOk xs base d o b e l e l (Faulty WrongField)
-  at-wrong m q t = wrong long (sym (first-wrong xs (sym m ∙ p) q t))
+  pub at-wrong : {c : Kind} {v : Verdict} {r : Refusal} → k ≡ c → v ≡ fields_verdict c xs → v ≡ Err r
+      → StepOk xs base d o b e l e l (Faulty r)
+  at-wrong {c} {v} {r} m q t = by (fits-or-not xs c q)
+    where
+      by : ((v ≡ Accepted) × (fields_fit_lem c (row_in xs 0).operands ≡ true)) ⊎ ((v ≡ Refused WrongField) × (fields_fit_lem c (row_in xs 0).operands ≡ false))
+          → StepOk xs base d o b e l e l (Faulty r)
+      by (inl w) = cc
+      by (inr w) = let z : WrongField ≡ r = cc in rw (← z) (wrong long (sym (first-wrong xs (sym m ∙ p) refl w.1)))
 
   pub at-unknown : k ≡ Unknown → StepOk xs base d o b e l e l (Faulty WrongField)
-  at-unknown m = at-wrong m (none-fits (row_in xs 0).operands refl) refl
+  at-unknown m = wrong long (sym (first-wrong xs (sym m ∙ p) refl (sym (none-fits (row_in xs 0).operands refl))))
 
   -- what fits is answered by `s`
-  fit-or-not : {c : Kind} {s r : Step} (f : Bool) → k ≡ c → f ≡ fields_fit_lem c (row_in xs 0).operands
-      → (first_kind_lem xs ≡ c → StepOk xs base d o b e l e l s) → r ≡ cond f s (Faulty WrongField) → StepOk xs base d o b e l e l r
-  fit-or-not {c} true m q g z = rw z (g (kind_at xs c p m q refl))
-  fit-or-not false m q g z = rw z (at-wrong m q refl)
-
-  module _ {f : Bool} {r : Step} where
-    pub at-function : k ≡ Function → f ≡ fields_fit_lem Function (row_in xs 0).operands → r ≡ cond f (Faulty Misplaced) (Faulty WrongField)
-        → StepOk xs base d o b e l e l r
-    at-function m q = fit-or-not f m q (a_function long)
-
-    pub at-else : k ≡ Else → f ≡ fields_fit_lem Else (row_in xs 0).operands → r ≡ cond f ElseHere (Faulty WrongField)
-        → StepOk xs base d o b e l e l r
-    at-else m q = fit-or-not f m q (an_else long)
-
-    pub at_end : k ≡ End → f ≡ fields_fit_lem End (row_in xs 0).operands → r ≡ cond f EndHere (Faulty WrongField)
-        → StepOk xs base d o b e l e l r
-    at_end m q = fit-or-not f m q (an_end long)
-
-    pub at_call : k ≡ Call → f ≡ fields_fit_lem Call (row_in xs 0).operands → r ≡ cond f (Past 1 o) (Faulty WrongField)
-        → StepOk xs base d o b e l e l r
-    at_call m q = fit-or-not f m q (a_call long)
-
-    module _ {s : Step} (j : s ≡ jump_step o b) where
-      pub at-break : k ≡ Break → f ≡ fields_fit_lem Break (row_in xs 0).operands → r ≡ cond f s (Faulty WrongField)
+  fit-or-not : {c : Kind} {s r : StepAnswer} {v : Verdict} → k ≡ c → v ≡ fields_verdict c xs
+      → (first_kind_lem xs ≡ c → StepOk xs base d o b e l e l s) → r ≡ result_and v s → StepOk xs base d o b e l e l r
+  fit-or-not {c} {s} {r} {v} m q g z = by (fits-or-not xs c q)
+    where
+      by : ((v ≡ Accepted) × (fields_fit_lem c (row_in xs 0).operands ≡ true)) ⊎ ((v ≡ Refused WrongField) × (fields_fit_lem c (row_in xs 0).operands ≡ false))
           → StepOk xs base d o b e l e l r
-      at-break m q = fit-or-not f m q (λ a. rw j (a-break long b a))
+      by (inl w) = rw (z, w.0) (g (kind_at xs c p m q w.0))
+      by (inr w) = rw (z, w.0) (at-wrong m q w.0)
 
-      pub at-continue : k ≡ Continue → f ≡ fields_fit_lem Continue (row_in xs 0).operands → r ≡ cond f s (Faulty WrongField)
-          → StepOk xs base d o b e l e l r
-      at-continue m q = fit-or-not f m q (λ a. rw j (a-continue long b a))
+  module _ {v : Verdict} {r : StepAnswer} where
+    pub at-function : k ≡ Function → v ≡ fields_verdict Function xs → r ≡ result_and v (Faulty Misplaced) → StepOk xs base d o b e l e l r
+    at-function m q = fit-or-not m q (a_function long)
+
+    pub at-else : k ≡ Else → v ≡ fields_verdict Else xs → r ≡ result_and v ElseHere → StepOk xs base d o b e l e l r
+    at-else m q = fit-or-not m q (an_else long)
+
+    pub at_end : k ≡ End → v ≡ fields_verdict End xs → r ≡ result_and v EndHere → StepOk xs base d o b e l e l r
+    at_end m q = fit-or-not m q (an_end long)
+
+    pub at_call : k ≡ Call → v ≡ fields_verdict Call xs → r ≡ result_and v (Past 1 o) → StepOk xs base d o b e l e l r
+    at_call m q = fit-or-not m q (a_call long)
+
+    module _ {s : StepAnswer} (j : s ≡ jump_step o b) where
+      pub at-break : k ≡ Break → v ≡ fields_verdict Break xs → r ≡ result_and v s → StepOk xs base d o b e l e l r
+      at-break m q = fit-or-not m q (λ a. rw j (a-break long b a))
+
+      pub at-continue : k ≡ Continue → v ≡ fields_verdict Continue xs → r ≡ result_and v s → StepOk xs base d o b e l e l r
+      at-continue m q = fit-or-not m q (λ a. rw j (a-continue long b a))

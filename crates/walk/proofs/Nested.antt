@@ -16,21 +16,17 @@ use Rattle.rows.specs.First.{first_kind_lem}
 use Rattle.walk.specs.Standing.{has_loop, Inside}
 use Rattle.walk.specs.Limit.{NoRegion, Full}
 use Rattle.walk.specs.Walked.{TurnedAway, Before, then_of, seq_rows, step_rows, rest_rows, SeqOk, StepOk, RestOk}
-use Rattle.walk.specs.declared.answer.Seq.{Seq}
-use Rattle.walk.specs.declared.answer.Seq.TheVariants.{Broken, AtEnd, AtElse}
-use Rattle.walk.specs.declared.answer.Step.TheVariants.{Faulty, Past}
-use Rattle.walk.specs.declared.answer.Rest.{Rest}
-use Rattle.walk.specs.declared.answer.Rest.TheVariants.{Torn, Rows}
 use Rattle.rows.proofs.Rows.{rest_all, drops}
 use Rattle.walk.proofs.Stepping.{else_of, loop_of, inside-at, inside_if, inside_loop, inside-else, inside-close, if_full, loop_full, else_full, else-misplaced}
 use Rattle.walk.proofs.Constructs.{faulty}
+use Rattle.walk.specs.Answer.{SeqAnswer, Broken, AtEnd, AtElse, Faulty, Past, RestAnswer, Torn, Rows}
 
 -- what a sequence over `&xs[a..]` says, said of the bytes from a on and of an answer by name
-pub seq-at : (xs : List ℕ) {base d o : ℕ} {b : Bool} {e l e' l' : List ℕ} {r r' : Seq} (a : ℕ)
+pub seq-at : (xs : List ℕ) {base d o : ℕ} {b : Bool} {e l e' l' : List ℕ} {r r' : SeqAnswer} (a : ℕ)
     → SeqOk (take (length xs - a) (drop a xs)) base d o b e l e' l' r → r ≡ r' → SeqOk (drop a xs) base d o b e l e' l' r'
 seq-at xs a h q = rw (rest_all a xs, q) at h
 
-rest_at : (xs : List ℕ) {row base d o : ℕ} {b : Bool} {e l e' l' : List ℕ} {r r' : Rest} (a : ℕ)
+rest_at : (xs : List ℕ) {row base d o : ℕ} {b : Bool} {e l e' l' : List ℕ} {r r' : RestAnswer} (a : ℕ)
     → RestOk (take (length xs - a) (drop a xs)) row base d o b e l e' l' r → r ≡ r' → RestOk (drop a xs) row base d o b e l e' l' r'
 rest_at xs a h q = rw (rest_all a xs, q) at h
 
@@ -53,7 +49,7 @@ module _ {xs : List ℕ} {base d o : ℕ} {b : Bool} {e l : List ℕ} {f : Bool}
   pub if-over : f ≡ true → StepOk xs base d o b e l e l (Faulty TooManyParts)
   if-over t = faulty long (λ bs h hs n w. if_full w long q (sym u.is ∙ t))
 
-  module _ {l' e' l'' : List ℕ} {r : Seq} (t : f ≡ false) (y : l' ≡ set l base 0)
+  module _ {l' e' l'' : List ℕ} {r : SeqAnswer} (t : f ≡ false) (y : l' ≡ set l base 0)
       (ok : SeqOk (take (length xs - 6) (drop 6 xs)) (base + 1) (d + 1) (o + 1) b e l' e' l'' r) where
     -- the then part
     enters : {bs : List ℕ} {h : Open} {hs : List Open} {n : ℕ} → Inside bs xs base h hs d o b n e l
@@ -71,7 +67,7 @@ module _ {xs : List ℕ} {base d o : ℕ} {b : Bool} {e l : List ℕ} {f : Bool}
       leads = λ bs h hs n w. closes xs base k s.fit (s.leads bs _ (h ∷ hs) n (enters w)) w.depth w.loops;
     })
 
-    module _ {k o' : ℕ} {e'' l''' : List ℕ} {r' : Rest} (m : r ≡ AtElse k o')
+    module _ {k o' : ℕ} {e'' l''' : List ℕ} {r' : RestAnswer} (m : r ≡ AtElse k o')
         (ok' : RestOk (take (length xs - 6 * (k + 1)) (drop (6 * (k + 1)) xs)) (base + 1 + k) base d o' b e' l'' e'' l''' r') where
       -- the else row
       reaches : {bs : List ℕ} {h : Open} {hs : List Open} {n : ℕ} → Inside bs xs base h hs d o b n e l
@@ -103,7 +99,7 @@ module _ {xs : List ℕ} {row base : ℕ} (d : ℕ) {o : ℕ} {b : Bool} {e l : 
   pub else-over : f ≡ true → RestOk xs row base d o b e l e l (Torn TooManyParts)
   else-over t = torn long (λ bs g h hs n w. else_full w.here long w.kind_is (sym u.is ∙ t))
 
-  module _ {l' e' l'' : List ℕ} {r : Seq} (t : f ≡ false) (y : l' ≡ set l base row)
+  module _ {l' e' l'' : List ℕ} {r : SeqAnswer} (t : f ≡ false) (y : l' ≡ set l base row)
       (ok : SeqOk (take (length xs - 6) (drop 6 xs)) (row + 1) (d + 1) (o + 1) b e l' e' l'' r) where
     turns : {bs : List ℕ} {g : ℕ} {h : Open} {hs : List Open} {n : ℕ} → Before Else bs xs row (then_of base g) (h ∷ hs) (d + 1) o b n e l
         → Inside bs (drop 6 xs) (row + 1) (else_of base (regions (table_of bs) row)) (h ∷ hs) (d + 1) (o + 1) b n e l'
@@ -130,7 +126,7 @@ module _ {xs : List ℕ} {base d o : ℕ} {b : Bool} {e l : List ℕ} {f : Bool}
   pub loop-over : f ≡ true → StepOk xs base d o b e l e l (Faulty TooManyParts)
   loop-over t = faulty long (λ bs h hs n w. loop_full w long q (sym u.is ∙ t))
 
-  module _ {e' l' : List ℕ} {r : Seq} (t : f ≡ false)
+  module _ {e' l' : List ℕ} {r : SeqAnswer} (t : f ≡ false)
       (ok : SeqOk (take (length xs - 6) (drop 6 xs)) (base + 1) (d + 1) (o + 1) true e l e' l' r) where
     loops : {bs : List ℕ} {h : Open} {hs : List Open} {n : ℕ} → Inside bs xs base h hs d o b n e l
         → Inside bs (drop 6 xs) (base + 1) (loop_of base (regions (table_of bs) base)) (h ∷ hs) (d + 1) (o + 1) true n e l

@@ -11,32 +11,23 @@ use Rattle.rules.specs.declared.refusal.Refusal.TheVariants.{Misplaced}
 use Rattle.rules.specs.Scan.{Open}
 use Rattle.walk.specs.Standing.{Inside}
 use Rattle.walk.specs.Walked.{seq_rows, step_rows, rest_rows, SeqOk, StepOk}
-use Rattle.walk.specs.declared.answer.Seq.{Seq}
-use Rattle.walk.specs.declared.answer.Seq.TheVariants.{Broken, AtEnd, AtElse}
-use Rattle.walk.specs.declared.answer.Step.{Step}
-use Rattle.walk.specs.declared.answer.Step.TheVariants.{Faulty, Past, EndHere, ElseHere}
-use Rattle.walk.specs.declared.answer.Rest.{Rest}
-use Rattle.walk.specs.declared.answer.Rest.TheVariants.{Rows}
 use Rattle.rows.proofs.Rows.{rest_all, drops}
 use Rattle.walk.proofs.Stepping.{inside-at, inside-end}
+use Rattle.walk.specs.Answer.{SeqAnswer, Broken, AtEnd, AtElse, StepAnswer, Faulty, Past, EndHere, ElseHere, RestAnswer, Rows}
 
 -- up to the row `at`, with o' regions opened
 pub record SeqTo (xs : List ℕ) (base d o : ℕ) (b : Bool) (e₀ l₀ e l : List ℕ) (at o' : ℕ) : Type 0 where
   pub le : 6 * at ≤ length xs
-  pub ends_room : length e ≡ length e₀
-  pub elses_room : length l ≡ length l₀
   pub leads : (bs : List ℕ) (h : Open) (hs : List Open) (n : ℕ) → Inside bs xs base h hs d o b n e₀ l₀
       → Inside bs (drop (6 * at) xs) (base + at) h hs d o' b n e l
 
 pub to_start : {xs : List ℕ} {base d o : ℕ} {b : Bool} {e l : List ℕ} → SeqTo xs base d o b e l e l 0 o
 to_start {base = base} = record {
   le = omega arith;
-  ends_room = refl;
-  elses_room = refl;
   leads = λ bs h hs n w. inside-at w refl (sym (add-zero base)) refl refl;
 }
 
-step-at : (xs : List ℕ) {base d o : ℕ} {b : Bool} {e l e' l' : List ℕ} {r r' : Step} (a : ℕ)
+step-at : (xs : List ℕ) {base d o : ℕ} {b : Bool} {e l e' l' : List ℕ} {r r' : StepAnswer} (a : ℕ)
     → StepOk (take (length xs - a) (drop a xs)) base d o b e l e' l' r → r ≡ r' → StepOk (drop a xs) base d o b e l e' l' r'
 step-at xs a h q = rw (rest_all a xs, q) at h
 
@@ -48,7 +39,7 @@ module _ {xs : List ℕ} {base d o : ℕ} {b : Bool} {e₀ l₀ e l : List ℕ} 
     leads = λ bs h hs n w. inside-end (v.leads bs h hs n w) (omega (arith, length-drop (6 * at) xs));
   }
 
-  module _ {e' l' : List ℕ} {r : Step} (ok : StepOk (take (length xs - 6 * at) (drop (6 * at) xs)) (base + at) d o' b e l e' l' r) where
+  module _ {e' l' : List ℕ} {r : StepAnswer} (ok : StepOk (take (length xs - 6 * at) (drop (6 * at) xs)) (base + at) d o' b e l e' l' r) where
     pub to-broken : {c : Refusal} → r ≡ Faulty c → SeqOk xs base d o b e₀ l₀ e' l' (Broken c)
     unfolding seq_rows
     to-broken m = let s = step-at xs (6 * at) ok m in record {
@@ -70,31 +61,29 @@ module _ {xs : List ℕ} {base d o : ℕ} {b : Bool} {e₀ l₀ e l : List ℕ} 
       leads = λ bs h hs n w. s.leads bs h hs n (v.leads bs h hs n w);
     }
 
-    pub to-past : {k o'' : ℕ} → r ≡ Past k o'' → length e' ≡ length e → length l' ≡ length l → SeqTo xs base d o b e₀ l₀ e' l' (at + k) o''
+    pub to-past : {k o'' : ℕ} → r ≡ Past k o'' → SeqTo xs base d o b e₀ l₀ e' l' (at + k) o''
     unfolding step_rows
-    to-past {k} m p q = let s = step-at xs (6 * at) ok m in record {
+    to-past {k} m = let s = step-at xs (6 * at) ok m in record {
       le = omega (arith, v.le, s.fit, length-drop (6 * at) xs);
-      ends_room = omega (arith, v.ends_room);
-      elses_room = omega (arith, v.elses_room);
       leads = λ bs h hs n w. inside-at (s.leads bs h hs n (v.leads bs h hs n w)) (drops xs (6 * at) (6 * k) (6 * (at + k)) (omega arith)) (omega arith) refl refl;
     }
 
 pub ruleset sequences = (to_start, to_out, to-broken, to_end, to-else, to-past)
 
 -- ---- rules for `omega`
-pub end-rows : (r : Seq) (k o : ℕ) → r ≡ AtEnd k o → seq_rows r ≡ k + 1
+pub end-rows : (r : SeqAnswer) (k o : ℕ) → r ≡ AtEnd k o → seq_rows r ≡ k + 1
 unfolding seq_rows
 end-rows r k o m = ap seq_rows m
 
-pub else_rows : (r : Seq) (k o : ℕ) → r ≡ AtElse k o → seq_rows r ≡ k + 1
+pub else_rows : (r : SeqAnswer) (k o : ℕ) → r ≡ AtElse k o → seq_rows r ≡ k + 1
 unfolding seq_rows
 else_rows r k o m = ap seq_rows m
 
-pub past-rows : (r : Step) (k o : ℕ) → r ≡ Past k o → step_rows r ≡ k
+pub past-rows : (r : StepAnswer) (k o : ℕ) → r ≡ Past k o → step_rows r ≡ k
 unfolding step_rows
 past-rows r k o m = ap step_rows m
 
-pub rest-rows-are : (r : Rest) (k o : ℕ) → r ≡ Rows k o → rest_rows r ≡ k
+pub rest-rows-are : (r : RestAnswer) (k o : ℕ) → r ≡ Rows k o → rest_rows r ≡ k
 unfolding rest_rows
 rest-rows-are r k o m = ap rest_rows m
 

@@ -1,3 +1,4 @@
+pub mod Answer
 pub mod Limit
 pub mod Standing
 pub mod Walked

@@ -3,11 +3,11 @@ ghost use Rattle.std.specs.Prelude.{◌≡◌, ◌+◌, ◌*◌, ◌≤◌, ◌<
 ghost use Rattle.rules.specs.Limits.{max_rows, max_constructs};
 ghost use Rattle.rules.specs.Row.{row_width};
 ghost use Rattle.rows.specs.First.{first_kind_lem};
-ghost use Rattle.walk.specs.Walked.{SeqOk, StepOk, RestOk};
+ghost use Rattle.walk.specs.Walked.{fields_verdict, SeqOk, StepOk, RestOk};
 
-use crate::answer::{Rest, Seq, Step, fitting, jump};
+use crate::answer::{Rest, Seq, Step, jump};
 use crate::limit::{full, no_region};
-use crate::link::link;
+use crate::link::{RowLinks, link};
 use rows::dos::dos;
 use rows::first::{fits, kind};
 use rows::{LAST, WIDTH};
@@ -22,36 +22,38 @@ pub fn sequence(
     depth: usize,
     opened: usize,
     in_loop: bool,
-    ends: &mut [u16],
-    elses: &mut [u16],
-) -> Seq
+    links: &mut RowLinks,
+) -> Result<Seq, Refusal>
     requires rows_bound { row_width * base + length rows.now ≤ row_width * max_rows }
-    requires ends_len { (length ends.old ≡ max_rows) × (length elses.old ≡ max_rows) }
-    ensures { SeqOk rows.now base depth opened in_loop ends.old elses.old ends.new elses.new result }
+    ensures { SeqOk rows.now base depth opened in_loop links.old.ends links.old.elses links.new.ends links.new.elses result }
 {
+    // Kept as a `while`: a construct is as many rows long as `construct` tells, so no iterator's step is known before.
     let mut at = 0;
     let mut regions = opened;
     while WIDTH * at + LAST < rows.len() {
         let from = WIDTH * at;
-        match construct(
-            &rows[from..],
-            base + at,
-            depth,
-            regions,
-            in_loop,
-            ends,
-            elses,
-        ) {
-            Step::Faulty(r) => return Seq::Broken(r),
-            Step::EndHere => return Seq::AtEnd(at, regions),
-            Step::ElseHere => return Seq::AtElse(at, regions),
+        let step = construct(&rows[from..], base + at, depth, regions, in_loop, links)?;
+        match step {
+            Step::EndHere => return Ok(Seq::AtEnd(at, regions)),
+            Step::ElseHere => return Ok(Seq::AtElse(at, regions)),
             Step::Past(n, o) => {
-                at = at + n;
+                at += n;
                 regions = o;
             }
         }
     }
-    Seq::Broken(Refusal::Misplaced)
+    Err(Refusal::Misplaced)
+}
+
+// The fields of the row that the bytes begin with are as `kind` uses them, or the row is turned away.
+fn fields(kind: Kind, rows: &[u8]) -> Result<(), Refusal>
+    requires { 5 < length rows.now }
+    ensures { result ≡ fields_verdict kind rows.now }
+{
+    if fits(kind, rows) {
+        return Ok(());
+    }
+    Err(Refusal::WrongField)
 }
 
 // The construct that row `base` begins. Each arm tests the fields for its own kind, so that there is one jump by the kind.
@@ -62,40 +64,32 @@ fn construct(
     depth: usize,
     opened: usize,
     in_loop: bool,
-    ends: &mut [u16],
-    elses: &mut [u16],
-) -> Step
+    links: &mut RowLinks,
+) -> Result<Step, Refusal>
     requires rows_bound { row_width * base + length rows.now ≤ row_width * max_rows }
-    requires ends_len { (length ends.old ≡ max_rows) × (length elses.old ≡ max_rows) }
     requires in_bounds { 5 < length rows.now }
-    ensures { StepOk rows.now base depth opened in_loop ends.old elses.old ends.new elses.new result }
+    ensures { StepOk rows.now base depth opened in_loop links.old.ends links.old.elses links.new.ends links.new.elses result }
 {
     match kind(rows) {
-        Kind::Function => fitting(fits(Kind::Function, rows), Step::Faulty(Refusal::Misplaced)),
+        Kind::Function => fields(Kind::Function, rows).and(Err(Refusal::Misplaced)),
         Kind::Do => {
-            if fits(Kind::Do, rows) {
-                return Step::Past(dos(rows), opened);
-            }
-            Step::Faulty(Refusal::WrongField)
+            fields(Kind::Do, rows)?;
+            Ok(Step::Past(dos(rows), opened))
         }
         Kind::If => {
-            if fits(Kind::If, rows) {
-                return if_part(rows, base, depth, opened, in_loop, ends, elses);
-            }
-            Step::Faulty(Refusal::WrongField)
+            fields(Kind::If, rows)?;
+            if_part(rows, base, depth, opened, in_loop, links)
         }
-        Kind::Else => fitting(fits(Kind::Else, rows), Step::ElseHere),
+        Kind::Else => fields(Kind::Else, rows).and(Ok(Step::ElseHere)),
         Kind::Loop => {
-            if fits(Kind::Loop, rows) {
-                return loop_part(rows, base, depth, opened, in_loop, ends, elses);
-            }
-            Step::Faulty(Refusal::WrongField)
+            fields(Kind::Loop, rows)?;
+            loop_part(rows, base, depth, opened, in_loop, links)
         }
-        Kind::End => fitting(fits(Kind::End, rows), Step::EndHere),
-        Kind::Break => fitting(fits(Kind::Break, rows), jump(opened, in_loop)),
-        Kind::Continue => fitting(fits(Kind::Continue, rows), jump(opened, in_loop)),
-        Kind::Call => fitting(fits(Kind::Call, rows), Step::Past(1, opened)),
-        Kind::Unknown => Step::Faulty(Refusal::WrongField),
+        Kind::End => fields(Kind::End, rows).and(Ok(Step::EndHere)),
+        Kind::Break => fields(Kind::Break, rows).and(jump(opened, in_loop)),
+        Kind::Continue => fields(Kind::Continue, rows).and(jump(opened, in_loop)),
+        Kind::Call => fields(Kind::Call, rows).and(Ok(Step::Past(1, opened))),
+        Kind::Unknown => Err(Refusal::WrongField),
     }
 }
 
@@ -107,47 +101,33 @@ fn if_part(
     depth: usize,
     opened: usize,
     in_loop: bool,
-    ends: &mut [u16],
-    elses: &mut [u16],
-) -> Step
+    links: &mut RowLinks,
+) -> Result<Step, Refusal>
     requires rows_bound { row_width * base + length rows.now ≤ row_width * max_rows }
-    requires ends_len { (length ends.old ≡ max_rows) × (length elses.old ≡ max_rows) }
     requires in_bounds { (5 < length rows.now) × (first_kind_lem rows.now ≡ Kind.If) }
-    ensures { StepOk rows.now base depth opened in_loop ends.old elses.old ends.new elses.new result }
+    ensures { StepOk rows.now base depth opened in_loop links.old.ends links.old.elses links.new.ends links.new.elses result }
 {
     if full(depth, opened) {
-        return Step::Faulty(Refusal::TooManyParts);
+        return Err(Refusal::TooManyParts);
     }
-    link(elses, base, 0);
-    match sequence(
+    link(&mut links.elses, base, 0);
+    let ended = sequence(
         &rows[WIDTH..],
         base + 1,
         depth + 1,
         opened + 1,
         in_loop,
-        ends,
-        elses,
-    ) {
-        Seq::Broken(r) => Step::Faulty(r),
+        links,
+    )?;
+    match ended {
         Seq::AtEnd(n, o) => {
-            link(ends, base, base + 1 + n);
-            Step::Past(n + 2, o)
+            link(&mut links.ends, base, base + 1 + n);
+            Ok(Step::Past(n + 2, o))
         }
         Seq::AtElse(n, o) => {
             let from = WIDTH * (n + 1);
-            match else_part(
-                &rows[from..],
-                base + 1 + n,
-                base,
-                depth,
-                o,
-                in_loop,
-                ends,
-                elses,
-            ) {
-                Rest::Torn(r) => Step::Faulty(r),
-                Rest::Rows(k, p) => Step::Past(n + 1 + k, p),
-            }
+            let (k, p) = else_part(&rows[from..], base + 1 + n, base, depth, o, in_loop, links)?;
+            Ok(Step::Past(n + 1 + k, p))
         }
     }
 }
@@ -161,32 +141,30 @@ fn else_part(
     depth: usize,
     opened: usize,
     in_loop: bool,
-    ends: &mut [u16],
-    elses: &mut [u16],
-) -> Rest
+    links: &mut RowLinks,
+) -> Result<Rest, Refusal>
     requires rows_bound { (row_width * row + length rows.now ≤ row_width * max_rows) × (base < row) }
-    requires ends_len { (length ends.old ≡ max_rows) × (length elses.old ≡ max_rows) × (depth < max_constructs) }
+    requires depth_bound { depth < max_constructs }
     requires in_bounds { 5 < length rows.now }
-    ensures { RestOk rows.now row base depth opened in_loop ends.old elses.old ends.new elses.new result }
+    ensures { RestOk rows.now row base depth opened in_loop links.old.ends links.old.elses links.new.ends links.new.elses result }
 {
     if no_region(opened) {
-        return Rest::Torn(Refusal::TooManyParts);
+        return Err(Refusal::TooManyParts);
     }
-    link(elses, base, row);
-    match sequence(
+    link(&mut links.elses, base, row);
+    let ended = sequence(
         &rows[WIDTH..],
         row + 1,
         depth + 1,
         opened + 1,
         in_loop,
-        ends,
-        elses,
-    ) {
-        Seq::Broken(r) => Rest::Torn(r),
-        Seq::AtElse(_, _) => Rest::Torn(Refusal::Misplaced),
+        links,
+    )?;
+    match ended {
+        Seq::AtElse(_, _) => Err(Refusal::Misplaced),
         Seq::AtEnd(n, o) => {
-            link(ends, base, row + 1 + n);
-            Rest::Rows(n + 2, o)
+            link(&mut links.ends, base, row + 1 + n);
+            Ok((n + 2, o))
         }
     }
 }
@@ -199,31 +177,21 @@ fn loop_part(
     depth: usize,
     opened: usize,
     in_loop: bool,
-    ends: &mut [u16],
-    elses: &mut [u16],
-) -> Step
+    links: &mut RowLinks,
+) -> Result<Step, Refusal>
     requires rows_bound { row_width * base + length rows.now ≤ row_width * max_rows }
-    requires ends_len { (length ends.old ≡ max_rows) × (length elses.old ≡ max_rows) }
     requires in_bounds { (5 < length rows.now) × (first_kind_lem rows.now ≡ Kind.Loop) }
-    ensures { StepOk rows.now base depth opened in_loop ends.old elses.old ends.new elses.new result }
+    ensures { StepOk rows.now base depth opened in_loop links.old.ends links.old.elses links.new.ends links.new.elses result }
 {
     if full(depth, opened) {
-        return Step::Faulty(Refusal::TooManyParts);
+        return Err(Refusal::TooManyParts);
     }
-    match sequence(
-        &rows[WIDTH..],
-        base + 1,
-        depth + 1,
-        opened + 1,
-        true,
-        ends,
-        elses,
-    ) {
-        Seq::Broken(r) => Step::Faulty(r),
-        Seq::AtElse(_, _) => Step::Faulty(Refusal::Misplaced),
+    let ended = sequence(&rows[WIDTH..], base + 1, depth + 1, opened + 1, true, links)?;
+    match ended {
+        Seq::AtElse(_, _) => Err(Refusal::Misplaced),
         Seq::AtEnd(n, o) => {
-            link(ends, base, base + 1 + n);
-            Step::Past(n + 2, o)
+            link(&mut links.ends, base, base + 1 + n);
+            Ok(Step::Past(n + 2, o))
         }
     }
 }

@@ -5,10 +5,10 @@ use Rattle.emit.proofs.Emits.{emit-start, emit-holds, emit_more}
 use Rattle.emit.proofs.emit_rows.Goals as goal
 
 pub loop-k-init : goal.loop-k-init
-loop-k-init c = emit-start c.requires.laid.1
+loop-k-init c = emit-start c.requires
 
 pub loop-k-preserved : goal.loop-k-preserved
-loop-k-preserved c = emit_more c.loop-k.invariant (omega arith) (c.index-first.ensures ∙ c.line_of.ensures) c.emit.ensures (search rules)
+loop-k-preserved c = emit_more c.loop-k.invariant (omega arith) (c.from-first.ensures ∙ c.line_of.ensures) c.emit.ensures (search rules)
 
-pub emit-requires-clause-laid : goal.emit-requires-clause-laid
-emit-requires-clause-laid c = (c.requires.laid.0, omega (arith, c.requires.laid.1.rows), emit-holds c.loop-k.invariant (omega arith) (c.index-first.ensures ∙ c.line_of.ensures))
+pub emit-requires : goal.emit-requires
+emit-requires c = (omega (arith, c.requires.rows), emit-holds c.loop-k.invariant (omega arith) (c.from-first.ensures ∙ c.line_of.ensures))

@@ -3,4 +3,4 @@ use Rattle.emit.proofs.Emits.{one_out}
 use Rattle.emit.proofs.one.Goals as goal
 
 pub returns : goal.returns
-returns c = one_out c.requires.surveyed.1 c.requires.surveyed.2 c.requires.l_value (c.index.ensures ∙ c.line_of.ensures) c.write.ensures
+returns c = one_out c.requires.makes.0 c.requires.makes.1 c.requires.l_value (c.from.ensures ∙ c.line_of.ensures) c.write.ensures

@@ -1,10 +1,5 @@
-use Prim.Native.Nat.{◌*◌, ◌-◌}
-use lib.ListN.{length}
 use Rattle.figures.specs.Tallied.{Counting}
 use Rattle.figures.proofs.count.Given as goal
 
 abbrev pub invariant-loop-at : goal.invariant-loop-at
 invariant-loop-at l = Counting l.rows l.at l.first l.t
-
-abbrev pub decreases-loop-at : goal.decreases-loop-at
-decreases-loop-at l = length l.rows - 6 * l.at

@@ -11,4 +11,4 @@ returns-then-is_hardened c = check-hardened-promise c.args.lines.now _ (record {
 
 pub returns : goal.returns
 returns c = check-hardened-promise c.args.lines.now _ (record { each = λ i. omega (arith, c.type_inv.lines i) })
-    (c.of_refusal.ensures ∙ sym (check-hardened c.args.lines.now false (sym c.is_hardened.ensures ∙ c.if-is_hardened.false)))
+    (c.from.ensures ∙ sym (check-hardened c.args.lines.now false (sym c.is_hardened.ensures ∙ c.if-is_hardened.false)))

@@ -7,13 +7,13 @@ use Rattle.reader.specs.Found.{FoundIs}
 use Rattle.reader.proofs.Finds.{none_told, some-told}
 use Rattle.finuraho.proofs.read_back.Goals as goal
 
-pub returns-in-NotHardened : goal.returns-in-NotHardened
-returns-in-NotHardened c = let found = subst (FoundIs c.args.lines.now c.read.new.rows) c.in-NotHardened.is c.read.ensures in
+pub returns-in-None : goal.returns-in-None
+returns-in-None c = let found = subst (FoundIs c.args.lines.now c.read.new.rows) c.in-None.is c.read.ensures in
     read-back-promise c.args.lines.now c.args.out.now _ (record { each = λ i. omega (arith, c.type_inv.lines i) })
     (ap (λ w. record { wrote = w; out = c.args.out.now }) c.refused.ensures ∙ sym (read-back-refused c.args.lines.now c.args.out.now (sym (none_told c.args.lines.now found.number_is))))
 
-pub returns-in-Source : goal.returns-in-Source
-returns-in-Source c = let found = subst (FoundIs c.args.lines.now c.read.new.rows) c.in-Source.is c.read.ensures in
+pub returns-in-Some : goal.returns-in-Some
+returns-in-Some c = let found = subst (FoundIs c.args.lines.now c.read.new.rows) c.in-Some.is c.read.ensures in
     read-back-promise c.args.lines.now c.args.out.now _ (record { each = λ i. omega (arith, c.type_inv.lines i) })
     (c.give.ensures ∙ ap (λ x. writing (short_output x c.args.out.now) x c.args.out.now) (found.front refl).front_is
     ∙ sym (read-back-accepted c.args.lines.now c.args.out.now (sym (some-told c.args.lines.now found.number_is))))

@@ -7,7 +7,7 @@ use mathlib.Core.List.{List, [], ◌∷◌}
 use Prim.Native.Nat.{ℕ, suc, ◌+◌, ◌-◌, ◌≤◌, ◌<◌}
 use native.Mathlib.Omega.{arith}
 use lib.Dec.{eqb, leb}
-use borrow.Author.Tests.{eqb-true, eqb-false, eq-eqb, ne_eqb, leb-true, leb-false, le-leb, lt-leb}
+use borrow.Author.Tests.{eqb-true, eqb-false, eq-eqb, ne_eqb, leb-true, leb-false}
 use Rattle.rules.specs.Row.{Table}
 use Rattle.rules.specs.Scan.{Open, region_of, opener_of, around, is_loop_body, from_loop}
 use Rattle.rules.specs.Value.{inside, value_in}
@@ -27,11 +27,7 @@ abbrev pub counters : Table → (z : ℕ) → List Open → ℕ → Counters
 counters t z fs v x = counter_of t fs v (z + x)
 
 shift : (z g x : ℕ) → z ≤ g → eqb x (g - z) ≡ eqb (z + x) g
-shift z g x h = by (eqb (z + x) g) refl
-  where
-    by : (b : Bool) → eqb (z + x) g ≡ b → eqb x (g - z) ≡ b
-    by true q = eq-eqb x (g - z) (omega (arith, eqb-true (z + x) g q))
-    by false q = ne_eqb x (g - z) (λ e. eqb-false (z + x) g q (omega arith))
+shift z g x h = grind arith
 
 pub at-region : (t : Table) (z : ℕ) (fs : List Open) (v g : ℕ) → z ≤ g → counters t z fs v (g - z) ≡ counter_of t fs v g
 at-region t z fs v g h = ap (counter_of t fs v) (omega arith)
@@ -46,13 +42,9 @@ counter-off : (t : Table) (fs : List Open) (v x : ℕ) → NotIn x fs → counte
 counter-off t [] v x n = refl
 counter-off t (f ∷ fs) v x n = counter-under t f fs v x (λ e. n.0 (sym e)) ∙ counter-off t fs _ x n.1
 
-twice : {A : Type 0} (b : Bool) (w v y : A) → cond b w (cond b v y) ≡ cond b w y
-twice true w v y = refl
-twice false w v y = refl
-
 -- ---- the innermost region gets w
 pub put-top : (t : Table) (z : ℕ) (f : Open) (fs : List Open) (v w : ℕ) → z ≤ f.region → put (f.region - z) w (counters t z (f ∷ fs) v) ≡ counters t z (f ∷ fs) w
-put-top t z f fs v w h = fun_ext (λ x. rw (shift z f.region x h) (twice (eqb (z + x) f.region) w v _))
+put-top t z f fs v w h = fun_ext (λ x. rw (shift z f.region x h) (grind arith))
 
 -- ---- a part opens
 pub put-new : (t : Table) (z : ℕ) (n : Open) (fs : List Open) (b v : ℕ) → z ≤ n.region → v ≡ holding t n fs → put (n.region - z) b (counters t z fs v) ≡ counters t z (n ∷ fs) b
@@ -60,14 +52,7 @@ put-new t z n fs b v h e = fun_ext (λ x. rw (shift z n.region x h, e))
 
 -- ---- a function opens
 pub put-body : (t : Table) (n : Open) (b : ℕ) → put 0 b clear ≡ counters t n.region (n ∷ []) b
-put-body t n b = fun_ext (λ x. ap (λ y. cond y b 0) (same x))
-  where
-    same : (x : ℕ) → eqb x 0 ≡ eqb (n.region + x) n.region
-    same x = by (eqb (n.region + x) n.region) refl
-      where
-        by : (d : Bool) → eqb (n.region + x) n.region ≡ d → eqb x 0 ≡ d
-        by true q = eq-eqb x 0 (omega (arith, eqb-true (n.region + x) n.region q))
-        by false q = ne_eqb x 0 (λ e. eqb-false (n.region + x) n.region q (omega arith))
+put-body t n b = fun_ext (λ x. ap (λ y. cond y b 0) (grind arith))
 
 -- ---- a part closes, and the region around gets a
 leave-at : (t : Table) (f h : Open) (hs : List Open) (v a y : ℕ) → Chain f.region (h ∷ hs) → (p q : Bool) → eqb y h.region ≡ p → eqb y f.region ≡ q
@@ -96,18 +81,10 @@ counter-skip t (f ∷ fs) b l hs v y e k h =
     by false q ih = counter-under t f fs v y (omega (arith, (loop-in fs f.region l hs q k.1).low)) ∙ ih q
 
 shift_le : (z g x : ℕ) → z ≤ g → leb (g - z) x ≡ leb g (z + x)
-shift_le z g x h = by (leb g (z + x)) refl
-  where
-    by : (b : Bool) → leb g (z + x) ≡ b → leb (g - z) x ≡ b
-    by true q = le-leb (g - z) x (omega (arith, leb-true g (z + x) q))
-    by false q = lt-leb (g - z) x (omega (arith, leb-false g (z + x) q))
+shift_le z g x h = grind arith
 
 shift-ge : (z g x : ℕ) → z ≤ g → leb x (g - z) ≡ leb (z + x) g
-shift-ge z g x h = by (leb (z + x) g) refl
-  where
-    by : (b : Bool) → leb (z + x) g ≡ b → leb x (g - z) ≡ b
-    by true q = le-leb x (g - z) (omega (arith, leb-true (z + x) g q))
-    by false q = lt-leb x (g - z) (omega (arith, leb-false (z + x) g q))
+shift-ge z g x h = grind arith
 
 out_at : (t : Table) (f : Open) (fs : List Open) (l h : Open) (hs : List Open) (v a y : ℕ) → from_loop (f ∷ fs) ≡ l ∷ h ∷ hs → Chain (suc f.region) (f ∷ fs)
     → (p q r : Bool) → eqb y h.region ≡ p → leb l.region y ≡ q → leb y f.region ≡ r

@@ -25,20 +25,14 @@ module _ (t : Table) (ok : Proper t) (j : ℕ) (h : Open) (hs : List Open) (d : 
       → e ≤ takes (kind_at t i) f.part - 1 → value t f.region i + e ≡ value t f.region j + d → (i ≡ j) × (e ≡ d)
   same-region i f fs e il k q a v = by (order i j)
     where
-      no1 : 1 ≤ takes (kind_at t i) f.part → value t f.region i + takes (kind_at t i) f.part ≤ value t f.region j → ⊥
-      no1 m n = omega arith
-
-      no2 : 1 ≤ takes (kind_at t j) h.part → value t f.region j + takes (kind_at t j) h.part ≤ value t f.region i → ⊥
-      no2 m n = omega arith
-
       by : Order i j → (i ≡ j) × (e ≡ d)
       by (less x) =
           let m = value-moves t i j f h fs hs k l q x (not-silent t ok i il k) in
-          absurd (no1 m.0 m.1)
+          absurd (omega (arith, m.0, m.1))
       by (same x) = (x, (let y : value t f.region i ≡ value t f.region j = ap (value t f.region) x in omega arith))
       by (more x) =
           let m = value-moves t j i h f hs fs l k (sym q) x (not-silent t ok j jl l) in
-          absurd (no2 m.0 (rw q at m.1))
+          absurd (omega (arith, m.0, rw q at m.1))
 
   at_top : (i : ℕ) (f : Open) (fs : List Open) (e : ℕ) → i < length t → open_at t i ≡ f ∷ fs → e ≤ takes (kind_at t i) f.part - 1
       → (counter_of t fs (holding t f fs) h.region ≡ value t h.region j + d → ⊥)
@@ -53,10 +47,7 @@ module _ (t : Table) (ok : Proper t) (j : ℕ) (h : Open) (hs : List Open) (d : 
   -- j and e is d; the rows that open a part have no guard `inside` past their value.
   pub unique : ((p : Part) → shape_of (kind_at t j) ≡ pushes p → d ≡ inside → ⊥) → (fs : List Open) (f : Open) (i e : ℕ) → i < length t → open_at t i ≡ f ∷ fs
       → e ≤ takes (kind_at t i) f.part - 1 → counter_of t (f ∷ fs) (value t f.region i + e) h.region ≡ value t h.region j + d → (i ≡ j) × (e ≡ d)
-  unique z [] f i e il k a v = at_top i f [] e il k a (λ y. deep0 y) (eqb h.region f.region) refl v
-    where
-      deep0 : 0 ≡ value t h.region j + d → ⊥
-      deep0 y = omega (arith, value_pos t h.region j)
+  unique z [] f i e il k a v = at_top i f [] e il k a (λ y. omega (arith, value_pos t h.region j)) (eqb h.region f.region) refl v
   unique z (g ∷ gs) f i e il k a v = at_top i f (g ∷ gs) e il k a
       (λ y. wrong (unique z gs g f.opener inside (omega (arith, m.before)) m.outer (omega (arith, part-takes t ok i f g gs g.part il k)) y))
       (eqb h.region f.region) refl v

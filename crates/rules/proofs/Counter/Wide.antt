@@ -12,7 +12,7 @@ use lib.Dec.{eqb}
 use borrow.Author.Tests.{eqb-true, ne_eqb}
 use Rattle.rules.specs.declared.kind.Kind.TheVariants.{Do, End}
 use Rattle.rules.specs.Row.{Table, kind_at}
-use Rattle.rules.specs.Scan.{Part, body, then_part, else_part, loop_body, Open, regions, open_at, body_region, function_row, end_of}
+use Rattle.rules.specs.Scan.{Part, body, then_part, else_part, loop_body, Open, open_at, body_region, function_row, end_of}
 use Rattle.rules.specs.Value.{inside, takes, value}
 use Rattle.rules.specs.Line.{Line}
 use Rattle.rules.specs.Harden.{line_of, end_value, harden}
@@ -90,7 +90,4 @@ not-ended t ok n k w f fs st =
     let np = not_past t ok (end_of t (function_row t n)) fe.0 fe.1.kind_is fe.1.open_is fe.1.within fs f st.i st.e m.open_is st.within (not-past-end t ok m) in
     let c0 : counters t (body_region (f ∷ fs)) (f ∷ fs) w 0 ≡ counter_of t (f ∷ fs) (value t f.region st.i + st.e) fe.0.region
     = ap (counter_of t (f ∷ fs) w) (add-zero (body_region (f ∷ fs)) ∙ body_is t ok m ∙ sym fe.1.region_is) ∙ ap (λ y. counter_of t (f ∷ fs) y fe.0.region) st.holds in
-    ne_eqb _ _ (λ x. bad (counters t (body_region (f ∷ fs)) (f ∷ fs) w 0) (value t (regions t (function_row t n)) (end_of t (function_row t n))) x (omega (arith, c0, np, ap (λ y. value t y (end_of t (function_row t n))) fe.1.region_is)))
-  where
-    bad : (a b : ℕ) → a ≡ b + 1 → a ≤ b → ⊥
-    bad a b x y = omega arith
+    ne_eqb _ _ (λ x. omega (arith, c0, np, ap (λ y. value t y (end_of t (function_row t n))) fe.1.region_is))

@@ -45,10 +45,7 @@ line-off : (t : Table) → Proper t → (n g k : ℕ) → own_regions t n ≤ g 
 line-off t ok n g k h s =
     let m = s.in_function in
     ap (λ x. guards g (line_at (harden t) x)) s.is ∙ line-guards t m s.ph s.ph_lt g
-    ∙ row-off t s.row s.top s.others g (formed-here t ok m) (not-it (own_below t ok m)) (kind_at t s.row) s.ph s.ph_lt
-  where
-    not-it : {x : ℕ} → x < own_regions t n → x ≡ g → ⊥
-    not-it a b = omega arith
+    ∙ row-off t s.row s.top s.others g (formed-here t ok m) (λ x. omega (arith, own_below t ok m)) (kind_at t s.row) s.ph s.ph_lt
 
 above : (t : Table) → Proper t → (n g : ℕ) → own_regions t n ≤ g → has_region (harden t) n g (length (harden t)) ≡ false
 above t ok n g h =

@@ -3,7 +3,7 @@
 use mathlib.Core.Path.{◌≡◌, refl, ap, ◌∙◌}
 use mathlib.Core.Bool.{Bool, true, false, cond, ◌&&◌}
 use mathlib.Core.List.{List, [], ◌∷◌}
-use Prim.Native.Nat.{ℕ, zero, suc, ◌+◌, ◌-◌, ◌≤◌, ◌<◌, min}
+use Prim.Native.Nat.{ℕ, zero, suc, ◌+◌, ◌≤◌, ◌<◌, min}
 use native.Mathlib.Nat.{le_refl, not-suc-le-zero}
 use native.Mathlib.Decide.{le_ind, dec_lt}
 use native.Mathlib.Omega.{arith}
@@ -18,7 +18,8 @@ use Rattle.rules.specs.Line.{Line, line_at}
 use Rattle.rules.specs.Function.{function_at}
 use Rattle.rules.specs.Harden.{line_count, own_region, test_of, end_line, row_lines}
 use Rattle.rules.specs.Figures.{guards, has_region, regions_in}
-use Rattle.rules.proofs.Logic.{clash, and_both, or-first, or-second, or-none}
+use Rattle.std.proofs.lemmas.Bool.{and_from, or_from, or_left, or_right}
+use Rattle.rules.proofs.Logic.{clash}
 use Rattle.rules.proofs.Scan.{Closing, by_turn, by_close}
 use Rattle.rules.proofs.Function.{is_body_lem, Formed}
 
@@ -27,13 +28,13 @@ pub has-by : (ls : List Line) (n g k : ℕ) → function_at ls k ≡ n → guard
 unfolding has_region
 has-by ls n g k e q m h =
     le_ind (λ x. has_region ls n g x ≡ true)
-    (or-second (has_region ls n g k) (and_both (eq-eqb (function_at ls k) n e) q))
-    (λ x l p. or-first (has_region ls n g x) (eqb (function_at ls x) n && guards g (line_at ls x)) p) m h
+    (or_right (has_region ls n g k) _ (and_from _ _ (eq-eqb (function_at ls k) n e) q))
+    (λ x l p. or_left (has_region ls n g x) (eqb (function_at ls x) n && guards g (line_at ls x)) p) m h
 
 pub has-none : (ls : List Line) (n g m : ℕ) → ((k : ℕ) → k < m → function_at ls k ≡ n → guards g (line_at ls k) ≡ false) → has_region ls n g m ≡ false
 unfolding has_region
 has-none ls n g zero h = refl
-has-none ls n g (suc k) h = or-none (has_region ls n g k) (eqb (function_at ls k) n && guards g (line_at ls k)) (has-none ls n g k (λ x l. h x (omega arith))) (by (eqb (function_at ls k) n) refl)
+has-none ls n g (suc k) h = or_from (has_region ls n g k) (eqb (function_at ls k) n && guards g (line_at ls k)) (has-none ls n g k (λ x l. h x (omega arith))) (by (eqb (function_at ls k) n) refl)
   where
     by : (v : Bool) → eqb (function_at ls k) n ≡ v → v && guards g (line_at ls k) ≡ false
     by true e = h k (le_refl _) (eqb-true (function_at ls k) n e)
@@ -46,15 +47,9 @@ unfolding regions_in
 count_is ls n r below above zero = omega arith
 count_is ls n r below above (suc g) = by (dec_lt g r) (count_is ls n r below above g)
   where
-    one : (b : Bool) → b ≡ true → ◌≡◌ {A = ℕ} (cond b 1 0) 1
-    one b e = rw e
-
-    none : (b : Bool) → b ≡ false → ◌≡◌ {A = ℕ} (cond b 1 0) 0
-    none b e = rw e
-
     by : Dec (g < r) → regions_in ls n g ≡ min g r → regions_in ls n g + cond (has_region ls n g (length ls)) 1 0 ≡ min (suc g) r
-    by (yes h) ih = omega (arith, ih, one (has_region ls n g (length ls)) (below g h))
-    by (no h) ih = omega (arith, ih, none (has_region ls n g (length ls)) (above g (omega arith)))
+    by (yes h) ih = rw (below g h) (omega (arith, ih))
+    by (no h) ih = rw (above g (omega arith)) (omega (arith, ih))
 
 -- ---- the lines of a row
 test-guards : (t : Table) (i : ℕ) (fs : List Open) (b : Bool) (g : ℕ) → guards g (test_of t i fs b) ≡ eqb (own_region fs) g
@@ -70,10 +65,7 @@ inner-guards t i fs g loop_body e = refl
 
 -- the body's own region is 0, which a ret guards
 end-guards : (t : Table) (i : ℕ) (f : Open) (fs : List Open) (g : ℕ) → Formed t (f ∷ fs) → guards g (end_line t i (f ∷ fs) f.part) ≡ eqb (own_region (f ∷ fs)) g
-end-guards t i f [] g m = ap (λ p. guards g (end_line t i (f ∷ []) p)) m.0 ∙ ap (λ x. eqb x g) (itself f.region)
-  where
-    itself : (x : ℕ) → 0 ≡ x - x
-    itself x = omega arith
+end-guards t i f [] g m = ap (λ p. guards g (end_line t i (f ∷ []) p)) m.0 ∙ ap (λ x. eqb x g) (omega arith)
 end-guards t i f (h ∷ hs) g m = inner-guards t i (f ∷ h ∷ hs) g f.part m.0
 
 -- none guards another region
@@ -81,30 +73,27 @@ module _ (t : Table) (i : ℕ) (f : Open) (fs : List Open) (g : ℕ) (m : Formed
   off : eqb (own_region (f ∷ fs)) g ≡ false
   off = ne_eqb (own_region (f ∷ fs)) g ne
 
-  too_many : {A : Type 0} (x c : ℕ) → c ≤ x → x < c → A
-  too_many x c a b = absurd (let z : ⊥ = omega arith in z)
-
   pub row-off : (k : Kind) (ph : ℕ) → ph < line_count k → guards g (line_at (row_lines t i (f ∷ fs) k) ph) ≡ false
   unfolding row_lines
   row-off Function ph l = absurd (not-suc-le-zero l)
   row-off Do zero l = refl
   row-off Do (suc zero) l = off
-  row-off Do (suc (suc x)) l = too_many (suc (suc x)) 2 (omega arith) l
+  row-off Do (suc (suc x)) l = absurd (omega arith)
   row-off If zero l = test-guards t i (f ∷ fs) (has_else t i) g ∙ off
-  row-off If (suc x) l = too_many (suc x) 1 (omega arith) l
+  row-off If (suc x) l = absurd (omega arith)
   row-off Else zero l = off
-  row-off Else (suc x) l = too_many (suc x) 1 (omega arith) l
+  row-off Else (suc x) l = absurd (omega arith)
   row-off Loop zero l = test-guards t i (f ∷ fs) false g ∙ off
-  row-off Loop (suc x) l = too_many (suc x) 1 (omega arith) l
+  row-off Loop (suc x) l = absurd (omega arith)
   row-off End zero l = end-guards t i f fs g m ∙ off
-  row-off End (suc x) l = too_many (suc x) 1 (omega arith) l
+  row-off End (suc x) l = absurd (omega arith)
   row-off Break zero l = off
-  row-off Break (suc x) l = too_many (suc x) 1 (omega arith) l
+  row-off Break (suc x) l = absurd (omega arith)
   row-off Continue zero l = off
-  row-off Continue (suc x) l = too_many (suc x) 1 (omega arith) l
+  row-off Continue (suc x) l = absurd (omega arith)
   row-off Call zero l = off
   row-off Call (suc zero) l = off
-  row-off Call (suc (suc x)) l = too_many (suc (suc x)) 2 (omega arith) l
+  row-off Call (suc (suc x)) l = absurd (omega arith)
   row-off Unknown ph l = absurd (not-suc-le-zero l)
 
 -- the line of a row that ends its region guards it

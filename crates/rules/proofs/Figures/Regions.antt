@@ -39,10 +39,7 @@ module _ (t : Table) (ok : Proper t) (n : ℕ) (known : n < function_count t) wh
     where
       by : (suc (end_of t (function_row t n)) ≡ length t) ⊎ (suc (end_of t (function_row t n)) < length t)
           → function_row t (suc n) ≡ suc (end_of t (function_row t n))
-      by (inl e) = absurd (none (ap (functions t) (sym e) ∙ past_end))
-        where
-          none : function_count t ≡ suc n → ⊥
-          none q = omega arith
+      by (inl e) = absurd (omega (arith, ap (functions t) (sym e), past_end))
       by (inr l) = ap (function_row t) (sym past_end) ∙ row-of-function t (suc (end_of t (function_row t n))) l (next-opens l)
 
   last-function : function_count t ≡ suc n → length t ≡ suc (end_of t (function_row t n))
@@ -51,10 +48,7 @@ module _ (t : Table) (ok : Proper t) (n : ℕ) (known : n < function_count t) wh
       by : (suc (end_of t (function_row t n)) ≡ length t) ⊎ (suc (end_of t (function_row t n)) < length t)
           → length t ≡ suc (end_of t (function_row t n))
       by (inl e) = sym e
-      by (inr l) = absurd (another (functions-mono t {i = suc (suc (end_of t (function_row t n)))} (length t) l))
-        where
-          another : functions t (suc (suc (end_of t (function_row t n)))) ≤ function_count t → ⊥
-          another q = omega (arith, q, h, past_end, functions-next t (suc (end_of t (function_row t n))) (next-opens l))
+      by (inr l) = absurd (omega (arith, functions-mono t {i = suc (suc (end_of t (function_row t n)))} (length t) l, past_end, functions-next t (suc (end_of t (function_row t n))) (next-opens l)))
 
 -- ---- the running count
 -- the count s inside a function: before it the most was m and g regions were opened, now r are
@@ -115,10 +109,7 @@ most-before t ok (suc n) k =
     ap (λ o. (sums_at t o).most) (next-function t ok n (omega arith) k) ∙ most-more t ok n (omega arith) (most-before t ok n (omega arith))
 
 most-all : (t : Table) → Proper t → (c : ℕ) → function_count t ≡ c → most_in (harden t) c ≡ (sums_at t (length t)).most
-most-all t ok zero e = absurd (none (some-function t ok))
-  where
-    none : 0 < function_count t → ⊥
-    none h = omega arith
+most-all t ok zero e = absurd (omega (arith, some-function t ok))
 most-all t ok (suc n) e =
     let k : n < function_count t = omega arith in
     sym (most-more t ok n k (most-before t ok n k)) ∙ ap (λ o. (sums_at t o).most) (sym (last-function t ok n k e))

@@ -40,13 +40,13 @@ module _ {C : Type 0} (m : ℕ → State C → Turn C) where
       → ((s : State C) → suc k + b < (run m n (suc k) s).steps → outcome_of_lem (run m b (suc k) s).step ≡ 0)
       → k + suc b < (after k u (λ s. run m n (suc k) s)).steps → outcome_of_lem (after k u (λ s. run m b (suc k) s)).step ≡ 0
   spent-by b n k (on s) ih h = ih s (omega arith)
-  spent-by b n k (ends o s) ih h = absurd (let z : ⊥ = omega arith in z)
-  spent-by b n k (untaken o s) ih h = absurd (let z : ⊥ = omega arith in z)
+  spent-by b n k (ends o s) ih h = absurd (omega arith)
+  spent-by b n k (untaken o s) ih h = absurd (omega arith)
 
   spent : (b n k : ℕ) (s : State C) → k + b < (run m n k s).steps → outcome_of_lem (run m b k s).step ≡ 0
   unfolding run outcome_of_lem
   spent zero n k s h = refl
-  spent (suc b) zero k s h = absurd (let z : ⊥ = omega arith in z)
+  spent (suc b) zero k s h = absurd (omega arith)
   spent (suc b) (suc n) k s h = spent-by b n k (m k s) (λ s' l. spent b n (suc k) s' l) h
 
 -- ---- a source run by its public call

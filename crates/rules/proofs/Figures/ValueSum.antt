@@ -1,5 +1,4 @@
 -- The values of all regions together are what the sum over the rows comes to. Assumes that the table is accepted.
-use mathlib.Core.Logic.{◌≢◌}
 use mathlib.Core.Path.{◌≡◌, refl, ap}
 use mathlib.Core.Bool.{Bool, true, false, cond}
 use mathlib.Core.List.{List, [], ◌∷◌}
@@ -20,27 +19,19 @@ use Rattle.rules.proofs.Logic.{clash}
 use Rattle.rules.proofs.Accepted.{Proper}
 use Rattle.rules.proofs.Scan.{Chain, chain, regions-mono}
 use Rattle.rules.proofs.Function.{Formed, formed, end-takes-none}
-use Rattle.rules.proofs.ValueBound.{sum, sum-add, none_below, base_sum}
+use Rattle.rules.proofs.ValueBound.{sum, sum-none, sum-add, none_below, base_sum}
 use Rattle.rules.proofs.Figures.Sums.{sums_at, sums-start, sums_next}
 
 -- ---- what a row takes in all regions together
-sum-none : (n : ℕ) → sum (λ g. 0) n ≡ 0
-unfolding sum
-sum-none zero = refl
-sum-none (suc n) = omega (arith, sum-none n)
-
 sum-own : (k : Kind) (f : Open) (fs : List Open) (n : ℕ) → f.region < n → sum (λ g. takes_in k g (f ∷ fs)) n ≡ takes k f.part
 unfolding sum
 sum-own k f fs zero h = absurd (not-suc-le-zero h)
 sum-own k f fs (suc n) h = by (eqb f.region n) refl (λ l. sum-own k f fs n l)
   where
-    ne : (f.region ≡ n → ⊥) → f.region ≢ n
-    ne x = x
-
     by : (b : Bool) → eqb f.region n ≡ b → (f.region < n → sum (λ g. takes_in k g (f ∷ fs)) n ≡ takes k f.part)
         → sum (λ g. takes_in k g (f ∷ fs)) n + cond b (takes k f.part) 0 ≡ takes k f.part
     by true e ih = omega (arith, none_below k f fs n (omega (arith, eqb-true f.region n e)))
-    by false e ih = omega (arith, ih (omega (arith, ne (eqb-false f.region n e))))
+    by false e ih = omega (arith, ih (omega (arith, eqb-false f.region n e)))
 
 -- ---- what the end of the open function will take; it is counted with the row that opens the function
 abbrev owed : List Open → ℕ

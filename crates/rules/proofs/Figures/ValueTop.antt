@@ -2,7 +2,7 @@
 use mathlib.Core.Path.{◌≡◌, refl, sym, ap, ◌∙◌, subst}
 use mathlib.Core.Bool.{Bool, true, false}
 use mathlib.Core.List.{List, [], ◌∷◌}
-use Prim.Native.Nat.{ℕ, zero, suc, ◌+◌, max, ◌≤◌, ◌<◌}
+use Prim.Native.Nat.{ℕ, zero, suc, ◌+◌, ◌≤◌, ◌<◌}
 use native.Mathlib.Nat.{le_refl, not-suc-le-zero}
 use native.Mathlib.Decide.{le_ind}
 use native.Mathlib.Omega.{arith}
@@ -17,7 +17,8 @@ use Rattle.rules.specs.Check.{is_then, misplaced_in}
 use Rattle.rules.specs.Line.{Line, out_line, line_at}
 use Rattle.rules.specs.Harden.{line_count, line_of, row_lines, own_region, test_of, opener_value, leave_of, out_of, end_line, end_value, harden}
 use Rattle.rules.specs.Figures.{values_in, highest, highest_value}
-use Rattle.rules.proofs.Logic.{clash, not-false}
+use Rattle.std.proofs.lemmas.Bool.{not-false}
+use Rattle.rules.proofs.Logic.{clash}
 use Rattle.rules.proofs.Accepted.{Proper}
 use Rattle.rules.proofs.Scan.{Chain, chain, regions-mono, regions-next}
 use Rattle.rules.proofs.Value.{taken_mono, base-pos, value-next, Held, AllHeld, held}
@@ -42,18 +43,15 @@ below-three p q r = (p, below_two q r)
 below-four : {m a b c d : ℕ} → a < m → b < m → c < m → d < m → Below m (a ∷ b ∷ c ∷ d ∷ [])
 below-four p q r s = (p, below-three q r s)
 
-max-below : {m : ℕ} (a b : ℕ) → a < m → b < m → max a b < m
-max-below a b p q = omega arith
-
 highest-below : {m : ℕ} → 0 < m → (xs : List ℕ) → Below m xs → highest xs < m
 highest-below z [] b = z
-highest-below z (x ∷ xs) b = max-below x (highest xs) b.0 (highest-below z xs b.1)
+highest-below z (x ∷ xs) b = omega (arith, b.0, highest-below z xs b.1)
 
 lines-below : {m : ℕ} → 0 < m → (ls : List Line) → ((k : ℕ) → k < length ls → Below m (values_in (line_at ls k))) → highest_value ls < m
 unfolding highest_value
 lines-below z [] b = z
 lines-below z (l ∷ ls) b =
-    max-below (highest (values_in l)) (highest_value ls) (highest-below z (values_in l) (b 0 (omega arith))) (lines-below z ls (λ k h. b (suc k) (omega arith)))
+    omega (arith, highest-below z (values_in l) (b 0 (omega arith)), lines-below z ls (λ k h. b (suc k) (omega arith)))
 
 -- ---- a region's values and its base
 pub base-next : (t : Table) (g : ℕ) → base t (suc g) ≡ suc (value t g (length t))
@@ -163,9 +161,6 @@ end-value-below t ok n l =
 
 -- ---- each line
 module _ (t : Table) (ok : Proper t) where
-  too_many : {A : Type 0} (x c : ℕ) → c ≤ x → x < c → A
-  too_many x c a b = absurd (let z : ⊥ = omega arith in z)
-
   row_below : (n i : ℕ) (f : Open) (fs : List Open) → InFunction t n i f fs → (k : Kind) → kind_at t i ≡ k → (ph : ℕ) → ph < line_count k
       → Below (top t) (values_in (line_at (row_lines t i (f ∷ fs) k) ph))
   unfolding row_lines misplaced_in
@@ -173,26 +168,26 @@ module _ (t : Table) (ok : Proper t) where
   row_below n i f fs m Do e zero l = tt
   row_below n i f fs m Do e (suc zero) l =
       below_two (omega (arith, own_below t ok n i f fs m Do e)) (omega (arith, own_below t ok n i f fs m Do e))
-  row_below n i f fs m Do e (suc (suc x)) l = too_many (suc (suc x)) 2 (omega arith) l
+  row_below n i f fs m Do e (suc (suc x)) l = absurd (omega arith)
   row_below n i f fs m If e zero l = test_below t ok n i f fs m (has_else t i) If e refl refl (λ u. u)
-  row_below n i f fs m If e (suc x) l = too_many (suc x) 1 (omega arith) l
+  row_below n i f fs m If e (suc x) l = absurd (omega arith)
   row_below n i f [] m Else e zero l =
       clash (ap is_then (sym (formed-here t ok m).0) ∙ not-false _ (placed-in t ok i m.within e m.open_is)) refl
   row_below n i f (h ∷ hs) m Else e zero l = leave-below t ok n i f h hs m past (line_of t (suc (end_of t f.opener))) (le_refl _)
-  row_below n i f fs m Else e (suc x) l = too_many (suc x) 1 (omega arith) l
+  row_below n i f fs m Else e (suc x) l = absurd (omega arith)
   row_below n i f fs m Loop e zero l = test_below t ok n i f fs m false Loop e refl refl (λ u. clash u refl)
-  row_below n i f fs m Loop e (suc x) l = too_many (suc x) 1 (omega arith) l
+  row_below n i f fs m Loop e (suc x) l = absurd (omega arith)
   row_below n i f [] m End e zero l = ret-below t ok n i f m e
   row_below n i f (h ∷ hs) m End e zero l = end_below t ok n i f h hs m f.part (formed-here t ok m).0
-  row_below n i f fs m End e (suc x) l = too_many (suc x) 1 (omega arith) l
+  row_below n i f fs m End e (suc x) l = absurd (omega arith)
   row_below n i f fs m Break e zero l =
       out_below t ok n i f fs m (loop-around t ok i (omega (arith, m.within)) m.open_is (placed-in t ok i m.within e m.open_is)) past
       (line_of t (suc (end_of t (opener_of (from_loop (f ∷ fs)))))) (le_refl _)
-  row_below n i f fs m Break e (suc x) l = too_many (suc x) 1 (omega arith) l
+  row_below n i f fs m Break e (suc x) l = absurd (omega arith)
   row_below n i f fs m Continue e zero l =
       out_below t ok n i f fs m (loop-around t ok i (omega (arith, m.within)) m.open_is (placed-in t ok i m.within e m.open_is)) 0
       (line_of t (opener_of (from_loop (f ∷ fs)))) (omega arith)
-  row_below n i f fs m Continue e (suc x) l = too_many (suc x) 1 (omega arith) l
+  row_below n i f fs m Continue e (suc x) l = absurd (omega arith)
   row_below n i f fs m Call e zero l =
       let c = (operands_at t i).n in
       let a = function-at t ok c (callee_known t ok i m.within e) in
@@ -201,7 +196,7 @@ module _ (t : Table) (ok : Proper t) where
   row_below n i f fs m Call e (suc zero) l =
       below-three (omega (arith, own_below t ok n i f fs m Call e)) (omega (arith, own_below t ok n i f fs m Call e))
       (end-value-below t ok (operands_at t i).n (callee_known t ok i m.within e))
-  row_below n i f fs m Call e (suc (suc x)) l = too_many (suc (suc x)) 2 (omega arith) l
+  row_below n i f fs m Call e (suc (suc x)) l = absurd (omega arith)
   row_below n i f fs m Unknown e ph l = absurd (not-suc-le-zero l)
 
   line-below : (n k : ℕ) → LineOf t n k → Below (top t) (values_in (line_at (harden t) k))

@@ -118,15 +118,12 @@ module _ (t : Table) (ok : Proper t) {H : Type 0} {F : Form H} (S : Settles t F)
       let back_is : line_at (harden t) (suc (line_of t b.row)) ≡ back_of t b.row (cl.top ∷ cl.others) n
       = ap (line_at (harden t)) (let z : suc (line_of t b.row) ≡ line_of t b.row + 1 = omega arith in z) ∙ line-at t b.row 1 cl.in_function.within (omega (arith, ct))
       ∙ ap (λ s. line_at (row_lines t b.row s (kind_at t b.row)) 1) cl.in_function.open_is ∙ ap (λ x. line_at (row_lines t b.row (cl.top ∷ cl.others) x) 1) cl.calls ∙ ap (back_of t b.row (cl.top ∷ cl.others)) cl.callee in
-      one_later (fits_last (line_backs S (b ∷ bs)) e) (λ k. rw (eq-eqb p (last_place (harden t) n) e, ne_eqb (suc (suc (length (line_backs S bs)))) 1 (λ x. bad x))) h h
+      one_later (fits_last (line_backs S (b ∷ bs)) e) (λ k. rw (eq-eqb p (last_place (harden t) n) e, ne_eqb (suc (suc (length (line_backs S bs)))) 1 (λ x. omega arith))) h h
       (step-finish F t n at cn (line_backs S (b ∷ bs)) l vs tr (omega (arith, start-finish t ok n st.in_function.known)))
       (omega (arith, before_finish t ok cl.in_function, ct))
       (step-at S b.function (suc (line_of t b.row)) _ (omega (arith, before_finish t ok cl.in_function, ct)) back_is _ _ cn vs tr
       ∙ check-fails F (harden t) _ b.function (suc (line_of t b.row)) (waiting S b.row) (line_backs S bs) cn vs tr refl (R.not_back n k w f fs st cl.in_function cl.calls cl.callee _))
       (rw (done-last (line_backs S (b ∷ bs)) e) (record { vars_are = refl; trace_is = refl })) (rw (done-last (line_backs S (b ∷ bs)) e) (record { vars_are = refl; trace_is = refl }))
-    where
-      bad : suc (suc (length (line_backs S bs))) ≡ 1 → ⊥
-      bad x = omega arith
 
   -- ---- a place before a line
   module _ (rest : List (Frame H)) (low : p < last_place (harden t) n) (wide : Between (harden t) k at) where

@@ -86,7 +86,7 @@ step_by t ok {H = H} S b ih zero s k j x h r o = by (next t ok S zero s h r)
   where
     by : Next S zero s h → Finishes S (suc b) k zero j x s h
     by (moves q z) = both-step S b zero k j x s h ih z o
-    by (waits q h' d' eh r' de) = absurd (let z : ⊥ = omega arith in z)
+    by (waits q h' d' eh r' de) = absurd (omega arith)
 step_by t ok {H = H} S b ih (suc d) s k j x h r o = by (next t ok S (suc d) s h r) (λ h' r'. step_by t ok S b ih d s k (suc j) x h' r' o)
   where
     by : Next S (suc d) s h → ((h' : State H) → Related S d s h' → Finishes S (suc b) k d (suc j) x s h') → Finishes S (suc b) k (suc d) j x s h
@@ -104,10 +104,7 @@ step_by t ok {H = H} S b ih (suc d) s k j x h r o = by (next t ok S (suc d) s h 
 
 finishes-from : (t : Table) → Proper t → {H : Type 0} {F : Form H} (S : Settles t F) → (b : ℕ) → Goal S b
 unfolding run outcome_of_lem
-finishes-from t ok S zero s d k j x h r o = absurd (bad o)
-  where
-    bad : ◌≡◌ {A = ℕ} 0 1 → ⊥
-    bad y = omega arith
+finishes-from t ok S zero s d k j x h r o = absurd (omega arith)
 finishes-from t ok S (suc b) s d k j x h r o = step_by t ok S b (finishes-from t ok S b) d s k j x h r o
 
 -- ---- from the start

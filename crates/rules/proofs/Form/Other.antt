@@ -2,7 +2,7 @@
 -- Assumes nothing but the sweep's law, where it says so.
 use mathlib.Core.Logic.{◌≢◌}
 use mathlib.Core.Path.{◌≡◌, refl, sym, ap, ◌∙◌}
-use mathlib.Core.Bool.{Bool, true, false, cond, ◌||◌}
+use mathlib.Core.Bool.{Bool, true, false, cond, ◌||◌, or-false}
 use mathlib.Core.List.{List}
 use Prim.Native.Nat.{ℕ, zero, suc, ◌+◌, ◌*◌, ◌-◌, ◌≤◌, ◌<◌}
 use native.Mathlib.Omega.{arith}
@@ -37,20 +37,16 @@ unfolding any_to
 any_none zero f e = refl
 any_none (suc n) f e = rw (any_none n f (λ p l. e p (omega arith))) (e n (omega arith))
 
-or-false : (x : Bool) → x || false ≡ x
-or-false true = refl
-or-false false = refl
-
 -- none but that of q
 any-only : (n q : ℕ) (f : ℕ → Bool) → q < n → ((p : ℕ) → p < n → p ≢ q → f p ≡ false) → any_to n f ≡ f q
 unfolding any_to
-any-only zero q f l e = absurd (let z : ⊥ = omega arith in z)
+any-only zero q f l e = absurd (omega arith)
 any-only (suc n) q f l e = by (order q n) (λ l'. any-only n q f l' (λ p pl. e p (omega arith)))
   where
     by : Order q n → (q < n → any_to n f ≡ f q) → any_to n f || f n ≡ f q
     by (less h) ih = rw (ih h, e n (omega arith) (λ x. omega arith)) (or-false (f q))
     by (same h) ih = rw (any_none n f (λ p pl. e p (omega arith) (λ x. omega arith))) (ap f (sym h))
-    by (more h) ih = absurd (let z : ⊥ = omega arith in z)
+    by (more h) ih = absurd (omega arith)
 
 one-other : (c : Ending) → ltb 0 (one c).other ≡ is_other_lem c
 one-other Alarmed = refl

@@ -62,7 +62,7 @@ module _ {H : Type 0} (F : Form H) (ls : List Line) (t : Table) (vars : List ℕ
   as_slipped e n h g = by ((demand e).told n)
     where
       by : Told F ls t vars b k p → AsSlipped F ls t vars b k p got
-      by (beyond_m l q) = absurd (let z : ⊥ = omega arith in z)
+      by (beyond_m l q) = absurd (omega arith)
       by (wide l w q) = clash w g
       by (small l w q) = record { as_run = as_run e (slipped_at F ls t vars b k p) q.as_slipped q.no_alarm; at_matching = q.at_matching; in_steps = ap (λ x. x.steps) (seen-is (accepted e)) ∙ q.in_steps; that_do = q.that_do }
 

@@ -167,10 +167,7 @@ pub line_step : (t : Table) → Proper t → {H : Type 0} {F : Form H} (S : Sett
     → step_of F (harden t) (hard n k c rest l vs tr) ≡ line_step_of F (harden t) k ℓ (hard n k c rest l vs tr)
 unfolding step_of
 line_step t ok S {n} {i} {f} {fs} m k ph ℓ e h q c rest l vs tr =
-    rw (ne_eqb k (finish_of (harden t) n) (λ x. bad x), ap (line_at (harden t)) e ∙ line-at t i ph m.within h ∙ ap (λ s. line_at (row_lines t i s (kind_at t i)) ph) m.open_is ∙ q)
-  where
-    bad : k ≡ finish_of (harden t) n → ⊥
-    bad x = omega (arith, before_finish t ok m)
+    rw (ne_eqb k (finish_of (harden t) n) (λ x. omega (arith, before_finish t ok m)), ap (line_at (harden t)) e ∙ line-at t i ph m.within h ∙ ap (λ s. line_at (row_lines t i s (kind_at t i)) ph) m.open_is ∙ q)
 
 -- both runs before row j
 pub ready_at : {H : Type 0} {t : Table} {F : Form H} (S : Settles t F) {n j k w : ℕ} {g : Open} {gs : List Open} → InFunction t n j g gs → (rest : List Back) → Linked t n rest → k ≡ line_of t j → w ≡ value t g.region j

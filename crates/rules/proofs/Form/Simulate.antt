@@ -83,11 +83,8 @@ quiet_at : (t : Table) → Proper t → {H : Type 0} {F : Form H} (S : Settles t
     → (c : H) (rest : List (Frame H)) (l : H) (vs tr : List ℕ) → quiet_at_lem (harden t) (hard n k c rest l vs tr) ≡ is_quiet (line_at (row_lines t i (f ∷ fs) (kind_at t i)) ph)
 unfolding quiet_at_lem
 quiet_at t ok S {n} {i} {f} {fs} m k ph e h c rest l vs tr =
-    rw (ne_eqb k (finish_of (harden t) n) (λ x. bad x))
+    rw (ne_eqb k (finish_of (harden t) n) (λ x. omega (arith, before_finish t ok m)))
     (ap (λ x. is_quiet (line_at (harden t) x)) e ∙ ap is_quiet (line-at t i ph m.within h ∙ ap (λ s. line_at (row_lines t i s (kind_at t i)) ph) m.open_is))
-  where
-    bad : k ≡ finish_of (harden t) n → ⊥
-    bad x = omega (arith, before_finish t ok m)
 
 -- ---- the step from related states
 abbrev pub extra_at : Table → Source → ℕ

@@ -20,7 +20,8 @@ use Rattle.rules.specs.Run.{Turn, on, ends, untaken, Answer, after, run, outcome
 use Rattle.rules.specs.Form.{Form, strike_by_lem, place_line, struck, step_of, striking_step_of, start_by, run_of}
 use Rattle.rules.specs.Match.{guard_between}
 use Rattle.rules.specs.Demands.{before, strikes, Struck, struck_shown, alarm_step, done_at, overflows_at, caught_from, Jumped}
-use Rattle.rules.proofs.Logic.{clash, and_left, and_right, not-true}
+use Rattle.std.proofs.lemmas.Bool.{not-true}
+use Rattle.rules.proofs.Logic.{clash, and_left, and_right}
 
 -- ---- a strike that names step j: every other step is as without it
 abbrev pub Named : {H : Type 0} → Form H → List Line → Strike → ℕ → Type 0

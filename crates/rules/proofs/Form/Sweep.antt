@@ -23,7 +23,7 @@ use Rattle.rules.specs.Demands.{before, strikes, alarm_step, done_at, overflows_
 use Rattle.rules.specs.RunPromise.{state_at}
 use Rattle.rules.specs.Sweep.{ending_of, one, total, sum_to, unstruck_run, places_at, struck_ending, sweep_step, sweep_of}
 use Rattle.rules.specs.Settled.{across, going_on_lem, narrow_ending, wide_ending, settled_ending, StandsBefore, SweepLaw}
-use Rattle.rules.proofs.Logic.{and_both}
+use Rattle.std.proofs.lemmas.Bool.{and_from}
 use Rattle.rules.proofs.Encode.{same_refl}
 use Rattle.rules.proofs.SweepSums.{sum_same, sum_ones, total-sum, one-total}
 use Rattle.rules.proofs.Accepted.{Proper}
@@ -75,11 +75,11 @@ module _ {H : Type 0} (F : Form H) (ls : List Line) (vs : List ℕ) (b : ℕ) wh
         by false e =
             let q : b ≡ k + (b - k) = omega (arith, in-budget) in
             let r : unstruck_run F ls vs b ≡ before F ls vs k = ap (λ y. unstruck_run F ls vs y) q ∙ run-over (striking_step_of F ls None) k (b - k) 0 (start_by F vs) (eqb-false _ _ e) in
-            absurd (let z : ⊥ = omega (arith, l, ap (λ y. y.steps) r, run-bound (striking_step_of F ls None) k 0 (start_by F vs)) in z)
+            absurd (omega (arith, l, ap (λ y. y.steps) r, run-bound (striking_step_of F ls None) k 0 (start_by F vs)))
 
     pub hits : b ≤ no_step → strikes F ls vs b k ≡ true
     unfolding in-budget
-    hits bl = and_both (and_both (ap not (ne_eqb k no_step (omega (arith, in-budget)))) (lt-ltb k b in-budget)) (eq-eqb _ _ reached)
+    hits bl = and_from _ _ (and_from _ _ (ap not (ne_eqb k no_step (omega (arith, in-budget)))) (lt-ltb k b in-budget)) (eq-eqb _ _ reached)
 
 -- the endings that need no run
 ending-caught : {H : Type 0} (tr : List ℕ) (a : Answer H) (o : ℕ) → outcome_of_lem a.step ≡ o → o ≢ 1 → ending_of tr a ≡ cond (eqb o 2) Alarmed Unfinished

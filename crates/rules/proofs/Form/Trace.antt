@@ -2,7 +2,7 @@
 use mathlib.Core.Logic.{◌≢◌}
 use mathlib.Core.Path.{◌≡◌, refl, sym, ap, ◌∙◌, subst}
 use mathlib.Core.Bool.{Bool, true, false, cond, not, ◌||◌}
-use mathlib.Core.List.{List, [], ◌∷◌, ◌++◌, append_assoc}
+use mathlib.Core.List.{List, [], ◌∷◌, ◌++◌, append_assoc, append-nil}
 use Prim.Native.Nat.{ℕ, zero, suc, ◌+◌}
 use native.Mathlib.Nat.{add-zero, zero-add, suc-add}
 use native.Mathlib.Omega.{arith}
@@ -20,7 +20,7 @@ use Rattle.rules.specs.State.{Frame, State, go_to, did, opening, retraced, depth
 use Rattle.rules.specs.Run.{Turn, on, ends, untaken, next, doing, Answer, after, run, outcome_of_lem}
 use Rattle.rules.specs.Form.{Guard, Form, moved, must, leaves_of, turn_by, step_of, striking_step_of}
 use Rattle.rules.specs.Sweep.{ending_of}
-use Rattle.rules.proofs.Logic.{append-nil, cond_either}
+use Rattle.rules.proofs.Logic.{cond_either}
 
 -- the state with this before its trace
 abbrev pub ahead : {H : Type 0} → List ℕ → State H → State H

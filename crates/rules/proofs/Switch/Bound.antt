@@ -20,9 +20,11 @@ use Rattle.rules.specs.Check.{misplaced_in, all_constructs, one_too_many, rows_v
 use Rattle.rules.specs.Switch.{GivenRow, as_is, switch_row, case_row, default_row, GivenTable, given_as, given_from, given_of, given_at, Switch, Thing, construct, switch, things_by, things_after, things_at, if_row, bare_row, else_after, chain_rows, chain_to, chain_of, chain_bytes}
 use Rattle.rules.specs.Given.{strays, given_rows_verdict, given_verdict}
 use Rattle.rules.specs.Chained.{cases_in, ThreeEach, FewCases, FewChained}
-use Rattle.rules.proofs.Logic.{clash, or_left}
+use Rattle.std.proofs.lemmas.Bool.{or_parts}
+use Rattle.rules.specs.Bounds.{Word}
+use Rattle.rules.proofs.Logic.{clash}
 use Rattle.rules.proofs.Accepted.{proper-row, then-left, then-right, Proper, proper}
-use Rattle.rules.proofs.Reading.{IsWord, small, table-are-bytes}
+use Rattle.rules.proofs.Reading.{small, table-are-bytes}
 use Rattle.rules.proofs.Switch.Chain.{sound-row, chain-grows, rows-accepted, depth, open-depth, sound, chain-table, chain-accepted}
 
 -- ---- at most 3 rows of the chain for each row as given
@@ -80,10 +82,10 @@ unfolding misplaced_in one_too_many
 few-next Function i g [] p q h = omega arith
 few-next Function i g (f ∷ fs) p q h = clash refl p
 few-next Do i g fs p q h = h
-few-next If i g fs p q h = omega (arith, leb-false max_constructs (length fs - 1) (or_left (all_constructs fs) _ q))
+few-next If i g fs p q h = omega (arith, leb-false max_constructs (length fs - 1) (or_parts (all_constructs fs) _ q).0)
 few-next Else i g [] p q h = h
 few-next Else i g (f ∷ fs) p q h = h
-few-next Loop i g fs p q h = omega (arith, leb-false max_constructs (length fs - 1) (or_left (all_constructs fs) _ q))
+few-next Loop i g fs p q h = omega (arith, leb-false max_constructs (length fs - 1) (or_parts (all_constructs fs) _ q).0)
 few-next End i g [] p q h = h
 few-next End i g (f ∷ fs) p q h = omega arith
 few-next Break i g fs p q h = h
@@ -155,9 +157,9 @@ few_chained rows e = (sound rows e).few_chained
 -- ---- the numbers of the chain's rows are words
 abbrev Words : Table → Type 0
 Words [] = Unit {0}
-Words (r ∷ rs) = IsWord r.operands.n × Words rs
+Words (r ∷ rs) = Word r.operands.n × Words rs
 
-words-at : (t : Table) → Words t → (i : ℕ) → IsWord (operands_at t i).n
+words-at : (t : Table) → Words t → (i : ℕ) → Word (operands_at t i).n
 words-at [] h i = omega arith
 words-at (r ∷ t) h zero = h.0
 words-at (r ∷ t) h (suc i) = words-at t h.1 i
@@ -175,9 +177,9 @@ words-else [] = tt
 words-else (n ∷ ns) = (omega arith, tt)
 
 abbrev GivenWord : GivenRow → Type 0
-GivenWord (as_is r) = IsWord r.operands.n
+GivenWord (as_is r) = Word r.operands.n
 GivenWord (switch_row o) = Unit {0}
-GivenWord (case_row o) = IsWord o.n
+GivenWord (case_row o) = Word o.n
 GivenWord (default_row o) = Unit {0}
 
 words-rows : (r : GivenRow) (ts : List Thing) → GivenWord r → Words (chain_rows r ts)
@@ -196,7 +198,7 @@ words-rows (default_row o) [] h = tt
 words-rows (default_row o) (construct ∷ ts) h = tt
 words-rows (default_row o) (switch s ∷ ts) h = words-else s.used
 
-given_word : (b : ℕ) (r : Row) → IsWord r.operands.n → GivenWord (given_as b r)
+given_word : (b : ℕ) (r : Row) → Word r.operands.n → GivenWord (given_as b r)
 unfolding given_as
 given_word b r h = by (eqb b 0x0a) (eqb b 0x0b) (eqb b 0x0c)
   where

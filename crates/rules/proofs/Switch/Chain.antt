@@ -223,7 +223,7 @@ none_open (t ∷ ts) e = clash refl e
 
 nothing_left : (fs : List Open) → length fs ≡ 0 → is_outside fs ≡ true
 nothing_left [] e = refl
-nothing_left (f ∷ fs) e = absurd (let z : ⊥ = omega arith in z)
+nothing_left (f ∷ fs) e = absurd (omega arith)
 
 pub chain-closed : (g : GivenTable) → is_any (things_at g (length g)) ≡ false → left_open_lem (chain_of g) ≡ false
 chain-closed g e =
@@ -256,7 +256,7 @@ given-length bs = given-from bs 0 (length bs / row_width)
 -- a row as the bytes have it
 from_at : (bs : List ℕ) (i n j : ℕ) → j < n → given_at (given_from bs i n) j ≡ given_as (get_or bs (row_width * (i + j)) 0) (row_in bs (row_width * (i + j)))
 unfolding given_from
-from_at bs i zero j l = absurd (let z : ⊥ = omega arith in z)
+from_at bs i zero j l = absurd (omega arith)
 from_at bs i (suc n) zero l = ap (λ k. given_as (get_or bs (row_width * k) 0) (row_in bs (row_width * k))) (sym (add-zero i))
 from_at bs i (suc n) (suc j) l =
     let q : suc i + j ≡ i + suc j = omega arith in

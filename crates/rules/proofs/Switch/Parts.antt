@@ -295,8 +295,8 @@ module _ (c : Table) where
 
 outside-any : (fs : List Open) (ts : List Thing) → Rooted ts → length fs ≡ depth ts → is_outside fs ≡ not (is_any ts)
 outside-any [] [] r e = refl
-outside-any [] (t ∷ ts) r e = absurd (let z : ⊥ = omega (arith, under-root t ts r) in z)
-outside-any (f ∷ fs) [] r e = absurd (let z : ⊥ = omega arith in z)
+outside-any [] (t ∷ ts) r e = absurd (omega (arith, under-root t ts r))
+outside-any (f ∷ fs) [] r e = absurd (omega arith)
 outside-any (f ∷ fs) (t ∷ ts) r e = refl
 
 pub only-six : OnlySix
@@ -314,7 +314,7 @@ ends-fit n k h = ap (λ r. fields_fit_lem r.kind r.operands) (get_or-replicate n
 
 one-fits : (r : Row) (k : ℕ) → fields_fit_lem r.kind r.operands ≡ true → k < 1 → fields_fit_lem (kind_at (r ∷ []) k) (operands_at (r ∷ []) k) ≡ true
 one-fits r zero e h = e
-one-fits r (suc k) e h = absurd (let z : ⊥ = omega arith in z)
+one-fits r (suc k) e h = absurd (omega arith)
 
 closing-fit : (b : Bool) (r : Row) (n k : ℕ) → fields_fit_lem r.kind r.operands ≡ true → k < length (cond b (replicate n (bare_row End)) (r ∷ []))
     → fields_fit_lem (kind_at (cond b (replicate n (bare_row End)) (r ∷ [])) k) (operands_at (cond b (replicate n (bare_row End)) (r ∷ [])) k) ≡ true
@@ -330,7 +330,7 @@ case-fit (m ∷ ms) p n (suc k) h l = one-fits (if_row p n) k (if-fits p n h) (o
 
 else-fit : (used : List ℕ) (k : ℕ) → k < length (else_after used) → fields_fit_lem (kind_at (else_after used) k) (operands_at (else_after used) k) ≡ true
 unfolding fields_fit_lem
-else-fit [] k l = absurd (let z : ⊥ = omega arith in z)
+else-fit [] k l = absurd (omega arith)
 else-fit (m ∷ ms) k l = one-fits (bare_row Else) k refl l
 
 rows_fit : (r : GivenRow) (ts : List Thing) (k : ℕ) → given_fits r ≡ true → Variables ts → k < length (chain_rows r ts)
@@ -339,12 +339,12 @@ unfolding given_fits
 rows_fit (as_is r) [] k e v l = one-fits r k e l
 rows_fit (as_is r) (construct ∷ ts) k e v l = one-fits r k e l
 rows_fit (as_is r) (switch s ∷ ts) k e v l = closing-fit (is_end_lem r.kind) r (length s.used) k e l
-rows_fit (switch_row o) ts k e v l = absurd (let z : ⊥ = omega arith in z)
-rows_fit (case_row o) [] k e v l = absurd (let z : ⊥ = omega arith in z)
-rows_fit (case_row o) (construct ∷ ts) k e v l = absurd (let z : ⊥ = omega arith in z)
+rows_fit (switch_row o) ts k e v l = absurd (omega arith)
+rows_fit (case_row o) [] k e v l = absurd (omega arith)
+rows_fit (case_row o) (construct ∷ ts) k e v l = absurd (omega arith)
 rows_fit (case_row o) (switch s ∷ ts) k e v l = case-fit s.used s.p o.n k v.0 l
-rows_fit (default_row o) [] k e v l = absurd (let z : ⊥ = omega arith in z)
-rows_fit (default_row o) (construct ∷ ts) k e v l = absurd (let z : ⊥ = omega arith in z)
+rows_fit (default_row o) [] k e v l = absurd (omega arith)
+rows_fit (default_row o) (construct ∷ ts) k e v l = absurd (omega arith)
 rows_fit (default_row o) (switch s ∷ ts) k e v l = else-fit s.used k l
 
 pub chain_fits : (g : GivenTable) (c : Table) (i k : ℕ) → given_rows_verdict g c i ≡ Accepted → given_fits (given_at g i) ≡ true

@@ -4,7 +4,7 @@ use mathlib.Core.Path.{◌≡◌, refl, sym, ap, ◌∙◌, subst}
 use mathlib.Core.Bool.{Bool, true, false, not}
 use mathlib.Core.List.{List, [], ◌∷◌, ◌++◌}
 use Prim.Native.Nat.{ℕ, zero, suc, ◌+◌, ◌*◌, ◌/◌, ◌≤◌, ◌<◌}
-use native.Mathlib.Nat.{le_refl, add-zero}
+use native.Mathlib.Nat.{le_refl}
 use native.Mathlib.Omega.{arith}
 use lib.Dec.{ltb}
 use lib.ListN.{length, get_or, take}
@@ -21,6 +21,7 @@ use Rattle.rules.specs.Check.{no_whole_rows, too_many_rows, wrong_field, is_outs
 use Rattle.rules.specs.Switch.{as_is, GivenTable, given_as, given_from, given_of, given_at, Thing, construct, switch, things_by, things_after, things_at, chain_rows, chain_to, chain_of, chain_bytes}
 use Rattle.rules.specs.Given.{given_fits, strays, is_any, repeats, span_verdict, given_row_verdict, given_rows_verdict, given_table_verdict, given_verdict}
 use Rattle.rules.specs.Chained.{NoSwitch, PlainChain, PlainVerdict, PlainAccepted}
+use Rattle.rules.proofs.FieldBound.{row-at}
 use Rattle.rules.proofs.Accepted.{proper, proper-bytes, table-length}
 use Rattle.rules.proofs.Encode.{bytes_of}
 use Rattle.rules.proofs.Function.{not-unknown}
@@ -132,8 +133,8 @@ plain-rows-verdict t (suc n) h =
 -- ---- and at the end
 any_open : (ts : List Thing) (fs : List Open) → length fs ≡ length ts → is_any ts ≡ not (is_outside fs)
 any_open [] [] e = refl
-any_open [] (f ∷ fs) e = absurd (let z : ⊥ = omega arith in z)
-any_open (t ∷ ts) [] e = absurd (let z : ⊥ = omega arith in z)
+any_open [] (f ∷ fs) e = absurd (omega arith)
+any_open (t ∷ ts) [] e = absurd (omega arith)
 any_open (t ∷ ts) (f ∷ fs) e = refl
 
 plain-left : (t : Table) → is_any (things_at (plain t) (length (plain t))) ≡ left_open_lem t
@@ -196,21 +197,12 @@ pub plain-chain-rows : PlainChain
 plain-chain-rows bs s = ap chain_of (given-plain bs s) ∙ plain-chain (table_of bs)
 
 -- ---- what 01 accepts has no switch
-row_from : (bs : List ℕ) (i n j : ℕ) → j < n → row_at (rows_from bs i n) j ≡ row_in bs (row_width * (i + j))
-unfolding rows_from
-row_from bs i zero j h = absurd (let z : ⊥ = omega arith in z)
-row_from bs i (suc n) zero h = ap (λ k. row_in bs (row_width * k)) (sym (add-zero i))
-row_from bs i (suc n) (suc j) h =
-    let q : suc i + j ≡ i + suc j = omega arith in
-    row_from bs (suc i) n j (omega arith) ∙ ap (λ k. row_in bs (row_width * k)) q
-
 module _ (bs : List ℕ) (v : verdict_of bs ≡ Accepted) where
   known : (i b : ℕ) → i < length bs / row_width → kind_of b ≡ Unknown → get_or bs (row_width * i) 0 ≢ b
   unfolding table_of row_in
   known i b l u e =
-      let q : 0 + i ≡ i = omega arith in
-      not-unknown (table_of bs) (proper bs v) i (omega (arith, table-length bs))
-      (ap (λ r. r.kind) (row_from bs 0 (length bs / row_width) i l) ∙ ap (λ k. kind_of (get_or bs (row_width * k) 0)) q ∙ ap kind_of e ∙ u)
+      let h : i < length (table_of bs) = omega (arith, table-length bs) in
+      not-unknown (table_of bs) (proper bs v) i h (ap (λ r. r.kind) (row-at bs i h) ∙ ap kind_of e ∙ u)
 
   pub accepted-plain : NoSwitch bs
   unfolding kind_of

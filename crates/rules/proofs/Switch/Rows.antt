@@ -256,11 +256,11 @@ module _ (g : GivenTable) where
     where
       by : (r : ℕ) → Found beyond (length g) 0 r → r < length g → calls_verdict (chain_of g) (length (chain_of g)) ≡ Refused NoSuchFunction
       by r (hit h a u f) l = calls-some r (length g) l (omega arith) (λ m k. f m (omega arith) k) h
-      by r (miss q f) l = absurd (let z : ⊥ = omega arith in z)
+      by r (miss q f) l = absurd (omega arith)
 
   pub calls-all : length g ≤ calling_row g (function_count (chain_of g)) → calls_verdict (chain_of g) (length (chain_of g)) ≡ Accepted
   calls-all l = by (calling_row g (function_count (chain_of g))) (found beyond (length g) 0) l
     where
       by : (r : ℕ) → Found beyond (length g) 0 r → length g ≤ r → calls_verdict (chain_of g) (length (chain_of g)) ≡ Accepted
-      by r (hit h a u f) l = absurd (let z : ⊥ = omega arith in z)
+      by r (hit h a u f) l = absurd (omega arith)
       by r (miss q f) l = calls-none (length g) (omega arith) (λ m k. f m (omega arith) (omega arith))

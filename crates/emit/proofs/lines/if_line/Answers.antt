@@ -8,8 +8,8 @@ returns-then-x-eq0 c = search (ifs, rules)
 pub returns : goal.returns
 returns c = search (ifs, rules)
 
-pub plain_test-requires-clause-ends : goal.plain_test-requires-clause-ends
-plain_test-requires-clause-ends c = search (ifs, rules)
+pub plain_test-requires : goal.plain_test-requires
+plain_test-requires c = search (ifs, rules)
 
-pub else_test-requires-clause-inside : goal.else_test-requires-clause-inside
-else_test-requires-clause-inside c = search (ifs, rules)
+pub else_test-requires : goal.else_test-requires
+else_test-requires c = search (ifs, rules)

@@ -5,5 +5,5 @@ use Rattle.emit.proofs.lines.loop_line.Goals as goal
 pub returns : goal.returns
 returns c = search (loops, rules)
 
-pub plain_test-requires-clause-ends : goal.plain_test-requires-clause-ends
-plain_test-requires-clause-ends c = search (loops, rules)
+pub plain_test-requires : goal.plain_test-requires
+plain_test-requires c = search (loops, rules)

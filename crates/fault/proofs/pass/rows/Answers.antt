@@ -1,3 +1,6 @@
+use Rattle.std.proofs.Common.{◌≡◌, ◌∙◌, ap, ◌/◌, length}
+use Rattle.fault.specs.Found.{end_of}
+use native.Mathlib.Omega.{arith}
 use Rattle.fault.proofs.Ends.{pass-start, pass-stopped, pass_end}
 use mathlib.Core.Path.{refl}
 use Rattle.fault.proofs.pass.rows.Goals as goal
@@ -5,8 +8,10 @@ use Rattle.fault.proofs.pass.rows.Goals as goal
 pub loop-at-init : goal.loop-at-init
 loop-at-init c = pass-start c.requires refl refl refl refl c.start-s.ensures c.no_things-t.ensures
 
-pub returns-in-Faulty : goal.returns-in-Faulty
-returns-in-Faulty c = pass-stopped c.loop-at.invariant c.loop-at-test.true c.row.ensures c.in-Faulty.is
+pub returns-in-Err : goal.returns-in-Err
+returns-in-Err c = pass-stopped c.loop-at.invariant (omega arith) c.row.ensures c.in-Err.is
 
 pub returns : goal.returns
-returns c = pass_end c.loop-at.invariant c.loop-at-test.false c.end.ensures
+returns c =
+    let e : length c.args.rows.now / 6 ≡ c.loop-at.at = omega arith in
+    pass_end c.loop-at.invariant (omega arith) (c.end.ensures ∙ ap (end_of c.loop-at.s c.loop-at.t) e)

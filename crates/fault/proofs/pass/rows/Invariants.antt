@@ -1,10 +1,5 @@
 use Rattle.fault.proofs.Ends.{PassTo}
-use Prim.Native.Nat.{◌*◌, ◌-◌}
-use lib.ListN.{length}
 use Rattle.fault.proofs.pass.rows.Given as goal
 
 abbrev pub invariant-loop-at : goal.invariant-loop-at
 invariant-loop-at l = PassTo l.rows l.initial.chain l.at l.s l.parts l.t l.marks l.vars l.used l.chain
-
-abbrev pub decreases-loop-at : goal.decreases-loop-at
-decreases-loop-at l = length l.rows - 6 * l.at

@@ -7,5 +7,5 @@ use Rattle.finuraho.proofs.switched.run_source.Goals as goal
 pub returns-in-Err : goal.returns-in-Err
 returns-in-Err c = ap (λ x. runs x c.args.trace.now) c.refused.ensures ∙ sym (run-source-refused _ _ _ _ _ (linked-refused c.link.ensures c.in-Err.is))
 
-pub returns-in-Bytes : goal.returns-in-Bytes
-returns-in-Bytes c = c.source_run.ensures ∙ sym (run-source-stands _ _ _ _ _ (linked-chain c.link.ensures c.in-Bytes.is).stands)
+pub returns-in-Ok : goal.returns-in-Ok
+returns-in-Ok c = c.source_run.ensures ∙ sym (run-source-stands _ _ _ _ _ (linked-chain c.link.ensures c.in-Ok.is).stands)

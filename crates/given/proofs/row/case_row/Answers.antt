@@ -1,3 +1,4 @@
+use Rattle.std.proofs.lemmas.Result.{err_from_is_err_and}
 use Rattle.std.proofs.Common.{ap, not}
 use Rattle.given.proofs.Rows.{top-few, row-refused, row_sound}
 use Rattle.given.proofs.Cases.{case-named, case-wrong}
@@ -10,8 +11,8 @@ returns-then-not-fits c = case-wrong c.requires.here c.requires.at_value c.fits.
 pub case_cause-requires : goal.case_cause-requires
 case_cause-requires c = (omega arith, top-few c.requires.reached c.innermost-top.ensures)
 
-pub returns-in-Err : goal.returns-in-Err
-returns-in-Err c = row-refused c.requires.reached c.requires.here (case-named c.requires.here c.requires.at_value c.fits.ensures (ap not c.if-not-fits.false)) c.innermost-top.ensures c.word-number.ensures c.case_cause.ensures c.in-Err.is
+pub returns-in_err-case_cause : goal.returns-in_err-case_cause
+returns-in_err-case_cause c = let p = err_from_is_err_and c.from_residual.result c.from_residual.ensures.1 in rw (p.1, p.2) (row-refused c.requires.reached c.requires.here (case-named c.requires.here c.requires.at_value c.fits.ensures (ap not c.if-not-fits.false)) c.innermost-top.ensures c.word-number.ensures c.case_cause.ensures c.in_err-case_cause.was)
 
 pub take_case-requires-clause-sound : goal.take_case-requires-clause-sound
-take_case-requires-clause-sound c = row_sound c.requires.reached c.requires.here (case-named c.requires.here c.requires.at_value c.fits.ensures (ap not c.if-not-fits.false)) c.innermost-top.ensures c.word-number.ensures c.case_cause.ensures c.in-Ok.is
+take_case-requires-clause-sound c = row_sound c.requires.reached c.requires.here (case-named c.requires.here c.requires.at_value c.fits.ensures (ap not c.if-not-fits.false)) c.innermost-top.ensures c.word-number.ensures c.case_cause.ensures c.in_ok-case_cause.was

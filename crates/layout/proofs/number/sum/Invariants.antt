@@ -1,9 +1,6 @@
-use Prim.Native.Nat.{◌-◌}
+use lib.ListN.{length}
 use Rattle.layout.proofs.Numbers.{Summing}
 use Rattle.layout.proofs.number.sum.Given as goal
 
-abbrev pub invariant-loop-g : goal.invariant-loop-g
-invariant-loop-g l = Summing l.initial.words l.count l.words l.total l.g
-
-abbrev pub decreases-loop-g : goal.decreases-loop-g
-decreases-loop-g l = l.count - l.g
+abbrev pub invariant-loop-word : goal.invariant-loop-word
+invariant-loop-word l = Summing l.initial.word-items (length l.initial.word-items) l.word-items l.total l.word-index

@@ -1,4 +1,5 @@
 use native.Mathlib.Omega.{arith}
+use lib.ListN.{length-set}
 use Rattle.layout.proofs.Numbers.{spendings}
 use Rattle.layout.proofs.Survey.{surveys}
 use borrow.Author.Rules.{rules}
@@ -17,7 +18,7 @@ pub after-here-requires-clause-stands : goal.after-here-requires-clause-stands
 after-here-requires-clause-stands c = (search (surveys, rules), omega arith)
 
 pub after-here-requires-clause-mapped : goal.after-here-requires-clause-mapped
-after-here-requires-clause-mapped c = (search (surveys, rules), omega arith)
+after-here-requires-clause-mapped c = (search (surveys, rules), omega (arith, length-set c.loop-i.map c.loop-i.i c.loop-i.here))
 
 pub returns-clause-surveyed : goal.returns-clause-surveyed
 returns-clause-surveyed c = search (surveys, rules)

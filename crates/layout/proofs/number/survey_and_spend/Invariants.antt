@@ -1,10 +1,6 @@
-use Prim.Native.Nat.{◌-◌}
 use Rattle.layout.proofs.Numbers.{Spending}
 use Rattle.layout.proofs.Survey.{Surveying}
 use Rattle.layout.proofs.number.survey_and_spend.Given as goal
 
 abbrev pub invariant-loop-i : goal.invariant-loop-i
 invariant-loop-i l = (Surveying l.rows l.initial.map l.map l.i l.here) × (Spending l.rows l.initial.spent l.spent l.initial.took l.took l.i)
-
-abbrev pub decreases-loop-i : goal.decreases-loop-i
-decreases-loop-i l = l.n - l.i

@@ -1,36 +1,15 @@
-use Rattle.layout.proofs.Takes.{takings}
-use borrow.Author.Rules.{rules}
+use native.Mathlib.Omega.{arith}
+use Rattle.layout.proofs.Takes.{takes-none, takes-one, takes-two, takes-at-end}
 use Rattle.layout.proofs.number.take.Goals as goal
 
-pub returns-then-here : goal.returns-then-here
-returns-then-here c = search (takings, rules)
-
-pub returns-in-Function : goal.returns-in-Function
-returns-in-Function c = search (takings, rules)
-
 pub returns-in-Do : goal.returns-in-Do
-returns-in-Do c = search (takings, rules)
+returns-in-Do c = (takes-one c.requires.0 c.requires.1 c.kind.ensures c.in-Do.is, omega arith)
 
 pub returns-in-If : goal.returns-in-If
-returns-in-If c = search (takings, rules)
+returns-in-If c = (takes-two c.requires.0 c.requires.1 c.kind.ensures c.in-If.is, omega arith)
 
-pub returns-in-Else : goal.returns-in-Else
-returns-in-Else c = search (takings, rules)
+pub returns-in-End : goal.returns-in-End
+returns-in-End c = takes-at-end c.requires.0 c.requires.1 c.kind.ensures c.in-End.is c.from.ensures
 
-pub returns-in-Loop : goal.returns-in-Loop
-returns-in-Loop c = search (takings, rules)
-
-pub returns-else-here : goal.returns-else-here
-returns-else-here c = search (takings, rules)
-
-pub returns-in-Break : goal.returns-in-Break
-returns-in-Break c = search (takings, rules)
-
-pub returns-in-Continue : goal.returns-in-Continue
-returns-in-Continue c = search (takings, rules)
-
-pub returns-in-Call : goal.returns-in-Call
-returns-in-Call c = search (takings, rules)
-
-pub returns-in-Unknown : goal.returns-in-Unknown
-returns-in-Unknown c = search (takings, rules)
+pub returns-in-Function : goal.returns-in-Function
+returns-in-Function c = (takes-none c.requires.0 c.requires.1 c.kind.ensures c.in-Function.is, omega arith)

@@ -23,11 +23,5 @@ returns-in-End c = search (nexts, rules)
 pub returns-in-Break : goal.returns-in-Break
 returns-in-Break c = search (nexts, rules)
 
-pub returns-in-Continue : goal.returns-in-Continue
-returns-in-Continue c = search (nexts, rules)
-
-pub returns-in-Call : goal.returns-in-Call
-returns-in-Call c = search (nexts, rules)
-
 pub returns-in-Unknown : goal.returns-in-Unknown
 returns-in-Unknown c = search (nexts, rules)

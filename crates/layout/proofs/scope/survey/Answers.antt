@@ -1,4 +1,5 @@
 use native.Mathlib.Omega.{arith}
+use lib.ListN.{length-set}
 use Rattle.layout.proofs.Survey.{surveys}
 use borrow.Author.Rules.{rules}
 use Rattle.layout.proofs.scope.survey.Goals as goal
@@ -16,4 +17,4 @@ pub after-here-requires-clause-stands : goal.after-here-requires-clause-stands
 after-here-requires-clause-stands c = (search (surveys, rules), omega arith)
 
 pub after-here-requires-clause-mapped : goal.after-here-requires-clause-mapped
-after-here-requires-clause-mapped c = (search (surveys, rules), omega arith)
+after-here-requires-clause-mapped c = (search (surveys, rules), omega (arith, length-set c.loop-i.map c.loop-i.i c.loop-i.here))

@@ -1,7 +1,7 @@
 use Rattle.picture.proofs.Lies.{lies, own-few, own_in}
 use Rattle.picture.proofs.function.columns.Goals as goal
 
-pub draw-d-requires : goal.draw-d-requires
-draw-d-requires g c =
+pub draw-requires : goal.draw-requires
+draw-requires g c =
     let li = lies _ _ c.requires.0 _ c.requires.3 in
     (own-few _ _ _ li _ c.cells-c.ensures.long, own_in _ _ _ li _ c.cells-c.ensures.long)

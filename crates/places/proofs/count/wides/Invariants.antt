@@ -1,10 +1,7 @@
-use Prim.Native.Nat.{◌+◌, ◌-◌, ◌≤◌}
+use Prim.Native.Nat.{◌+◌}
 use Rattle.places.specs.Places.{wide_at}
 use Rattle.places.proofs.Counting.{Counted}
 use Rattle.places.proofs.count.wides.Given as goal
 
 abbrev pub invariant-loop-line : goal.invariant-loop-line
-invariant-loop-line l = Counted l.initial.c (λ p. wide_at l.lines l.variables l.left (l.from + p)) l.from l.line l.c × (l.line ≤ l.to)
-
-abbrev pub decreases-loop-line : goal.decreases-loop-line
-decreases-loop-line l = l.to - l.line
+invariant-loop-line l = Counted l.initial.c (λ p. wide_at l.lines l.variables l.left (l.from + p)) l.from l.line l.c

@@ -14,11 +14,5 @@ returns-in-Loop c = search (steps, rules)
 pub returns-in-Break : goal.returns-in-Break
 returns-in-Break c = search (steps, rules)
 
-pub returns-in-Continue : goal.returns-in-Continue
-returns-in-Continue c = search (steps, rules)
-
-pub returns-in-Call : goal.returns-in-Call
-returns-in-Call c = search (steps, rules)
-
 pub returns-in-Unknown : goal.returns-in-Unknown
 returns-in-Unknown c = search (steps, rules)

@@ -3,4 +3,4 @@ use Rattle.show.proofs.Lines.{placed}
 use Rattle.show.proofs.hardened_steps.turn.Goals as goal
 
 pub list-requires : goal.list-requires
-list-requires g c = placed _ _ c.requires.0 1 _ c.requires.1 (omega arith)
+list-requires g c = placed _ _ c.args.table.now.ready 1 _ c.requires (omega arith)

@@ -6,7 +6,7 @@ returns-in_default g c = walks_over c.loop-left.invariant c.loop-left-test.true 
 
 pub loop-left-preserved : goal.loop-left-preserved
 loop-left-preserved g c =
-    walks_on c.loop-left.invariant c.loop-left-test.true _ c.turn-x.ensures c.requires.0 _ c.in-Went.is c.turn-x.auto.counters
+    walks_on c.loop-left.invariant c.loop-left-test.true _ c.turn-x.ensures c.args.table.now.ready _ c.in-Went.is c.turn-x.auto.counters
     c.turn-x.auto.trace _ c.left_after-left.ensures _ c.later-rest.ensures
 
 pub returns : goal.returns

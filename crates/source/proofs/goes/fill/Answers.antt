@@ -3,4 +3,4 @@ use Rattle.source.proofs.Targets.{filled}
 use Rattle.source.proofs.goes.fill.Goals as goal
 
 pub returns : goal.returns
-returns c = filled c.requires.surveyed.0 c.loop-i.invariant (omega (arith, c.loop-i-test.false))
+returns c = filled c.args.table.now.surveyed c.loop-i.invariant (omega (arith, c.loop-i-test.false))

@@ -14,8 +14,8 @@ show-requires g c =
       c.prepare-p.auto.rows ∙ c.no_rows-rows.ensures,
     )
 
-pub walk-at-requires : goal.walk-at-requires
-walk-at-requires g c =
+pub walk-requires : goal.walk-requires
+walk-requires g c =
     let so = sound c.args.lines.now (record { each = λ i. omega (arith, c.type_inv.lines i) }) c.requires.0 in (
       ready _ _ _ _ _ _ _ _ _ _ c.prepare-p.ensures _ _ c.in-Traced.is so,
       c.requires.0,

@@ -11,8 +11,8 @@ returns-then-slots-budget c = ap (λ x. sweeps x c.args.trace.now c.args.counter
 pub returns-then-words-lt-COUNTERS : goal.returns-then-words-lt-COUNTERS
 returns-then-words-lt-COUNTERS c = ap (λ x. sweeps x c.args.trace.now c.args.counters.now) c.refused-then-words-lt-COUNTERS.ensures ∙ sym (sweep-no-words c.args.lines.now c.args.variables c.args.budget c.args.trace.now c.args.counters.now c.requires (omega (arith, c.if-slots-budget.false)) (omega (arith, c.if-words-lt-COUNTERS.true)))
 
-pub returns-in-NotFinished : goal.returns-in-NotFinished
-returns-in-NotFinished c = sweep-not c.args.lines.now c.args.variables c.args.budget c.args.trace.now c.args.counters.now c.requires (omega (arith, c.if-slots-budget.false)) (omega (arith, c.if-words-lt-COUNTERS.false)) _ _ _ c.sweep-x.ensures c.in-NotFinished.is _ c.refused-in-NotFinished.ensures
+pub returns-in-None : goal.returns-in-None
+returns-in-None c = sweep-not c.args.lines.now c.args.variables c.args.budget c.args.trace.now c.args.counters.now c.requires (omega (arith, c.if-slots-budget.false)) (omega (arith, c.if-words-lt-COUNTERS.false)) _ _ _ c.sweep-x.ensures c.in-None.is _ c.refused-in-None.ensures
 
-pub returns-in-Of : goal.returns-in-Of
-returns-in-Of c = sweep-counted c.args.lines.now c.args.variables c.args.budget c.args.trace.now c.args.counters.now c.requires (omega (arith, c.if-slots-budget.false)) (omega (arith, c.if-words-lt-COUNTERS.false)) _ _ _ c.sweep-x.ensures _ c.in-Of.is _ c.counted.ensures
+pub returns-in-Some : goal.returns-in-Some
+returns-in-Some c = sweep-counted c.args.lines.now c.args.variables c.args.budget c.args.trace.now c.args.counters.now c.requires (omega (arith, c.if-slots-budget.false)) (omega (arith, c.if-words-lt-COUNTERS.false)) _ _ _ c.sweep-x.ensures _ c.in-Some.is _ c.counted.ensures

@@ -1,16 +1,10 @@
-use native.Mathlib.Omega.{arith}
-use Rattle.machine.proofs.Sound.{sound}
-use borrow.Author.Rules.{rules}
+use mathlib.Core.Path.{refl, sym, ◌∙◌}
+use borrow.Author.Tests.{eqb-true, eqb-false}
+use Rattle.sweeper.specs.Table.{outcome_in}
 use Rattle.sweeper.proofs.table.prepare.Goals as goal
 
-pub survey-requires : goal.survey-requires
-survey-requires c = ((sound c.args.lines.now (record { each = λ i. omega (arith, c.type_inv.lines i) }) c.requires.0), c.requires.3, c.requires.4)
+pub returns-then-finishes : goal.returns-then-finishes
+returns-then-finishes c = (eqb-true (outcome_in c.args.table.now.lines.now c.args.variables c.args.budget) 1 (sym c.finishes.ensures ∙ c.if-finishes.true), c.record_trace-n.ensures)
 
-pub home_of-home-requires : goal.home_of-home-requires
-home_of-home-requires c = ((sound c.args.lines.now (record { each = λ i. omega (arith, c.type_inv.lines i) }) c.requires.0), c.survey.ensures)
-
-pub finishes-requires : goal.finishes-requires
-finishes-requires c = ((record { sound = (sound c.args.lines.now (record { each = λ i. omega (arith, c.type_inv.lines i) }) c.requires.0); mapped = record { located = c.survey.ensures; home_is = c.home_of-home.ensures } }), omega (arith, c.requires.2, c.requires.5), c.requires.6)
-
-pub record_trace-n-requires : goal.record_trace-n-requires
-record_trace-n-requires c = ((record { sound = (sound c.args.lines.now (record { each = λ i. omega (arith, c.type_inv.lines i) }) c.requires.0); mapped = record { located = c.survey.ensures; home_is = c.home_of-home.ensures } }), c.requires.1, search rules)
+pub returns : goal.returns
+returns c = (eqb-false (outcome_in c.args.table.now.lines.now c.args.variables c.args.budget) 1 (sym c.finishes.ensures ∙ c.if-finishes.false), refl, refl)

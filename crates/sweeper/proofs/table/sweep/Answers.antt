@@ -1,8 +1,18 @@
-use mathlib.Core.Path.{◌∙◌}
-use native.Mathlib.Omega.{arith}
-use Rattle.machine.proofs.Sound.{sound}
-use Rattle.sweeper.proofs.Answers.{ready, finishes}
+use mathlib.Core.Path.{◌≡◌}
+use Prim.Native.Nat.{ℕ}
+use Rattle.rules.specs.Line.{lines_in}
+use Rattle.rules.specs.Sweep.{sum_counts, sweep_step}
+use Rattle.sweeper.specs.declared.steps.Counting.{Counting}
+use Rattle.sweeper.specs.Walk.{form}
+use Rattle.sweeper.proofs.Answers.{swept-is}
 use Rattle.sweeper.proofs.table.sweep.Goals as goal
 
-pub count-c-requires : goal.count-c-requires
-count-c-requires c = (ready _ _ _ _ _ _ _ _ _ _ c.prepare-p.ensures _ _ c.in-Traced.is (sound c.args.lines.now (record { each = λ i. omega (arith, c.type_inv.lines i) }) c.requires.0), c.requires.0, finishes _ _ _ _ _ _ _ _ _ _ c.prepare-p.ensures _ _ c.in-Traced.is, c.prepare-p.auto.words ∙ c.requires.2, c.prepare-p.auto.spare ∙ c.no_words-spare.ensures, c.prepare-p.auto.rows ∙ c.no_rows-rows.ensures)
+pub answer-requires-clause-held : goal.answer-requires-clause-held
+unfolding sum_counts
+answer-requires-clause-held c = let d = c.default.ensures in λ i. record { alarms = d.0 i; same = d.1.0 i; other = d.1.1.0 i; unfinished = d.1.1.1 i }
+
+pub returns : goal.returns
+returns c =
+    let struck = λ (k : ℕ) (it : Counting). it.counts ≡ sum_counts k (sweep_step (form c.args.lines.now) (lines_in c.args.lines.now) c.args.variables c.args.budget) in
+    let k = c.in_ok-x.ensures in
+    swept-is c.args.lines.now c.args.variables c.args.budget c.args.trace.now c.args.words.now c.answer.new.trace c.answer.new.words struck c.in_ok-x.x k c.in_ok-x.x.counts k.3

@@ -1,5 +1,4 @@
 use Prim.Native.Nat.{◌<◌}
-use mathlib.Core.Path.{sym, ◌∙◌}
 use native.Mathlib.Omega.{arith}
 use Rattle.text.proofs.Digits.{value-small}
 use Rattle.text.proofs.Feeding.{fed-bad, fed-newline, fed-full, fed-digit, fed-other}
@@ -16,14 +15,12 @@ returns-then-r-digits c = fed-full _ _ _ _ c.requires c.if-r.false c.if-b-eq10.f
     c.spoilt.ensures
 
 pub add_digit-requires : goal.add_digit-requires
-add_digit-requires c = let small : c.in-Value.v < 16 =
-    value-small _ _ (sym c.in-Value.is ∙ c.digit_of-d.ensures) in
+add_digit-requires c = let small : c.in-Some.v < 16 = value-small _ _ c.in-Some.ensures in
     (small, omega (arith, c.requires), omega (arith, c.requires), omega (arith, c.requires))
 
-pub returns-in-Value : goal.returns-in-Value
-returns-in-Value c = fed-digit _ _ _ _ c.requires c.if-r.false c.if-b-eq10.false (omega (arith, c.if-r-digits.false))
-    (sym c.in-Value.is ∙ c.digit_of-d.ensures) c.add_digit.ensures
+pub returns-in-Some : goal.returns-in-Some
+returns-in-Some c = fed-digit _ _ _ _ c.requires c.if-r.false c.if-b-eq10.false (omega (arith, c.if-r-digits.false))
+    c.in-Some.ensures c.add_digit.ensures
 
-pub returns-in-Other : goal.returns-in-Other
-returns-in-Other c = fed-other _ _ _ _ c.requires c.if-r.false c.if-b-eq10.false
-    (sym c.in-Other.is ∙ c.digit_of-d.ensures) c.spoilt-in-Other.ensures
+pub returns-in-None : goal.returns-in-None
+returns-in-None c = fed-other _ _ _ _ c.requires c.if-r.false c.if-b-eq10.false c.in-None.ensures c.spoilt-in-None.ensures

@@ -1,14 +1,23 @@
-use Rattle.text.proofs.Groups.{lines_none, lines_more, lines_all, next-group}
+use Rattle.std.proofs.Common.{◌∙◌}
+use Rattle.text.proofs.Groups.{lines_none, lines_more, lines_all, next-room}
 use Rattle.text.proofs.write.listing.Goals as goal
 
-pub loop-from-init : goal.loop-from-init
-loop-from-init c = lines_none c.requires
+pub loop-group-init : goal.loop-group-init
+loop-group-init c = (cc, lines_none c.requires cc)
 
-pub slice_bounds-put_line-end : goal.slice_bounds-put_line-end
-slice_bounds-put_line-end c = next-group c.loop-from.invariant c.loop-from-test.true
+pub put_line-at-requires : goal.put_line-at-requires
+put_line-at-requires c =
+    let inv = c.loop-group.invariant in
+    let s = c.in-Some.ensures.steps in
+    next-room inv.1 _ _ s.1.0 (s.1.1 ∙ inv.0)
 
-pub loop-from-preserved : goal.loop-from-preserved
-loop-from-preserved c = lines_more c.loop-from.invariant c.loop-from-test.true c.put_line-at.ensures
+pub loop-group-preserved : goal.loop-group-preserved
+loop-group-preserved c =
+    let inv = c.loop-group.invariant in
+    let s = c.in-Some.ensures.steps in
+    (s.0 ∙ inv.0, lines_more inv.1 _ _ s.1.0 (s.1.1 ∙ inv.0) c.put_line-at.ensures)
 
 pub returns : goal.returns
-returns c = lines_all c.loop-from.invariant c.loop-from-test.false
+returns c =
+    let inv = c.loop-group.invariant in
+    lines_all inv.1 (rw (← inv.0) c.in-None.ensures.steps.1.0)

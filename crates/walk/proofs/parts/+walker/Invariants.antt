@@ -19,7 +19,7 @@ abbrev pub decreases-sequence : goal.decreases-sequence
 decreases-sequence l = length l.rows.now + 2
 
 abbrev pub invariant-sequence-loop-at : goal.invariant-sequence-loop-at
-invariant-sequence-loop-at l = SeqTo l.rows l.base l.depth l.opened l.in_loop l.initial.ends l.initial.elses l.ends l.elses l.at l.regions
+invariant-sequence-loop-at l = SeqTo l.rows l.base l.depth l.opened l.in_loop l.initial.links.ends l.initial.links.elses l.links.ends l.links.elses l.at l.regions
 
 abbrev pub decreases-sequence-loop-at : goal.decreases-sequence-loop-at
 decreases-sequence-loop-at l = length l.rows - 6 * l.at

@@ -1,0 +1,6 @@
+use Rattle.layout.proofs.Spots.{access}
+use borrow.Author.Rules.{rules}
+use Rattle.layout.proofs.linked.Linked.line_of.Goals as goal
+
+pub returns : goal.returns
+returns c = search (access, rules)

@@ -1,9 +1,0 @@
-use Rattle.layout.proofs.Spots.{callees}
-use borrow.Author.Rules.{rules}
-use Rattle.layout.proofs.spot.callee_of.Goals as goal
-
-pub bounds-heads-index : goal.bounds-heads-index
-bounds-heads-index c = search (callees, rules)
-
-pub returns : goal.returns
-returns c = search (callees, rules)

@@ -1,6 +1,0 @@
-use Rattle.layout.proofs.Spots.{access}
-use borrow.Author.Rules.{rules}
-use Rattle.layout.proofs.spot.line_of.Goals as goal
-
-pub returns : goal.returns
-returns c = search (access, rules)
