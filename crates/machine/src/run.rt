@@ -23,6 +23,12 @@ pub fn run_lines(
     requires { Going (lines_in table.now.lines.now) budget (parts_in start counters.old trace.old) }
     ensures { stopped_with result counters.new trace.new ≡ run_of table.now.lines.now (map_in table.now) budget (parts_in start counters.old trace.old) }
 {
+    let Runnable {
+        lines,
+        starts,
+        owners,
+        home,
+    } = table;
     let mut resumes = start.resumes;
     let mut functions = start.functions;
     let mut variables = start.variables;
@@ -30,10 +36,10 @@ pub fn run_lines(
     for _ in 0..budget {
         let steps = h.steps + 1;
         let t = step::line(
-            table.lines,
-            &table.starts,
-            &table.owners,
-            table.home,
+            lines,
+            starts,
+            owners,
+            *home,
             h,
             &mut resumes,
             &mut functions,

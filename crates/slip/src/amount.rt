@@ -6,6 +6,7 @@ ghost use Rattle.slip.specs.Amount.{slips_by, over_do_lem, amount_between};
 use line::kind::LineKind;
 use line::read;
 
+// Four answers, each of them told: an Option around the last three would say no more.
 #[derive(Drop)]
 pub enum Amount {
     // It does not strike, a guard is between the lines, or the place is beyond the last.

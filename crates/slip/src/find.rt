@@ -37,6 +37,7 @@ fn out_of(
 }
 
 // After as many steps as the jump names, if the budget holds one more and they do not end the run.
+// Not shared with the jump of `strike`, which runs on where the budget holds no jump.
 fn at_jump(
     table: &Runnable,
     start: Machine,
