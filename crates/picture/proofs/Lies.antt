@@ -31,11 +31,11 @@ lies bs mp rd f h =
     }
 
 -- its cells, of those of all lines
-pub cells-long : (xs : List ℕ) (from to : ℕ) → from ≤ to → to ≤ length xs → length (take (to - from) (drop from xs)) ≡ to - from
+pub cells-long : {A : Type 0} (xs : List A) (from to : ℕ) → from ≤ to → to ≤ length xs → length (take (to - from) (drop from xs)) ≡ to - from
 cells-long xs from to a b = length-take-le (to - from) (drop from xs) (omega (arith, length-drop from xs))
 
-module _ (bs ss : List ℕ) (f : ℕ) (h : Lies bs ss f) (xs : List ℕ) (long : length xs ≡ max_lines) where
-  abbrev own : List ℕ
+module _ {A : Type 0} (bs ss : List ℕ) (f : ℕ) (h : Lies bs ss f) (xs : List A) (long : length xs ≡ max_lines) where
+  abbrev own : List A
   own = take (get_or ss (f + 1) 0 - get_or ss f 0) (drop (get_or ss f 0) xs)
 
   own-long : length own ≡ get_or ss (f + 1) 0 - get_or ss f 0

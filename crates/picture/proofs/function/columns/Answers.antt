@@ -3,5 +3,5 @@ use Rattle.picture.proofs.function.columns.Goals as goal
 
 pub draw-requires : goal.draw-requires
 draw-requires g c =
-    let li = lies _ _ c.requires.0 _ c.requires.3 in
+    let li = lies _ _ c.args.run.now.table.now.ready _ c.requires.0 in
     (own-few _ _ _ li _ c.cells-c.ensures.long, own_in _ _ _ li _ c.cells-c.ensures.long)
