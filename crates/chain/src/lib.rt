@@ -17,11 +17,7 @@ use table::links::TableLinks;
 pub const SIZE: usize = ROWS * WIDTH;
 
 // Finds the chain, which stands at the front of `chain` afterwards, and its links: how many bytes it has.
-pub fn link(
-    rows: &[u8],
-    chain: &mut [u8],
-    links: &mut TableLinks,
-) -> Result<usize, Refusal>
+pub fn link(rows: &[u8], chain: &mut [u8], links: &mut TableLinks) -> Result<usize, Refusal>
     requires { length chain.old ≡ row_width * max_rows }
     ensures { LinkedOk rows.now chain.new links.new.rows.ends links.new.rows.elses links.new.heads result }
 {

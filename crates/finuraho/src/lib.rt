@@ -112,7 +112,13 @@ pub fn harden(rows: &[u8], out: &mut [u8]) -> Wrote
     let mut links = TableLinks::new();
     match table::check::check(rows, &mut links) {
         Err(_) => switched::harden(rows, &mut links, out),
-        Ok(()) => hardener::harden_linked(rows, &links.rows.ends, &links.rows.elses, &links.heads, out),
+        Ok(()) => hardener::harden_linked(
+            rows,
+            &links.rows.ends,
+            &links.rows.elses,
+            &links.heads,
+            out,
+        ),
     }
 }
 
@@ -157,10 +163,16 @@ pub fn run_source(rows: &[u8], variables: [u16; VARIABLES], budget: u16, trace: 
 {
     let mut links = TableLinks::new();
     match table::check::check(rows, &mut links) {
-        Err(_) => switched::run_source(
-            rows, &mut links, variables, budget, trace,
+        Err(_) => switched::run_source(rows, &mut links, variables, budget, trace),
+        Ok(()) => run::source_run(
+            rows,
+            &links.rows.ends,
+            &links.rows.elses,
+            &links.heads,
+            variables,
+            budget,
+            trace,
         ),
-        Ok(()) => run::source_run(rows, &links.rows.ends, &links.rows.elses, &links.heads, variables, budget, trace),
     }
 }
 

@@ -9,17 +9,19 @@ use rules::answer::{Ran, Wrote};
 use rules::limits::VARIABLES;
 use table::links::TableLinks;
 
-pub fn harden(
-    rows: &[u8],
-    links: &mut TableLinks,
-    out: &mut [u8],
-) -> Wrote
+pub fn harden(rows: &[u8], links: &mut TableLinks, out: &mut [u8]) -> Wrote
     ensures { writes result out.new ≡ harden_call rows.now out.old }
 {
     let mut chain = [0u8; SIZE];
     match link(rows, &mut chain, links) {
         Err(r) => refused(r),
-        Ok(n) => hardener::harden_linked(&chain[..n], &links.rows.ends, &links.rows.elses, &links.heads, out),
+        Ok(n) => hardener::harden_linked(
+            &chain[..n],
+            &links.rows.ends,
+            &links.rows.elses,
+            &links.heads,
+            out,
+        ),
     }
 }
 

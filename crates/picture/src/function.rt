@@ -14,9 +14,7 @@ use std::fmt;
 use sweeper::unstruck::Unstruck;
 
 // The number of the last function: that of the last line.
-pub fn last_of(
-    table: &Runnable,
-) -> u8
+pub fn last_of(table: &Runnable) -> u8
     ensures { result ≡ function_at (lines_in table.now.lines.now) (length (lines_in table.now.lines.now) - 1) }
 {
     let n = table.lines.len() / Line::WIDTH;

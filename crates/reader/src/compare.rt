@@ -14,6 +14,12 @@ pub fn hardens_to(rows: &[u8], lines: &[u8]) -> bool
     let mut links = TableLinks::new();
     match check::check(rows, &mut links) {
         Err(_) => false,
-        Ok(()) => hardener::hardens_to_lines(rows, &links.rows.ends, &links.rows.elses, &links.heads, lines),
+        Ok(()) => hardener::hardens_to_lines(
+            rows,
+            &links.rows.ends,
+            &links.rows.elses,
+            &links.heads,
+            lines,
+        ),
     }
 }

@@ -4,7 +4,6 @@ ghost use Rattle.rules.specs.Scan.{is_function_lem};
 ghost use Rattle.rules.specs.Check.{is_call};
 
 use rules::kind::Kind;
-
 pub use rules::kind::{BREAK, CALL, CONTINUE, DO, ELSE, END, FUNCTION, IF, LOOP};
 
 // Those of a switch's own rows (02, No. 1), which are no kinds of 01.

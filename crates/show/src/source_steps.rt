@@ -18,9 +18,9 @@ use rows::kind::is_call;
 use rules::limits::{FUNCTIONS, ROWS, VARIABLES};
 use rules::step::Step;
 use source::{goes, run};
-use table::links::TableLinks;
 use state::machine::{Machine, Registers, Stopped, begun};
 use std::fmt;
+use table::links::TableLinks;
 
 // Where a walk stopped, and the calls on its way.
 #[derive(Drop)]
@@ -169,9 +169,7 @@ pub fn tell<W: fmt::Write>(
 {
     let mut links = TableLinks::new();
     match table::check::check(rows, &mut links) {
-        Err(_) => tell_switched(
-            rows, &mut links, variables, budget, show, trace, page,
-        ),
+        Err(_) => tell_switched(rows, &mut links, variables, budget, show, trace, page),
         Ok(()) => tell_accepted(
             rows,
             &links.rows.ends,
