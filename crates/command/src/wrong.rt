@@ -68,6 +68,7 @@ impl fmt::Display for Expected {
 pub fn say(word: &mut [u8], expected: Expected) {
     plain(word);
     let _ = write!(StandardError, "wrong word \"");
+    // These bytes need not be text.
     io::write_all(2, word);
     let _ = writeln!(StandardError, "\": expected {expected}");
 }

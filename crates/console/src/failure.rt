@@ -10,6 +10,7 @@ pub fn tell(what: &str, error: Error) {
     let n = text.position() as usize;
     let buffer = text.into_inner();
     let _ = write!(StandardError, "{what}: ");
+    // The system's words are bytes, which need not be text.
     io::write_all(2, words(front(n, &buffer)));
     let _ = writeln!(StandardError, "");
 }

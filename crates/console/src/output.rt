@@ -12,7 +12,8 @@ pub fn front(n: usize, buffer: &[u8]) -> &[u8]
     &buffer[..n.min(buffer.len())]
 }
 
-// Every answer goes this way: where it can't be written that is said, once, and the caller writes no more.
+// Every answer goes this way: where it can't be written that is said, once, and the caller writes no more. Whether it was written is a bool,
+// since what went wrong is told here and is no caller's.
 pub fn answer(rt: &impl Print, bytes: &[u8]) -> bool {
     match rt.write_all(bytes) {
         Ok(()) => true,

@@ -56,6 +56,7 @@ impl<'a, P: Print> Page<'a, P> {
         }
     }
 
+    // By hand, since what write! promises of an error is nothing, and Named says what then holds.
     pub fn number(&mut self, x: u64)
         ensures { Named [] x self.old.held self.old.text self.new.text self.new.held }
     {

@@ -17,7 +17,7 @@ pub fn has_words(rt: &impl Env) -> bool {
     !matches!(rt.arg(1, &mut buffer), Err(FillError::NotPresent))
 }
 
-// Whether a program that takes no words is given none; else its usage is printed.
+// Whether a program that takes no words is given none; else its usage is printed. It is bytes and not text, so that callers are asked no more than that.
 pub fn is_bare(rt: &(impl Print + Env), usage: &[u8]) -> bool {
     if !has_words(rt) {
         return true;

@@ -7,6 +7,7 @@ use std::fmt;
 use std::fmt::Write;
 
 pub fn answer(rt: &impl Print, rows: &[u8]) {
+    // The number is 01's, and 0 is none: the C struct has it so.
     let f = finuraho::fault(rows);
     if f.number == 0 {
         output::answer(rt, b"accepted\n");

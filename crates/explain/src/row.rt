@@ -2,6 +2,7 @@
 use rows::WIDTH;
 use rows::kind::{CASE, DEFAULT, ELSE, END, FUNCTION, IF, LOOP, SWITCH};
 
+// The kind is 01's byte: a row at fault may have one that is no kind.
 #[derive(Clone, Copy)]
 pub struct Row {
     pub kind: u8,

@@ -8,7 +8,7 @@ use rules::limits::{CONSTRUCTS, ROWS};
 use std::fmt;
 use std::fmt::Write;
 
-// The number is 01's, since the C struct has it. Whole lines make whole rows, so that there are none is the one way to meet 1. At the end
+// The number is 01's: the C struct has it so. Whole lines make whole rows, so that there are none is the one way to meet 1. At the end
 // of the table there is no row.
 pub fn put(page: &mut impl Write, f: Fault, rows: &[u8]) -> fmt::Result {
     match (f.number, row::at(rows, f.row)) {

@@ -11,6 +11,7 @@ const MANY: usize = 1000;
 pub fn answer(rt: &impl Print, rows: &[u8], lines: &mut [u8], listing: &mut [u8])
     requires { (65536 ≡ length lines.old) × (65536 ≡ length listing.old) }
 {
+    // The number is 01's, and 0 is none: the C struct has it so.
     let w = finuraho::harden(rows, lines);
     if w.number != 0 {
         output::refused(rt, w.number, listing);

@@ -32,6 +32,7 @@ fn measure(rt: &(impl Input + Print)) {
 }
 
 fn answer(rt: &impl Print, m: Measured) {
+    // The number is 01's, and 0 is none: the C struct has it so.
     if m.number != 0 {
         let mut text = io::large_buffer();
         output::refused(rt, m.number, &mut text);

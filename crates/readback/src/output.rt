@@ -12,6 +12,7 @@ const LARGEST: usize = WIDTH * ROWS;
 pub fn answer(rt: &impl Print, lines: &[u8], rows: &mut [u8], listing: &mut [u8])
     requires { (65536 ≡ length rows.old) × (65536 ≡ length listing.old) }
 {
+    // The number is 01's, and 0 is none: the C struct has it so.
     let w = finuraho::read_back(lines, rows);
     if w.number != 0 {
         output::refused(rt, w.number, listing);

@@ -95,7 +95,7 @@ pub fn start() -> Reader
     }
 }
 
-// Reads on: bytes that no longer fit in `rows` are dropped.
+// Reads on: bytes that no longer fit in `rows` are dropped. The rows stay the caller's, who reads into them piece by piece (Fed, Sane).
 pub fn feed(text: &[u8], digits: usize, r: Reader, rows: &mut [u8]) -> Reader
     requires { Sane digits r rows.old }
     ensures { Fed digits text.now r rows.old result rows.new }

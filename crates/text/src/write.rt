@@ -13,6 +13,7 @@ fn figure(v: u8) -> u8
     b'a' - 10 + v
 }
 
+// A place and a buffer, and no struct of the two: the texts are stored by steps that answer the next place, and Puts says just that.
 fn put(b: u8, at: usize, out: &mut [u8]) -> usize
     requires { at < length out.old }
     ensures { Puts (b ∷ []) at out.old out.new result }
