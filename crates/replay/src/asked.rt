@@ -113,6 +113,7 @@ impl Asked {
     }
 }
 
+// Any other byte counts 0, a capital too, which to_digit would read.
 fn digit(b: u8) -> u8
     ensures { result < 16 }
 {

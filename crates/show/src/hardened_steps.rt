@@ -59,6 +59,7 @@ fn walk<W: fmt::Write>(
     let mut m = start;
     let mut left = budget;
     let mut rest = strike;
+    // No for: a jump is a turn that takes none of the steps left.
     while 0 < left {
         let x = turn(table, m, rest, counters, trace, page);
         let s = x.step;
