@@ -49,6 +49,7 @@ fn make(table: &Numbered, comparing: bool, lines: &[u8], out: &mut [u8]) -> bool
 {
     let n = table.linked.rows.len() / row::WIDTH;
     let mut from = 0;
+    // Kept as a while: where all rows are kept, the first batch is the last.
     while from < n {
         let count = batch(comparing, from, n);
         emit::emit_rows(table, from, count, out);

@@ -156,6 +156,7 @@ pub fn read_rows(lines: &[u8], owners: &[u16; LINES + 1], rows: &mut [u8]) -> Op
     let mut at = 0;
     let mut opening = true;
     let mut line: u16 = 0;
+    // Kept as a while: dos are passed some lines at a time, so that no range gives the lines.
     while line < count {
         if at > LARGEST {
             return None;

@@ -28,6 +28,7 @@ pub fn dos(lines: &[u8], line: u16, rows: &mut [u8], at: usize) -> u16
 {
     let mut next = line;
     let mut to = at;
+    // Kept as a while: how many dos there are is known at the first line that is none.
     while to <= LARGEST && is_pair(lines, next) {
         to = copied(DO, lines, next).write(rows, to);
         next += 2;

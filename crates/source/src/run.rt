@@ -22,7 +22,7 @@ pub fn run_rows(
     let mut functions = start.functions;
     let mut variables = start.variables;
     let mut h = start.registers;
-    let mut left = budget as usize;
+    let mut left = usize::from(budget);
     while 0 < left {
         let steps = h.steps + 1;
         let t = step::row(
