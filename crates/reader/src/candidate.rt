@@ -93,7 +93,7 @@ fn callee(lines: &[u8], owners: &[u16; LINES + 1], line: u16) -> u16
     ensures { result ≡ function_at (lines_in lines.now) (struct_at lines.now line).go }
 {
     let count = lines.len() / Line::WIDTH;
-    let go = go_of(lines, line) as usize;
+    let go = usize::from(go_of(lines, line));
     if go < count {
         return owners[go];
     }
@@ -163,7 +163,7 @@ pub fn read_rows(lines: &[u8], owners: &[u16; LINES + 1], rows: &mut [u8]) -> Op
         }
         let next = past_dos(opening, lines, line, rows, at);
         if line < next {
-            at = at + 3 * ((next - line) as usize);
+            at = at + 3 * usize::from(next - line);
             line = next;
         } else {
             let opened = open(opening, rows, at);
