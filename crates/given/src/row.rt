@@ -157,7 +157,8 @@ fn do_row(
     Ok((parts_after, one_more(t, at)))
 }
 
-// A case that meets none of 3, 4 and 11, as `take` does.
+// A case that meets none of 3, 4 and 11, as `take` does. Kept beside it: a path of its own for a do and one for a case took a row from 11
+// to 7 ns (docs/SPEED.md, what made the pass fast).
 fn take_case(
     rows: &[u8],
     at: usize,

@@ -6,7 +6,8 @@ ghost use Rattle.given.specs.Things.{top_mark, marked_cases, among_words, long_r
 use rules::limits::{CONSTRUCTS, ROWS};
 
 // A mark for each open thing, the outermost first: 0 for a function, an if or a loop; for a switch twice its cases and 1, in its default
-// 1 more. Beside it a switch's variable; and the numbers of the cases of all open switches, the outermost first, in one array.
+// 1 more. Kept as a number: the definitions count a switch's cases by it (mark_of, marked_cases). Beside it a switch's variable; and the
+// numbers of the cases of all open switches, the outermost first, in one array.
 #[derive(Clone, Copy)]
 pub struct Things {
     // The open things, and the cases of all open switches.
@@ -44,10 +45,8 @@ pub fn among(x: u16, used: &[u16; CONSTRUCTS + 1], to: usize, count: usize) -> b
     ensures { result ≡ among_words x used.now (to - count) count }
 {
     let first = to - count;
-    let mut left = count;
-    while 0 < left {
-        left = left - 1;
-        if used[first + left] == x {
+    for done in 0..count {
+        if used[first + done] == x {
             return true;
         }
     }
