@@ -5,13 +5,13 @@ ghost use Rattle.rules.specs.ReadBack.{is_hardened_lem};
 
 use crate::{list, map};
 use command::sweep_words::{Form, SweepAsked};
-use compare::pieces;
-use machine::map as lines_map;
+use compare::spare::Spare;
+use machine::table::Runnable;
 use rules::answer::Swept;
 use rules::limits::COUNTERS;
 use std::fmt;
 use sweeper::table;
-use sweeper::table::Prepared;
+use sweeper::unstruck::Unstruck;
 
 fn tell<W: fmt::Write>(r: Swept, page: &mut W) -> fmt::Result {
     writeln!(page, "alarm {}", r.alarms)?;
@@ -31,55 +31,21 @@ fn walk_again<W: fmt::Write>(
 ) -> fmt::Result
     requires { (is_hardened_lem lines.now ≡ true) × (a.budget ≤ length trace.old) × (length words.old ≡ counter_words) }
 {
-    let mut starts = lines_map::no_starts();
-    let mut owners = lines_map::no_owners();
-    let mut spare = table::no_words();
-    let mut rows = pieces::no_rows();
-    let p = table::prepare(
-        lines,
-        a.variables,
-        a.budget,
-        trace,
-        words,
-        &mut starts,
-        &mut owners,
-        &mut spare,
-        &mut rows,
-    );
-    let Prepared::Traced(home, n) = p else {
+    let table = Runnable::of(lines);
+    let mut spare = Spare::new();
+    let Some(n) = table::prepare(&table, a.variables, a.budget, trace, words, &mut spare) else {
         return Ok(());
     };
-    let known = &trace[..n as usize];
+    let run = Unstruck {
+        table: &table,
+        variables: a.variables,
+        budget: a.budget,
+        trace: &trace[..n as usize],
+    };
     if let Form::Map(function) = a.form {
-        return map::show(
-            lines,
-            &starts,
-            &owners,
-            home,
-            a.variables,
-            a.budget,
-            known,
-            function,
-            r,
-            words,
-            &mut spare,
-            &mut rows,
-            page,
-        );
+        return map::show(&run, function, r, words, &mut spare, page);
     }
-    list::walk(
-        lines,
-        &starts,
-        &owners,
-        home,
-        a.variables,
-        a.budget,
-        known,
-        words,
-        &mut spare,
-        &mut rows,
-        page,
-    )?;
+    list::walk(&run, words, &mut spare, page)?;
     tell(r, page)
 }
 

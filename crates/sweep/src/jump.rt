@@ -2,7 +2,7 @@
 ghost use Rattle.sweep.specs.Lands.{Lands};
 
 use line::read;
-use rules::limits::FUNCTIONS;
+use machine::table::Runnable;
 use state::machine::Registers;
 use std::fmt;
 
@@ -12,23 +12,22 @@ fn outcome(from: u16, to: u16) -> &'static str {
 }
 
 // The do's line is the lower of the two; its e is its row.
-fn row(lines: &[u8], starts: &[u16; FUNCTIONS + 1], h: Registers, line: u16) -> u16
-    requires { Lands lines.now starts.now h line }
+fn row(table: &Runnable, h: Registers, line: u16) -> u16
+    requires { Lands table.now.lines.now table.now.starts h line }
 {
-    read::line_at(lines, h.at.min(line)).e
+    read::line_at(table.lines, h.at.min(line)).e
 }
 
 pub fn tell<W: fmt::Write>(
-    lines: &[u8],
-    starts: &[u16; FUNCTIONS + 1],
+    table: &Runnable,
     h: Registers,
     line: u16,
     step: u16,
     page: &mut W,
 ) -> fmt::Result
-    requires { Lands lines.now starts.now h line }
+    requires { Lands table.now.lines.now table.now.starts h line }
 {
-    let first = starts[h.function as usize];
+    let first = table.starts[h.function as usize];
     write!(page, "step {step} function {}", h.function)?;
     write!(
         page,
@@ -39,7 +38,7 @@ pub fn tell<W: fmt::Write>(
     writeln!(
         page,
         " row {} {}",
-        row(lines, starts, h, line),
+        row(table, h, line),
         outcome(h.at, line)
     )
 }

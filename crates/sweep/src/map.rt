@@ -1,19 +1,14 @@
 // The map of one function, or that there is no such function.
-ghost use Rattle.std.specs.Prelude.{◌≡◌, true, length};
+ghost use Rattle.std.specs.Prelude.{◌≡◌, length};
 ghost use Rattle.rules.specs.Limits.{counter_words};
-ghost use Rattle.rules.specs.Line.{lines_in};
-ghost use Rattle.rules.specs.ReadBack.{is_hardened_lem};
-ghost use Rattle.machine.specs.Step.{map_of};
-ghost use Rattle.machine.specs.Stands.{Ready};
-ghost use Rattle.compare.specs.Compared.{piece_steps};
-ghost use Rattle.sweeper.specs.Steps.{Finishes};
 
+use compare::spare::Spare;
 use console::standard_error::StandardError;
 use picture::function;
 use rules::answer::Swept;
-use rules::limits::{FUNCTIONS, LINES, VARIABLES};
 use std::fmt;
 use std::fmt::Write as _;
+use sweeper::unstruck::Unstruck;
 
 // On standard error: nothing is drawn.
 fn tell_missing(wanted: u8, last: u8) {
@@ -24,29 +19,19 @@ fn tell_missing(wanted: u8, last: u8) {
 }
 
 pub fn show<W: fmt::Write>(
-    lines: &[u8],
-    starts: &[u16; FUNCTIONS + 1],
-    owners: &[u8; LINES + 1],
-    home: u16,
-    variables: [u16; VARIABLES],
-    budget: u16,
-    trace: &[u16],
+    run: &Unstruck,
     wanted: u8,
     swept: Swept,
     counters: &mut [u16],
-    spare: &mut [u16],
-    rows: &mut [u16],
+    spare: &mut Spare,
     page: &mut W,
 ) -> fmt::Result
-    requires { (Ready lines.now (map_of starts.now owners.now home)) × (is_hardened_lem lines.now ≡ true) × (Finishes (lines_in lines.now) variables budget trace.now) × (length counters.old ≡ counter_words) × (length spare.old ≡ counter_words) × (length rows.old ≡ piece_steps) }
+    requires { length counters.old ≡ counter_words }
 {
-    let last = function::last_of(lines, starts, owners, home);
+    let last = function::last_of(run.table);
     if last < wanted {
         tell_missing(wanted, last);
         return Ok(());
     }
-    function::draw(
-        lines, starts, owners, home, variables, budget, trace, wanted, swept, counters, spare,
-        rows, page,
-    )
+    function::draw(run, wanted, swept, counters, spare, page)
 }
