@@ -35,10 +35,5 @@ pub fn tell<W: fmt::Write>(
         h.at - first,
         line - first
     )?;
-    writeln!(
-        page,
-        " row {} {}",
-        row(table, h, line),
-        outcome(h.at, line)
-    )
+    writeln!(page, " row {} {}", row(table, h, line), outcome(h.at, line))
 }
