@@ -1,3 +1,2 @@
-pub mod Gives
 pub mod Measures
 pub mod Chains
