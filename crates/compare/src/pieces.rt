@@ -53,6 +53,7 @@ pub fn ending(
     let mut left = budget;
     let mut at = 0;
     let mut same = true;
+    // Kept as a while: the last piece has fewer steps than the others.
     while 0 < left {
         let n = left.min(PIECE as u16);
         let x = run_lines(table, m, n, &mut spare.counters, &mut spare.rows);

@@ -22,8 +22,7 @@ pub fn run_rows(
     let mut functions = start.functions;
     let mut variables = start.variables;
     let mut h = start.registers;
-    let mut left = usize::from(budget);
-    while 0 < left {
+    for _ in 0..budget {
         let steps = h.steps + 1;
         let t = step::row(
             rows,
@@ -40,7 +39,6 @@ pub fn run_rows(
         let Step::Went(_) = s else {
             return at_end(s, resumes, functions, variables, h);
         };
-        left -= 1;
     }
     at_end(Step::Went(h.at), resumes, functions, variables, h)
 }
