@@ -31,14 +31,15 @@ fn walk_again<W: fmt::Write>(
 ) -> fmt::Result
     requires { (is_hardened_lem lines.now ≡ true) × (a.budget ≤ length trace.old) × (length words.old ≡ counter_words) }
 {
+    let variables = a.variables;
     let table = Runnable::of(lines);
     let mut spare = Spare::new();
-    let Some(n) = table::prepare(&table, a.variables, a.budget, trace, words, &mut spare) else {
+    let Some(n) = table::prepare(&table, variables, a.budget, trace, words, &mut spare) else {
         return Ok(());
     };
     let run = Unstruck {
         table: &table,
-        variables: a.variables,
+        variables,
         budget: a.budget,
         trace: &trace[..n as usize],
     };
