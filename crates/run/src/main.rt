@@ -28,11 +28,6 @@ use std::env::Env;
 use std::fmt;
 use std::fmt::Write as _;
 
-// Slots for the longest trace.
-fn slots() -> [u16; 65535] {
-    [0; 65535]
-}
-
 fn main(rt: HostRuntime) {
     if !start::has_words(&rt) || start::asks_help(&rt) {
         start::tell(
@@ -90,7 +85,8 @@ fn take(rt: &(impl Input + Print), mode: Mode, chunk: &mut [u8], bytes: &mut [u8
 
 fn run_table(rt: &impl Print, a: Asked, table: &[u8]) {
     let mut page = Page::new(rt);
-    let mut trace = slots();
+    // Slots for the longest trace.
+    let mut trace = [0u16; 65535];
     let calls = list_steps(a, table, &mut trace, &mut page);
     let amount = amount(a, table, &mut trace);
     let r = ran(a, table, &mut trace);

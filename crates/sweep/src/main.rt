@@ -25,11 +25,6 @@ use rules::limits::COUNTERS;
 use std::env::Env;
 use std::fmt::Write;
 
-// Slots for the longest trace.
-fn slots() -> [u16; 65535] {
-    [0; 65535]
-}
-
 fn main(rt: HostRuntime) {
     if start::asks_help(&rt) {
         start::tell(
@@ -73,7 +68,8 @@ fn take_lines(rt: &(impl Input + Print), a: SweepAsked, chunk: &mut [u8], bytes:
 
 fn sweep(rt: &impl Print, a: SweepAsked, lines: &[u8]) {
     let mut page = Page::new(rt);
-    let mut trace = slots();
+    // Slots for the longest trace.
+    let mut trace = [0u16; 65535];
     let mut counters = [0u16; COUNTERS];
     let r = finuraho::sweep(lines, a.variables, a.budget, &mut trace, &mut counters);
     // Where output is lost the page says so.
