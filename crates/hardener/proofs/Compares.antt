@@ -11,12 +11,12 @@ use Rattle.rules.specs.Bytes.{same}
 use Rattle.rules.proofs.Encode.{same-is}
 
 -- the library's comparison of slices is the definitions'
-pub pointwise-same : (xs ys : List ℕ) → pointwise eqb xs ys ≡ same xs ys
+pub pointwise_same : (xs ys : List ℕ) → pointwise eqb xs ys ≡ same xs ys
 unfolding same
-pointwise-same [] [] = refl
-pointwise-same [] (y ∷ ys) = refl
-pointwise-same (x ∷ xs) [] = refl
-pointwise-same (x ∷ xs) (y ∷ ys) = ap (λ b. eqb x y && b) (pointwise-same xs ys)
+pointwise_same [] [] = refl
+pointwise_same [] (y ∷ ys) = refl
+pointwise_same (x ∷ xs) [] = refl
+pointwise_same (x ∷ xs) (y ∷ ys) = ap (λ b. eqb x y && b) (pointwise_same xs ys)
 
 pub not_same : (xs ys : List ℕ) → length xs ≢ length ys → false ≡ same xs ys
 not_same xs ys n = by (same xs ys) refl

@@ -14,9 +14,10 @@ ghost use Rattle.hardener.specs.Answer.{written};
 use rules::answer::Wrote;
 use rules::limits::{FUNCTIONS, ROWS};
 use rules::refusal::Refusal;
+use uses::{Comparing, Keeping};
 
-pub mod compare;
 pub mod pass;
+pub mod uses;
 
 // Writes the hardened table to the front of out, where it fits there, and nothing where it does not.
 pub fn harden_linked(
@@ -30,7 +31,7 @@ pub fn harden_linked(
     requires links { Links (table_of rows.now) ends.now elses.now heads.now }
     ensures { written result out.new ≡ writing (short_output (hardened_bytes rows.now) out.old) (hardened_bytes rows.now) out.old }
 {
-    match pass::pass(rows, ends, elses, heads, false, &[], out) {
+    match pass::pass(rows, ends, elses, heads, &Keeping, out) {
         None => Wrote {
             number: u8::from(Refusal::ShortOutput),
             length: 0,
@@ -52,5 +53,5 @@ pub fn hardens_to_lines(
     ensures { result ≡ same (hardened_bytes rows.now) lines.now }
 {
     let mut scratch = [0u8; 1280];
-    pass::pass(rows, ends, elses, heads, true, lines, &mut scratch).is_some()
+    pass::pass(rows, ends, elses, heads, &Comparing { lines }, &mut scratch).is_some()
 }

@@ -1,13 +1,13 @@
 // One pass over an accepted table for two uses: its lines are kept, one behind the other, or some rows at a time are made in a scratch and
-// compared with given bytes. One function for both, so that its words are in one frame, which begins after the table is checked.
-ghost use Rattle.std.specs.Prelude.{◌≡◌, true, ◌<◌, length};
+// compared with given bytes. Its words are in its own frame, which begins after the table is checked: so it is never compiled into a caller.
+ghost use Rattle.std.specs.Prelude.{◌≡◌, true, length};
 ghost use Rattle.rules.specs.Verdict.{Accepted};
 ghost use Rattle.rules.specs.Row.{table_of};
 ghost use Rattle.rules.specs.Check.{verdict_of};
 ghost use Rattle.rules.specs.Links.{Links};
-ghost use Rattle.hardener.specs.Pass.{fitting, Batch, Fit, MadeIs, PassedIs};
+ghost use Rattle.hardener.specs.Pass.{Fit, MadeIs, PassedIs};
 
-use crate::compare;
+use crate::uses::Use;
 use layout::linked::Linked;
 use layout::numbered::Numbered;
 use layout::row;
@@ -15,47 +15,20 @@ use layout::scope::{MAP, Scope};
 use line::Line;
 use rules::limits::{FUNCTIONS, ROWS};
 
-// How many rows are compared at a time: so many that the comparison is wide, so few that the scratch is short.
-const BATCH: usize = 32;
-
-// The number of rows that are made next, from row `from` of n on: all, where they are kept.
-fn batch(comparing: bool, from: usize, n: usize) -> usize
-    requires { from < n }
-    ensures { Batch comparing from n result }
-{
-    if comparing {
-        if BATCH < n - from {
-            return BATCH;
-        }
-        return n - from;
-    }
-    n - from
-}
-
-// Whether `size` bytes of lines can be what is asked for, by the lengths alone.
-fn fits(comparing: bool, size: usize, given: usize, room: usize) -> bool
-    ensures { result ≡ fitting comparing size given room }
-{
-    if comparing {
-        return given == size;
-    }
-    size <= room
-}
-
 // Makes the lines of all rows: whether they agree with the given ones.
-fn make(table: &Numbered, comparing: bool, lines: &[u8], out: &mut [u8]) -> bool
-    requires { Fit comparing table.now.linked.rows.now lines.now out.old }
-    ensures { MadeIs comparing table.now.linked.rows.now lines.now out.old out.new result }
+fn make<U: Use>(table: &Numbered, used: &U, out: &mut [u8]) -> bool
+    requires { Fit U.comparing table.now.linked.rows.now (U.given used.now) out.old }
+    ensures { MadeIs U.comparing table.now.linked.rows.now (U.given used.now) out.old out.new result }
 {
     let n = table.linked.rows.len() / row::WIDTH;
     let mut from = 0;
     // Kept as a while: where all rows are kept, the first batch is the last.
     while from < n {
-        let count = batch(comparing, from, n);
+        let count = used.batch(from, n);
         emit::emit_rows(table, from, count, out);
         let first = Line::WIDTH * usize::from(table.linked.line_of(from));
         let past = Line::WIDTH * usize::from(table.linked.line_of(from + count));
-        if !compare::agrees(comparing, out, lines, first, past) {
+        if !used.agrees(out, first, past) {
             return false;
         }
         from += count;
@@ -63,20 +36,20 @@ fn make(table: &Numbered, comparing: bool, lines: &[u8], out: &mut [u8]) -> bool
     true
 }
 
-// Hardens an accepted table whose links are known, to the front of out, where it fits there; or tells whether it hardens to `lines`. The
-// answer is the number of bytes of its lines; none where the output is too short, or where `lines` are others.
-pub fn pass(
+// Hardens an accepted table whose links are known, to the front of out, where it fits there; or tells whether it hardens to given
+// bytes. The answer is the number of bytes of its lines; none where the output is too short, or where the given bytes are others.
+#[inline(never)]
+pub fn pass<U: Use>(
     rows: &[u8],
     ends: &[u16; ROWS],
     elses: &[u16; ROWS],
     heads: &[u16; FUNCTIONS],
-    comparing: bool,
-    lines: &[u8],
+    used: &U,
     out: &mut [u8],
 ) -> Option<usize>
     requires rows_value { (verdict_of rows.now ≡ Accepted) × (Links (table_of rows.now) ends.now elses.now heads.now) }
-    requires out_len { comparing ≡ true → length out.old ≡ 1280 }
-    ensures { PassedIs comparing rows.now lines.now out.old out.new result }
+    requires out_len { U.comparing ≡ true → length out.old ≡ 1280 }
+    ensures { PassedIs U.comparing rows.now (U.given used.now) out.old out.new result }
 {
     let mut map = [Scope::OUTERMOST; MAP];
     let mut bases = [0u16; ROWS + 1];
@@ -90,7 +63,7 @@ pub fn pass(
         heads,
     };
     let size = Line::WIDTH * usize::from(linked.line_of(rows.len() / row::WIDTH));
-    if !fits(comparing, size, lines.len(), out.len()) {
+    if !used.fits(size, out.len()) {
         return None;
     }
     let table = Numbered {
@@ -98,7 +71,7 @@ pub fn pass(
         bases: &bases,
         values: &values,
     };
-    if make(&table, comparing, lines, out) {
+    if make(&table, used, out) {
         return Some(size);
     }
     None
