@@ -7,7 +7,6 @@ ghost use Rattle.rules.specs.Check.{verdict_of};
 ghost use Rattle.rules.specs.Links.{Links};
 ghost use Rattle.rules.specs.Match.{calls_in};
 ghost use Rattle.layout.specs.Spot.{Inside};
-ghost use Rattle.source.specs.Goes.{Known};
 ghost use Rattle.source.specs.Run.{parts_in, stopped_with, Going};
 ghost use Rattle.show.specs.Calls.{call_at, WalkedTo, CallsTold, spent_at};
 
@@ -17,6 +16,7 @@ use layout::row;
 use rows::kind::is_call;
 use rules::limits::{FUNCTIONS, ROWS, VARIABLES};
 use rules::step::Step;
+use source::table::Runnable;
 use source::{goes, run};
 use state::machine::{Machine, Registers, Stopped, begun};
 use std::fmt;
@@ -66,24 +66,23 @@ fn spent(m: Machine) -> Stopped
 }
 
 fn walk<W: fmt::Write>(
-    rows: &[u8],
-    goes: &[u16; ROWS],
+    table: Runnable,
     start: Machine,
     budget: u16,
     trace: &mut [u16],
     show: bool,
     page: &mut W,
 ) -> Walked
-    requires { (Known rows.now goes.now) × (Going rows.now budget (parts_in start trace.old)) }
-    ensures { WalkedTo (table_of rows.now) budget (parts_in start trace.old) (stopped_with result.stopped trace.new) result.calls }
+    requires { Going table.rows.now budget (parts_in start trace.old) }
+    ensures { WalkedTo (table_of table.entry.rows.now) budget (parts_in start trace.old) (stopped_with result.stopped trace.new) result.calls }
 {
     let mut m = start;
     let mut calls = 0;
     for _step in 0..budget {
         let h = m.registers;
-        list_step(rows, h, show, page);
-        let made = with_row(rows, h, calls);
-        let x = run::step(rows, goes, m, trace);
+        list_step(table.rows, h, show, page);
+        let made = with_row(table.rows, h, calls);
+        let x = run::step(table, m, trace);
         let s = x.step;
         let Step::Went(_) = s else {
             return Walked { stopped: x, calls };
@@ -116,7 +115,8 @@ fn tell_accepted<W: fmt::Write>(
 {
     let mut goes = [0u16; ROWS];
     goes::find(rows, ends, elses, heads, &mut goes);
-    let w = walk(rows, &goes, begun(1, variables), budget, trace, show, page);
+    let table = Runnable { rows, goes: &goes };
+    let w = walk(table, begun(1, variables), budget, trace, show, page);
     let x = w.stopped;
     let s = x.step;
     list_end(s, show, page);

@@ -18,6 +18,8 @@ use layout::{row, scope};
 use rules::kind::Kind;
 use rules::limits::{FUNCTIONS, ROWS};
 
+// Kept as numbers, for speed: each stands beside its place in one word, and a step tells what to do by a jump on it.
+
 // What a row does: it goes on at the next row.
 pub const NEXT: u16 = 0;
 

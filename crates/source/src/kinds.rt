@@ -1,15 +1,15 @@
 // What a row of each kind does.
-ghost use Rattle.std.specs.Prelude.{◌≡◌, suc, ◌+◌, ◌/◌, ◌<◌};
+ghost use Rattle.std.specs.Prelude.{◌≡◌, suc, ◌+◌, ◌<◌};
 ghost use Rattle.rules.specs.Limits.{max_rows, max_open};
-ghost use Rattle.rules.specs.Row.{table_of, operands_at};
+ghost use Rattle.rules.specs.Row.{table_of};
 ghost use Rattle.state.specs.Machine.{HasSlot, done};
 ghost use Rattle.state.specs.Open.{opened};
-ghost use Rattle.source.specs.Goes.{go_of_lem, code_of, Known};
+ghost use Rattle.source.specs.Goes.{code_of};
 ghost use Rattle.source.specs.Step.{goes_to_lem, Standing, after_do_lem, after_test, after_jump, after_return, after_end, after_call};
 
+use crate::table::Runnable;
 use layout::row;
-use rules::limits::{DEEPEST, OPEN, ROWS, VARIABLES};
-use rules::operands::Operands;
+use rules::limits::{DEEPEST, OPEN, VARIABLES};
 use rules::step::Step;
 use state::machine::{Moved, Registers, standing, stay};
 use state::open::{opening, returning};
@@ -30,73 +30,37 @@ pub fn next_row(h: Registers) -> Moved
     to_row(h.at + 1, h)
 }
 
-// Where the row goes that the run stands at.
-fn go_of(rows: &[u8], goes: &[u16; ROWS], h: Registers) -> u16
-    requires { (Standing rows.now h) × (Known rows.now goes.now) }
-    ensures { result ≡ go_of_lem (table_of rows.now) h.at }
-{
-    goes[usize::from(h.at)] % 4096
-}
-
-// What it does.
-pub fn code_of(rows: &[u8], goes: &[u16; ROWS], h: Registers) -> u16
-    requires { (Standing rows.now h) × (Known rows.now goes.now) }
-    ensures { result ≡ code_of (table_of rows.now) h.at }
-{
-    goes[usize::from(h.at)] / 4096
-}
-
-// Its fields. The caller knows its op and hands it on as a number that the compiler sees, so that nothing is left of the tests of it.
-fn fields(rows: &[u8], h: Registers, op: u8) -> Operands
-    requires { (Standing rows.now h) × ((operands_at (table_of rows.now) h.at).op ≡ op) }
-    ensures { result ≡ operands_at (table_of rows.now) h.at }
-{
-    let o = row::operands_of(rows, usize::from(h.at));
-    Operands {
-        op,
-        p: o.p,
-        q: o.q,
-        n: o.n,
-    }
-}
-
 // The row is done, and goes into the trace; one that overflows ends the run.
 pub fn do_row(
     op: u8,
-    rows: &[u8],
+    table: Runnable,
     h: Registers,
     variables: &mut [u16; VARIABLES],
     trace: &mut [u16],
 ) -> Moved
-    requires { (Standing rows.now h) × (code_of (table_of rows.now) h.at ≡ op + 1) × (op < 4) × (HasSlot h trace.old) }
-    ensures { done result variables.new trace.new ≡ after_do_lem (table_of rows.now) h variables.old trace.old }
+    requires { (Standing table.rows.now h) × (code_of (table_of table.rows.now) h.at ≡ op + 1) × (op < 4) × (HasSlot h trace.old) }
+    ensures { done result variables.new trace.new ≡ after_do_lem (table_of table.entry.rows.now) h variables.old trace.old }
 {
-    trace::act(fields(rows, h, op), h.at, h, variables, trace)
+    trace::act(table.fields(h, op), h.at, h, variables, trace)
 }
 
 // An if or a loop: into its part where the test holds.
-pub fn test_row(
-    op: u8,
-    rows: &[u8],
-    goes: &[u16; ROWS],
-    h: Registers,
-    variables: &[u16; VARIABLES],
-) -> Moved
-    requires { (Standing rows.now h) × (Known rows.now goes.now) × (code_of (table_of rows.now) h.at ≡ op + 5) × (op < 3) }
-    ensures { result ≡ after_test (table_of rows.now) h variables.now }
+pub fn test_row(op: u8, table: Runnable, h: Registers, variables: &[u16; VARIABLES]) -> Moved
+    requires { (Standing table.rows.now h) × (code_of (table_of table.rows.now) h.at ≡ op + 5) × (op < 3) }
+    ensures { result ≡ after_test (table_of table.entry.rows.now) h variables.now }
 {
-    if variables::holds(fields(rows, h, op), variables) {
+    if variables::holds(table.fields(h, op), variables) {
         return next_row(h);
     }
-    to_row(go_of(rows, goes, h), h)
+    to_row(table.go_of(h), h)
 }
 
 // An else, a break or a continue.
-pub fn jump_row(rows: &[u8], goes: &[u16; ROWS], h: Registers) -> Moved
-    requires { (Standing rows.now h) × (Known rows.now goes.now) }
-    ensures { result ≡ after_jump (table_of rows.now) h }
+pub fn jump_row(table: Runnable, h: Registers) -> Moved
+    requires { Standing table.rows.now h }
+    ensures { result ≡ after_jump (table_of table.entry.rows.now) h }
 {
-    to_row(go_of(rows, goes, h), h)
+    to_row(table.go_of(h), h)
 }
 
 // The running function returns to the one that waited last, or the run is finished.
@@ -112,16 +76,15 @@ fn returned(h: Registers, resumes: &[u16; OPEN], functions: &[u8; OPEN]) -> Move
 
 // The end of a function, of a loop, or of an if.
 pub fn end_row(
-    rows: &[u8],
-    goes: &[u16; ROWS],
+    table: Runnable,
     h: Registers,
     resumes: &[u16; OPEN],
     functions: &[u8; OPEN],
 ) -> Moved
-    requires { (Standing rows.now h) × (Known rows.now goes.now) × (h.depth < max_open) }
-    ensures { result ≡ after_end (table_of rows.now) h resumes.now functions.now }
+    requires { (Standing table.rows.now h) × (h.depth < max_open) }
+    ensures { result ≡ after_end (table_of table.entry.rows.now) h resumes.now functions.now }
 {
-    let k = go_of(rows, goes, h);
+    let k = table.go_of(h);
     if k == 0 {
         return returned(h, resumes, functions);
     }
@@ -130,19 +93,18 @@ pub fn end_row(
 
 // The running function waits at the next row, and the callee opens; the call that is one too many is not made.
 pub fn call_row(
-    rows: &[u8],
-    goes: &[u16; ROWS],
+    table: Runnable,
     h: Registers,
     resumes: &mut [u16; OPEN],
     functions: &mut [u8; OPEN],
 ) -> Moved
-    requires standing { (Standing rows.now h) × (Known rows.now goes.now) }
-    requires at_value { (code_of (table_of rows.now) h.at ≡ 10) × (h.depth < max_open) }
-    ensures { opened result resumes.new functions.new ≡ after_call (table_of rows.now) h resumes.old functions.old }
+    requires standing { Standing table.rows.now h }
+    requires at_value { (code_of (table_of table.rows.now) h.at ≡ 10) × (h.depth < max_open) }
+    ensures { opened result resumes.new functions.new ≡ after_call (table_of table.entry.rows.now) h resumes.old functions.old }
 {
     if DEEPEST <= h.depth + 1 {
         return stay(Step::TooManyOpen(DEEPEST), standing(h, h.at, h.steps));
     }
-    let o = row::operands_of(rows, usize::from(h.at));
-    opening(h, o.n as u8, go_of(rows, goes, h), resumes, functions)
+    let o = row::operands_of(table.rows, usize::from(h.at));
+    opening(h, o.n as u8, table.go_of(h), resumes, functions)
 }

@@ -10,6 +10,7 @@ ghost use Rattle.rules.specs.Source.{source_run};
 ghost use Rattle.rules.specs.Calls.{running};
 ghost use Rattle.source.specs.Run.{ran_with};
 
+use crate::table::Runnable;
 use rules::answer::Ran;
 use rules::limits::{FUNCTIONS, ROWS, VARIABLES};
 use state::answer::answer;
@@ -19,6 +20,7 @@ pub mod goes;
 pub mod kinds;
 pub mod run;
 pub mod step;
+pub mod table;
 
 // Runs the table for at most as many steps as the budget, and puts the rows of its dos at the front of the trace.
 pub fn run_linked(
@@ -37,5 +39,6 @@ pub fn run_linked(
 {
     let mut goes = [0u16; ROWS];
     goes::find(rows, ends, elses, heads, &mut goes);
-    answer(run::run_rows(rows, &goes, begun(1, variables), budget, trace))
+    let table = Runnable { rows, goes: &goes };
+    answer(run::run_rows(table, begun(1, variables), budget, trace))
 }

@@ -1,22 +1,15 @@
 // A run of at most as many steps as its budget.
-ghost use Rattle.source.specs.Goes.{Known};
 ghost use Rattle.source.specs.Run.{parts_in, stopped_with, Going, Ended};
 
 use crate::step;
-use rules::limits::ROWS;
+use crate::table::Runnable;
 use rules::step::Step;
 use state::machine::{Machine, Stopped, at_end, standing};
 
 // Takes the machine apart, so that its registers stay in those of the processor, and puts it together where it stops.
-pub fn run_rows(
-    rows: &[u8],
-    goes: &[u16; ROWS],
-    start: Machine,
-    budget: u16,
-    trace: &mut [u16],
-) -> Stopped
-    requires { (Known rows.now goes.now) × (Going rows.now budget (parts_in start trace.old)) }
-    ensures { Ended rows.now budget (parts_in start trace.old) (stopped_with result trace.new) }
+pub fn run_rows(table: Runnable, start: Machine, budget: u16, trace: &mut [u16]) -> Stopped
+    requires { Going table.rows.now budget (parts_in start trace.old) }
+    ensures { Ended table.entry.rows.now budget (parts_in start trace.old) (stopped_with result trace.new) }
 {
     let mut resumes = start.resumes;
     let mut functions = start.functions;
@@ -25,8 +18,7 @@ pub fn run_rows(
     for _ in 0..budget {
         let steps = h.steps + 1;
         let t = step::row(
-            rows,
-            goes,
+            table,
             h,
             &mut resumes,
             &mut functions,
@@ -44,9 +36,9 @@ pub fn run_rows(
 }
 
 // One step is a run of one.
-pub fn step(rows: &[u8], goes: &[u16; ROWS], machine: Machine, trace: &mut [u16]) -> Stopped
-    requires { (Known rows.now goes.now) × (Going rows.now 1 (parts_in machine trace.old)) }
-    ensures { Ended rows.now 1 (parts_in machine trace.old) (stopped_with result trace.new) }
+pub fn step(table: Runnable, machine: Machine, trace: &mut [u16]) -> Stopped
+    requires { Going table.rows.now 1 (parts_in machine trace.old) }
+    ensures { Ended table.entry.rows.now 1 (parts_in machine trace.old) (stopped_with result trace.new) }
 {
-    run_rows(rows, goes, machine, 1, trace)
+    run_rows(table, machine, 1, trace)
 }

@@ -5,7 +5,7 @@ use Rattle.show.proofs.source_steps.tell_accepted.Goals as goal
 
 pub walk-w-requires : goal.walk-w-requires
 walk-w-requires g c =
-    (c.find.ensures, starts c.requires.rows_value c.requires.budget_in_bounds (omega (arith, c.ranges)) c.begun.ensures)
+    starts c.requires.rows_value c.requires.budget_in_bounds (omega (arith, c.ranges)) c.begun.ensures
 
 pub returns : goal.returns
 returns g c = c.walk-w.ensures.calls_are ∙ calls-first _ _ _ _ _ c.begun.ensures

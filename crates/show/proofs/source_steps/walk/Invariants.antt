@@ -5,4 +5,4 @@ use Rattle.show.proofs.source_steps.walk.Given as goal
 
 abbrev pub invariant-loop-step : goal.invariant-loop-step
 invariant-loop-step g l =
-    Walking l.rows l.budget (parts_in l.initial.m l.initial.trace) (l.budget - l._step) l.calls (parts_in l.m l.trace)
+    Walking l.table.rows.now l.budget (parts_in l.initial.m l.initial.trace) (l.budget - l._step) l.calls (parts_in l.m l.trace)

@@ -1,9 +1,6 @@
 use native.Mathlib.Omega.{arith}
-use Rattle.source.proofs.Targets.{end-in, end_low}
+use Rattle.source.proofs.Targets.{end_low}
 use Rattle.source.proofs.goes.past.Goals as goal
-
-pub bounds-table-o : goal.bounds-table-o
-bounds-table-o c = end-in c.args.table.now.surveyed.accepted c.args.table.now.ends_known c.requires
 
 pub overflow_add-result : goal.overflow_add-result
 overflow_add-result c = omega (arith, end_low c.args.table.now.surveyed.accepted c.args.table.now.ends_known c.requires)

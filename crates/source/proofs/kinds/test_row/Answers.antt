@@ -2,10 +2,10 @@ use Rattle.source.proofs.Answers.{low, test_op, operands-in, test-variables, tes
 use Rattle.source.proofs.kinds.test_row.Goals as goal
 
 pub fields-requires : goal.fields-requires
-fields-requires c = (c.requires.0, test_op c.requires.0 c.requires.2 c.requires.3)
+fields-requires c = (c.requires.0, test_op c.requires.0 c.requires.1 c.requires.2)
 
 pub holds-requires : goal.holds-requires
-holds-requires c = operands-in c.requires.0 (test-variables c.requires.0 (record { each = λ j. (c.type_inv.rows j).fits }) c.requires.2 c.requires.3) c.fields.ensures
+holds-requires c = operands-in c.requires.0 (test-variables c.requires.0 c.args.table.bytes c.requires.1 c.requires.2) c.fields.ensures
 
 pub next_row-requires : goal.next_row-requires
 next_row-requires c = low c.requires.0

@@ -1,0 +1,9 @@
+use native.Mathlib.Omega.{arith}
+use Rattle.source.proofs.Answers.{low, goes_to}
+use Rattle.source.proofs.table.Runnable.go_of.Goals as goal
+
+pub bounds-self-from : goal.bounds-self-from
+bounds-self-from c = omega (arith, low c.requires, c.from.ensures)
+
+pub returns : goal.returns
+returns c = goes_to c.requires c.args.self.known c.from.ensures
