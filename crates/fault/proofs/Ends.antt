@@ -42,6 +42,19 @@ use Rattle.fault.specs.Found.{Passed, Found, fault_at, nothing, end_of, last_of,
 abbrev counts_of : Standing → Things → Counted
 counts_of s t = record { functions = s.count; rows = t.chained; long = t.long }
 
+-- ---- what the derived defaults give
+pub standing-none : {s : Standing} → (s.depth ≡ 0) × ((s.loops ≡ 0) × ((s.opened ≡ 0) × (s.count ≡ 0))) → s ≡ none
+standing-none {s} e = by s.depth s.loops s.opened s.count e.0 e.1.0 e.1.1.0 e.1.1.1
+  where
+    by : (d l o c : ℕ) → d ≡ 0 → l ≡ 0 → o ≡ 0 → c ≡ 0 → record { depth = d; loops = l; opened = o; count = c } ≡ none
+    by d l o c p q r z = rw (p, q, r, z)
+
+pub things-nothing : {t : Things} → (t.count ≡ 0) × ((t.cases ≡ 0) × ((t.chained ≡ 0) × (t.long ≡ 0))) → t ≡ nothing
+things-nothing {t} e = by t.count t.cases t.chained t.long e.0 e.1.0 e.1.1.0 e.1.1.1
+  where
+    by : (n c d l : ℕ) → n ≡ 0 → c ≡ 0 → d ≡ 0 → l ≡ 0 → record { count = n; cases = c; chained = d; long = l } ≡ nothing
+    by n c d l p q r z = rw (p, q, r, z)
+
 -- ---- the pass over the rows, up to row `at`
 pub record PassTo (bs out₀ : List ℕ) (at : ℕ) (s : Standing) (ps : List ℕ) (t : Things) (ms vs us out : List ℕ) : Type 0 where
   pub le : row_width * at ≤ length bs

@@ -2,8 +2,7 @@
 ghost use Rattle.std.specs.Prelude.{◌≡◌, ◌*◌, ◌≤◌, length};
 ghost use Rattle.rules.specs.Limits.{max_rows};
 ghost use Rattle.rules.specs.Row.{row_width};
-ghost use Rattle.scan.specs.Standing.{none};
-ghost use Rattle.fault.specs.Found.{nothing, end_of, PassedOk};
+ghost use Rattle.fault.specs.Found.{end_of, PassedOk};
 
 use given::row::row;
 use given::things::Things;
@@ -35,29 +34,6 @@ pub struct Counted {
     pub long: usize,
 }
 
-// Nothing is open before row 0.
-fn start() -> Standing
-    ensures { result ≡ none }
-{
-    Standing {
-        depth: 0,
-        loops: 0,
-        opened: 0,
-        count: 0,
-    }
-}
-
-fn no_things() -> Things
-    ensures { result ≡ nothing }
-{
-    Things {
-        count: 0,
-        cases: 0,
-        chained: 0,
-        long: 0,
-    }
-}
-
 // The end of the table, which is row `at`.
 fn end(s: Standing, t: Things, at: usize) -> Result<Counted, TableFault>
     ensures { result ≡ end_of s t at }
@@ -84,8 +60,9 @@ pub fn rows(rows: &[u8], chain: &mut [u8]) -> Result<Counted, TableFault>
     let mut marks = [0u8; ROWS];
     let mut vars = [0u8; ROWS];
     let mut used = [0u16; CONSTRUCTS + 1];
-    let mut s = start();
-    let mut t = no_things();
+    // Nothing is open before row 0.
+    let mut s = Standing::default();
+    let mut t = Things::default();
     let count = rows.len() / WIDTH;
     for at in 0..count {
         match row(

@@ -89,7 +89,7 @@ fn take(
     Ok((parts_after, things_after(t, p, at)))
 }
 
-// A row that is no do and no case.
+// A row that is no do and no case: those have a path of their own, for speed (docs/SPEED.md).
 fn other_row(
     rows: &[u8],
     at: usize,
@@ -188,7 +188,7 @@ fn take_case(
     Ok((parts_after, things_after(t, p, at)))
 }
 
-// Row `at`, a case.
+// Row `at`, a case. Kept beside `other_row`: a case has a path of its own, for speed (docs/SPEED.md).
 fn case_row(
     rows: &[u8],
     at: usize,
@@ -215,7 +215,8 @@ fn case_row(
     take_case(rows, at, top, number, s, t, parts, marks, vars, used, chain)
 }
 
-// Row `at`.
+// Row `at`. The buffers are kept one by one: with one struct of the four, lent, all proved, but 1,024 rows of dos took 6.0 for 4.6 µs, and
+// 512 of cases and dos 5.3 for 4.4.
 pub fn row(
     rows: &[u8],
     at: usize,

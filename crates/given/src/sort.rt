@@ -10,7 +10,7 @@ use rules::kind::Kind;
 
 #[derive(Clone, Copy)]
 pub enum Sort {
-    // A kind that is none, or a field that is wrong.
+    // A kind that is none, or a field that is wrong. Kept as a case: it is one of 02's own table, and the definitions name it (own_sort, cause_of).
     Wrong,
     Plain(Kind),
     Switch,

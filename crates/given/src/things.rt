@@ -8,7 +8,7 @@ use rules::limits::{CONSTRUCTS, ROWS};
 // A mark for each open thing, the outermost first: 0 for a function, an if or a loop; for a switch twice its cases and 1, in its default
 // 1 more. Kept as a number: the definitions count a switch's cases by it (mark_of, marked_cases). Beside it a switch's variable; and the
 // numbers of the cases of all open switches, the outermost first, in one array.
-#[derive(Clone, Copy)]
+#[derive(Clone, Copy, Default)]
 pub struct Things {
     // The open things, and the cases of all open switches.
     pub count: usize,

@@ -10,7 +10,7 @@ use rules::refusal::Refusal;
 
 // The open parts and the loop bodies among them, the regions opened in the running function, and the functions opened.
 // Beside it goes a byte for each open part, the function's body first: the kind byte of the row that opened it.
-#[derive(Clone, Copy)]
+#[derive(Clone, Copy, Default)]
 pub struct Standing {
     pub depth: usize,
     pub loops: usize,

@@ -1,12 +1,12 @@
 use Rattle.std.proofs.Common.{◌≡◌, ◌∙◌, ap, ◌/◌, length}
 use Rattle.fault.specs.Found.{end_of}
 use native.Mathlib.Omega.{arith}
-use Rattle.fault.proofs.Ends.{pass-start, pass-stopped, pass_end}
+use Rattle.fault.proofs.Ends.{standing-none, things-nothing, pass-start, pass-stopped, pass_end}
 use mathlib.Core.Path.{refl}
 use Rattle.fault.proofs.pass.rows.Goals as goal
 
 pub loop-at-init : goal.loop-at-init
-loop-at-init c = pass-start c.requires refl refl refl refl c.start-s.ensures c.no_things-t.ensures
+loop-at-init c = pass-start c.requires refl refl refl refl (standing-none c.default-s.ensures) (things-nothing c.default-t.ensures)
 
 pub returns-in-Err : goal.returns-in-Err
 returns-in-Err c = pass-stopped c.loop-at.invariant (omega arith) c.row.ensures c.in-Err.is
