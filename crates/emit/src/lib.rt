@@ -37,6 +37,8 @@ fn two(table: &Numbered, i: usize, first: usize, l: Line, k: Line, out: &mut [u8
 }
 
 // Writes the lines of row i to out, which begins with line `first`.
+// Compiled into `emit_rows`, as that says.
+#[inline(always)]
 fn emit(table: &Numbered, i: usize, first: usize, out: &mut [u8])
     requires { (i < length table.now.linked.rows.now / 6) × (Holds table.now.linked.rows.now i first out.old) }
     ensures { Emitted table.now.linked.rows.now i first out.old out.new }
@@ -81,6 +83,8 @@ fn emit(table: &Numbered, i: usize, first: usize, out: &mut [u8])
 }
 
 // Writes the lines of `count` rows from row `from` on to the front of out.
+// Compiled into each of the hardener's two passes: as a call it is slower and takes more stack.
+#[inline(always)]
 pub fn emit_rows(table: &Numbered, from: usize, count: usize, out: &mut [u8])
     requires { Room table.now.linked.rows.now from count out.old }
     ensures { out.new ≡ over (rows_bytes (table_of table.now.linked.rows.now) from count) out.old }
