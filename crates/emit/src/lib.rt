@@ -12,7 +12,7 @@ use layout::row;
 use line::Line;
 use rules::kind::Kind;
 
-pub mod lines;
+mod lines;
 
 // Writes the one line of row i. Where it goes is looked up here, for each kind by itself: looked up once for all kinds, their writing is
 // compiled into one piece, which is slower.

@@ -27,7 +27,7 @@ use rules::limits::VARIABLES;
 use rules::refusal::Refusal;
 use table::links::TableLinks;
 
-// The number that the bytes get as a source table: 0 where hardening accepts them.
+// The number that the bytes get as a source table: 0 where hardening accepts them. A number, and no Result: so C has it.
 pub fn check(rows: &[u8]) -> u8
     ensures { result ≡ check_call rows.now }
 {
@@ -122,7 +122,7 @@ pub fn harden(rows: &[u8], out: &mut [u8]) -> Wrote
     }
 }
 
-// The number that the bytes get as a hardened table: 0 where some source table hardens to them, else 10.
+// The number that the bytes get as a hardened table: 0 where some source table hardens to them, else 10. A number, as `check` gives.
 pub fn check_hardened(lines: &[u8]) -> u8
     ensures { CheckHardenedPromise lines.now result }
 {
@@ -176,6 +176,7 @@ pub fn run_source(rows: &[u8], variables: [u16; VARIABLES], budget: u16, trace: 
     }
 }
 
+// Slots, counters, variables and budget come one by one here and below, as C lends them.
 // Runs a hardened table with a jump before step `step` to `place`; step 65,535 is no jump. The first 1,024 counter words are 0
 // afterwards.
 pub fn run_hardened(
@@ -213,7 +214,7 @@ pub fn sweep(
     sweeper::call::refused(Refusal::NotHardened)
 }
 
-// Whether any of these runs finishes with another trace: it stops at the first.
+// Whether any of these runs finishes with another trace: it stops at the first. Not one function with `sweep`: C has a struct for each.
 pub fn sweep_other(
     lines: &[u8],
     variables: [u16; VARIABLES],

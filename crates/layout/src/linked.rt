@@ -99,7 +99,7 @@ impl Linked<'_> {
         usize::from(here.opener)
     }
 
-    // The row of the innermost loop around row i.
+    // The row of the innermost loop around row i. As short as `opener_of`, by another field.
     pub fn loop_of(&self, i: usize) -> usize
         requires { InLoop self.now.rows.now i }
         ensures { LoopIs self.now.rows.now i result }

@@ -6,7 +6,7 @@ ghost use Rattle.rules.specs.Check.{is_call};
 use rules::kind::Kind;
 pub use rules::kind::{BREAK, CALL, CONTINUE, DO, ELSE, END, FUNCTION, IF, LOOP};
 
-// Those of a switch's own rows (02, No. 1), which are no kinds of 01.
+// Bytes and no enum: a row may have any byte, and one that is none is told (cause 3). Those of a switch's own rows (02, No. 1), which are no kinds of 01.
 pub const SWITCH: u8 = 0x0a;
 
 pub const CASE: u8 = 0x0b;

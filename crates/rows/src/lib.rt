@@ -3,7 +3,7 @@
 
 pub mod dos;
 pub mod first;
-pub mod fits;
+mod fits;
 pub mod kind;
 pub mod row;
 

@@ -59,7 +59,7 @@ impl Row {
         }
     }
 
-    // Puts the row from byte `at` on: the byte behind it.
+    // Puts the row from byte `at` on: the byte behind it. A place and a buffer side by side: `Added` says just that of them.
     pub fn write(self, rows: &mut [u8], at: usize) -> usize
         requires { at + 6 ≤ length rows.old }
         ensures { Added (six self) rows.old rows.new at result }

@@ -28,7 +28,7 @@ pub fn plain(s: Standing) -> Result<Standing, Refusal>
     Ok(s)
 }
 
-// A break or a continue.
+// A break or a continue. As short as `plain`, by another number.
 fn jump(s: Standing) -> Result<Standing, Refusal>
     ensures { JumpOk s result }
 {

@@ -34,7 +34,7 @@ fn run_mapped(
     answer(x)
 }
 
-// Runs a hardened table. The counter words that it uses are 0 afterwards.
+// Runs a hardened table. The counter words that it uses are 0 afterwards. Slots and counters are lent one by one, as C lends them.
 pub fn run_table(
     lines: &[u8],
     variables: [u16; VARIABLES],

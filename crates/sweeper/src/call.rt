@@ -1,4 +1,4 @@
-// The two calls on bytes that are a hardened table: 9, then 13.
+// The two calls on bytes that are a hardened table: 9, then 13. Two of each function here, and two sweeps in table.rt: C has a struct for each.
 ghost use Rattle.std.specs.Prelude.{◌≡◌, true};
 ghost use Rattle.rules.specs.ReadBack.{is_hardened_lem};
 ghost use Rattle.rules.specs.SweepCall.{sweep_call, sweep_other_call};

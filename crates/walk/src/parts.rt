@@ -93,7 +93,7 @@ fn construct(
     }
 }
 
-// The if in row `base`.
+// The if in row `base`. A function beside `loop_part`: made one, the walkers take more stack (docs/DECISIONS.md).
 #[cycle(walker)]
 fn if_part(
     rows: &[u8],
