@@ -4,6 +4,7 @@ ghost use Rattle.std.specs.Prelude.{◌≡◌, ◌≤◌, length};
 use crate::word;
 use crate::word::Word;
 use crate::wrong::Expected;
+use console::word::is;
 use rules::limits::VARIABLES;
 use std::env::{Env, FillError};
 
@@ -182,11 +183,13 @@ pub fn read(rt: &impl Env, buffer: &mut [u8]) -> Result<Asked, Fault>
 fn read_first(rt: &impl Env, n: usize, buffer: &mut [u8]) -> Result<Asked, Fault>
     requires { (4096 ≡ length buffer.old) × (n ≤ 4096) }
 {
-    match &buffer[..n] {
-        b"source" => read_rest(rt, 2, Asked::begun(Mode::Source), buffer),
-        b"hardened" => read_rest(rt, 2, Asked::begun(Mode::Hardened), buffer),
-        _ => Err(wrong(Expected::Run, n)),
+    if is(&buffer[..n], b"source") {
+        return read_rest(rt, 2, Asked::begun(Mode::Source), buffer);
     }
+    if is(&buffer[..n], b"hardened") {
+        return read_rest(rt, 2, Asked::begun(Mode::Hardened), buffer);
+    }
+    Err(wrong(Expected::Run, n))
 }
 
 // The words from the one with this number on, which is 2 in a run and 1 in a sweep.

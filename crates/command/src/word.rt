@@ -2,7 +2,7 @@
 use crate::arguments::{Jump, Mode};
 use crate::wrong::Expected;
 use console::number::decimal;
-use console::word::skip;
+use console::word::{is, skip};
 
 // The largest number of a function.
 const LAST_FUNCTION: u16 = 31;
@@ -28,10 +28,11 @@ pub fn read(word: &[u8], mode: Mode) -> Result<Word, Expected> {
 }
 
 fn of_sweep(word: &[u8]) -> Result<Word, Expected> {
-    match word {
-        b"list" => return Ok(Word::List),
-        b"map" => return Ok(Word::Map),
-        _ => {}
+    if is(word, b"list") {
+        return Ok(Word::List);
+    }
+    if is(word, b"map") {
+        return Ok(Word::Map);
     }
     match skip(word, b"function=") {
         Some(text) => function(text).ok_or(Expected::Function),
@@ -40,10 +41,11 @@ fn of_sweep(word: &[u8]) -> Result<Word, Expected> {
 }
 
 fn of_run(word: &[u8]) -> Result<Word, Expected> {
-    match word {
-        b"trace" => return Ok(Word::Trace),
-        b"show" => return Ok(Word::Show),
-        _ => {}
+    if is(word, b"trace") {
+        return Ok(Word::Trace);
+    }
+    if is(word, b"show") {
+        return Ok(Word::Show);
     }
     match skip(word, b"jump=") {
         Some(text) => jump(text).ok_or(Expected::Jump),

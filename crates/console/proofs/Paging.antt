@@ -1,7 +1,10 @@
 -- What the page of standard output holds after a byte, and after one text behind another. Assumes nothing.
-use Rattle.std.proofs.Common.{◌≡◌, ℕ, ◌+◌, ◌-◌, ◌%◌, ◌<◌, ◌≤◌, Option, Some, None, unwrap_or, List, [], ◌∷◌, ◌++◌, length, get_or, take, drop, set, sym, refl, ap, ◌∙◌, append_assoc, append-nil, add-one, arith, length-append, length-set, length-take-le, take_all, take-suc, drop-drop, drop_at}
-use native.Mathlib.Nat.{add-mod}
-use lib.Seq.{drop-append-le}
+use Rattle.std.proofs.Common.{◌≡◌, ℕ, ◌+◌, ◌-◌, ◌%◌, ◌<◌, ◌≤◌, Option, Some, None, unwrap_or, List, [], ◌∷◌, ◌++◌, length, get_or, take, drop, set, sym, refl, ap, ◌∙◌, append_assoc, append-nil, add-one, arith, length-append, length-drop, length-set, length-take-le, take_all, take-suc, drop-drop, drop_at}
+use native.Mathlib.Nat.{add-mod, min-le_right}
+use lib.Seq.{drop-append-le, sets, sets-eq}
+use borrow.Rule.Slice.PartMut.{mid_of, put_mid, same_len_mid}
+use Rattle.std.proofs.lemmas.List.{length-take, take-append-drop}
+use Rattle.std.proofs.lemmas.Slice.{take-put_mid}
 use Rattle.io.specs.Digits.{last_digits, IsDigitCount}
 use Rattle.text.proofs.Putting.{puts_none, puts-more}
 use Rattle.console.specs.Page.{Stored, Printed, Named}
@@ -98,6 +101,34 @@ module _ {b at : ℕ} {text : List ℕ} where
 pub printed_anew : (b : ℕ) {at : ℕ} {held : Option ℕ} {text then : List ℕ} → held ≡ Some at → Within held → 65536 ≤ at → then ≡ text
     → Printed (b ∷ []) held text (set then 0 b) (Some 1)
 printed_anew b e w h s = rw (s, e) (stored-anew (rw e at w) h)
+
+-- ---- a text that fits, in one piece
+room : (k at : ℕ) (text : List ℕ) → 0 < k → k ≡ length (mid_of at k text) → at + k ≤ length text
+room k at text h e = omega (arith, e, length-take k (drop at text), min-le_right k (length (drop at text)), length-drop at text)
+
+placed : (w text : List ℕ) (at : ℕ) → length w ≡ length (mid_of at (length w) text) → put_mid at (length w) text w ≡ sets text at w
+placed [] text at e = take-append-drop at text
+placed (b ∷ w) text at e =
+    ap (λ l. take at text ++ ((b ∷ w) ++ l)) (drop-drop (length (b ∷ w)) at text)
+    ∙ sym (append_assoc (take at text) (b ∷ w) (drop (at + length (b ∷ w)) text))
+    ∙ sym (sets-eq (b ∷ w) text at (room (length (b ∷ w)) at text (omega arith) e))
+
+stored-here : (w text : List ℕ) (at : ℕ) → at + length w ≤ 65536 → length w ≡ length (mid_of at (length w) text)
+    → Stored w at text (put_mid at (length w) text w) (at + length w)
+stored-here w text at h e =
+    let none : at + length w - (at + length w) ≡ 0 = omega arith in
+    record {
+      fits = λ _. record { after_is = placed w text at e; next_is = refl };
+      no_more = omega arith;
+      holds = λ l. rw none (take-put_mid at (length w) text w (at + length w) refl (omega arith));
+      whole = rw none;
+      bounded = h;
+      same_length = same_len_mid at (length w) text w e;
+    }
+
+pub printed-here : {w mid : List ℕ} {at k : ℕ} {held : Option ℕ} (text : List ℕ) → held ≡ Some at → at + length w ≤ 65536 → k ≡ length w
+    → length mid ≡ length (mid_of at k text) → mid ≡ w → Printed w held text (put_mid at k text mid) (Some (at + length w))
+printed-here {w} {at = at} text s h k e m = rw (s, k, m) (stored-here w text at h (rw (k, m) at e))
 
 -- ---- what the loop keeps: the first i bytes of the word are printed
 pub record Upto (word : List ℕ) (held : Option ℕ) (before after : List ℕ) (next : Option ℕ) (i : ℕ) : Type 0 where

@@ -1,4 +1,6 @@
 // A read or a write that failed: standard error has what it was, and the system's words.
+ghost use Rattle.std.specs.Prelude.{◌≡◌, length, take};
+
 use crate::output::front;
 use crate::standard_error::StandardError;
 use std::fmt::Write as _;
@@ -16,7 +18,9 @@ pub fn tell(what: &str, error: Error) {
 }
 
 // The system's words: std puts ` (os error N)` behind them.
-fn words(text: &[u8]) -> &[u8] {
+fn words(text: &[u8]) -> &[u8]
+    ensures { result.now ≡ take (length result.now) text.now }
+{
     match text.iter().position(|b| *b == b'(') {
         Some(at) => &text[..at.saturating_sub(1)],
         None => text,

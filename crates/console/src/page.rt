@@ -1,6 +1,6 @@
 // Standard output by way of a page of 65,536 bytes, which is written out whenever it is full. Where that fails output is lost: what
 // comes after is dropped.
-ghost use Rattle.std.specs.Prelude.{◌≡◌, ◌≤◌, ◌↔◌, [], ◌∷◌, Some, None, unwrap_or, IsOk, IsSome};
+ghost use Rattle.std.specs.Prelude.{◌≡◌, ◌≤◌, ◌+◌, ◌↔◌, [], ◌∷◌, length, Some, None, unwrap_or, IsOk, IsSome};
 ghost use Rattle.console.specs.Page.{Printed, Named, Flushed};
 
 use crate::output;
@@ -48,12 +48,28 @@ impl<'a, P: Print> Page<'a, P> {
         }
     }
 
+    // In one piece where it fits, as nearly all does.
     pub fn word(&mut self, w: &[u8])
         ensures { Printed w.now self.old.held self.old.text self.new.text self.new.held }
     {
+        if let Some(at) = self.held {
+            if w.len() <= SIZE - at {
+                self.add(at, w);
+                return;
+            }
+        }
         for b in w {
             self.put(*b);
         }
+    }
+
+    fn add(&mut self, at: usize, w: &[u8])
+        requires { (self.old.held ≡ Some at) × (at + length w.now ≤ 65536) }
+        ensures { Printed w.now self.old.held self.old.text self.new.text self.new.held }
+    {
+        let past = at + w.len();
+        self.text[at..past].copy_from_slice(w);
+        self.held = Some(past);
     }
 
     // By hand, since what write! promises of an error is nothing, and Named says what then holds.

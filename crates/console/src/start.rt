@@ -1,12 +1,12 @@
 // How a program begins: it reads its input, or prints its usage and reads none.
-use crate::output;
+use crate::{output, word};
 use std::env::{Env, FillError};
 
 // Whether the first word is `--help`. A longer word does not fit, and is read as none.
 pub fn asks_help(rt: &impl Env) -> bool {
     let mut buffer = [0u8; 8];
     match rt.arg(1, &mut buffer) {
-        Ok(n) => matches!(&buffer[..n], b"--help"),
+        Ok(n) => word::is(&buffer[..n], b"--help"),
         Err(_) => false,
     }
 }

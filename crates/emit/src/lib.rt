@@ -12,7 +12,7 @@ use layout::row;
 use line::Line;
 use rules::kind::Kind;
 
-mod lines;
+pub mod lines;
 
 // Writes the one line of row i. Where it goes is looked up here, for each kind by itself: looked up once for all kinds, their writing is
 // compiled into one piece, which is slower.
@@ -46,7 +46,7 @@ fn emit(table: &Numbered, i: usize, first: usize, out: &mut [u8])
     match row::kind(table.linked.rows, i) {
         Kind::Function | Kind::Unknown => {}
         Kind::Do => {
-            let l = lines::do_line(table, i);
+            let l = lines::do_line(table.linked.rows, i);
             let k = lines::tick_line(table, i);
             two(table, i, first, l, k, out);
         }

@@ -1,5 +1,6 @@
-// The lines of a row, one small function for each.
-ghost use Rattle.std.specs.Prelude.{◌≡◌, ◌/◌, ◌<◌, length};
+// The lines of a row, one small function for each. A do's asks for its rows alone; the others are this crate's: emit_rows promises them.
+ghost use Rattle.std.specs.Prelude.{◌≡◌, ◌/◌, ◌<◌, ◌≤◌, length};
+ghost use Rattle.rules.specs.Limits.{max_rows};
 ghost use Rattle.rules.specs.declared.kind.Kind.{Kind};
 ghost use Rattle.rules.specs.Row.{table_of, kind_at};
 ghost use Rattle.layout.specs.Spot.{Inside, InLoop, Opens, Grows};
@@ -11,15 +12,15 @@ use layout::row;
 use line::Line;
 
 // The line that does row i.
-pub fn do_line(table: &Numbered, i: usize) -> Line
-    requires { (i < length table.now.linked.rows.now / 6) × (kind_at (table_of table.now.linked.rows.now) i ≡ Kind.Do) }
-    ensures { result ≡ struct (row_line (table_of table.now.linked.rows.now) i 0) }
+pub fn do_line(rows: &[u8], i: usize) -> Line
+    requires { (length rows.now / 6 ≤ max_rows) × (i < length rows.now / 6) × (kind_at (table_of rows.now) i ≡ Kind.Do) }
+    ensures { result ≡ struct (row_line (table_of rows.now) i 0) }
 {
-    Line::act(row::operands_of(table.linked.rows, i), i as u16)
+    Line::act(row::operands_of(rows, i), i as u16)
 }
 
 // The tick that follows it.
-pub fn tick_line(table: &Numbered, i: usize) -> Line
+pub(crate) fn tick_line(table: &Numbered, i: usize) -> Line
     requires { (Inside table.now.linked.rows.now i) × (kind_at (table_of table.now.linked.rows.now) i ≡ Kind.Do) }
     ensures { result ≡ struct (row_line (table_of table.now.linked.rows.now) i 1) }
 {
@@ -55,7 +56,7 @@ fn else_test(table: &Numbered, x: usize, i: usize) -> Line
 }
 
 // The test of the if in row i.
-pub fn if_line(table: &Numbered, i: usize) -> Line
+pub(crate) fn if_line(table: &Numbered, i: usize) -> Line
     requires { (Inside table.now.linked.rows.now i) × (kind_at (table_of table.now.linked.rows.now) i ≡ Kind.If) }
     ensures { result ≡ struct (row_line (table_of table.now.linked.rows.now) i 0) }
 {
@@ -67,7 +68,7 @@ pub fn if_line(table: &Numbered, i: usize) -> Line
 }
 
 // The test of the loop in row i.
-pub fn loop_line(table: &Numbered, i: usize) -> Line
+pub(crate) fn loop_line(table: &Numbered, i: usize) -> Line
     requires { (Inside table.now.linked.rows.now i) × (kind_at (table_of table.now.linked.rows.now) i ≡ Kind.Loop) }
     ensures { result ≡ struct (row_line (table_of table.now.linked.rows.now) i 0) }
 {
@@ -75,7 +76,7 @@ pub fn loop_line(table: &Numbered, i: usize) -> Line
 }
 
 // The leave of the then part that ends at the else in row i.
-pub fn else_line(table: &Numbered, i: usize) -> Line
+pub(crate) fn else_line(table: &Numbered, i: usize) -> Line
     requires { (Inside table.now.linked.rows.now i) × (kind_at (table_of table.now.linked.rows.now) i ≡ Kind.Else) }
     ensures { result ≡ struct (row_line (table_of table.now.linked.rows.now) i 0) }
 {
@@ -87,7 +88,7 @@ pub fn else_line(table: &Numbered, i: usize) -> Line
 }
 
 // The leave of an if or a loop, or the ret of a function, at the end in row i.
-pub fn end_line(table: &Numbered, i: usize) -> Line
+pub(crate) fn end_line(table: &Numbered, i: usize) -> Line
     requires { (Inside table.now.linked.rows.now i) × (kind_at (table_of table.now.linked.rows.now) i ≡ Kind.End) }
     ensures { result ≡ struct (row_line (table_of table.now.linked.rows.now) i 0) }
 {
@@ -118,7 +119,7 @@ pub fn end_line(table: &Numbered, i: usize) -> Line
 }
 
 // The out of the break in row i.
-pub fn break_line(table: &Numbered, i: usize) -> Line
+pub(crate) fn break_line(table: &Numbered, i: usize) -> Line
     requires { (InLoop table.now.linked.rows.now i) × (kind_at (table_of table.now.linked.rows.now) i ≡ Kind.Break) }
     ensures { result ≡ struct (row_line (table_of table.now.linked.rows.now) i 0) }
 {
@@ -131,7 +132,7 @@ pub fn break_line(table: &Numbered, i: usize) -> Line
 }
 
 // The out of the continue in row i.
-pub fn continue_line(table: &Numbered, i: usize) -> Line
+pub(crate) fn continue_line(table: &Numbered, i: usize) -> Line
     requires { (InLoop table.now.linked.rows.now i) × (kind_at (table_of table.now.linked.rows.now) i ≡ Kind.Continue) }
     ensures { result ≡ struct (row_line (table_of table.now.linked.rows.now) i 0) }
 {
@@ -143,7 +144,7 @@ pub fn continue_line(table: &Numbered, i: usize) -> Line
 }
 
 // The call in row i.
-pub fn call_line(table: &Numbered, i: usize) -> Line
+pub(crate) fn call_line(table: &Numbered, i: usize) -> Line
     requires { (Inside table.now.linked.rows.now i) × (kind_at (table_of table.now.linked.rows.now) i ≡ Kind.Call) }
     ensures { result ≡ struct (row_line (table_of table.now.linked.rows.now) i 0) }
 {
@@ -154,7 +155,7 @@ pub fn call_line(table: &Numbered, i: usize) -> Line
 }
 
 // The back that follows it.
-pub fn back_line(table: &Numbered, i: usize) -> Line
+pub(crate) fn back_line(table: &Numbered, i: usize) -> Line
     requires { (Inside table.now.linked.rows.now i) × (kind_at (table_of table.now.linked.rows.now) i ≡ Kind.Call) }
     ensures { result ≡ struct (row_line (table_of table.now.linked.rows.now) i 1) }
 {

@@ -1,34 +1,34 @@
 // Which field of a row is wrong (01, "The source table"; 02, No. 1): each has a largest value, which is 0 for a field that the row does
 // not use.
 use crate::row::Row;
+use console::page::Page;
 use rows::kind::{DO, IF, LOOP, SWITCH};
-use std::fmt;
-use std::fmt::Write;
 
 // The first wrong field of op, p, q and n, what it is, and what it may be. A call's or a case's n is never wrong.
-pub fn put(page: &mut impl Write, r: Row) -> fmt::Result {
+pub fn put<P: Print>(r: Row, page: &mut Page<P>) {
     let op = largest_op(r.kind);
     if op < r.op {
-        return field(page, "op", r.op.into(), op);
+        return field(b"op", r.op.into(), op, page);
     }
     let p = largest_p(r.kind);
     if p < r.p {
-        return field(page, "p", r.p.into(), p);
+        return field(b"p", r.p.into(), p, page);
     }
     let q = largest_q(r.kind, r.op);
     if q < r.q {
-        return field(page, "q", r.q.into(), q);
+        return field(b"q", r.q.into(), q, page);
     }
-    field(page, "n", r.n, 0)
+    field(b"n", r.n, 0, page)
 }
 
 // `p is 16, not 0 to 15`, `n is 700, not 0`
-fn field(page: &mut impl Write, name: &str, value: u16, most: u8) -> fmt::Result {
-    write!(page, "{name} is {value}, not 0")?;
-    if most == 0 {
-        return Ok(());
+fn field<P: Print>(name: &[u8], value: u16, most: u8, page: &mut Page<P>) {
+    page.word(name);
+    page.named(b" is ", value.into());
+    page.word(b", not 0");
+    if most != 0 {
+        page.named(b" to ", most.into());
     }
-    write!(page, " to {most}")
 }
 
 fn largest_op(kind: u8) -> u8 {

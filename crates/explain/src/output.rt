@@ -3,8 +3,6 @@ use crate::words;
 use console::output;
 use console::page::Page;
 use rules::answer::Fault;
-use std::fmt;
-use std::fmt::Write;
 
 pub fn answer(rt: &impl Print, rows: &[u8]) {
     // The number is 01's, and 0 is none: the C struct has it so.
@@ -14,12 +12,15 @@ pub fn answer(rt: &impl Print, rows: &[u8]) {
         return;
     }
     let mut page = Page::new(rt);
-    let _ = refused(&mut page, f, rows);
+    refused(f, rows, &mut page);
     page.flush();
 }
 
-fn refused(page: &mut impl Write, f: Fault, rows: &[u8]) -> fmt::Result {
-    write!(page, "refused {} at row {}: ", f.number, f.row)?;
-    words::put(page, f, rows)?;
-    page.write_char('\n')
+// Here and in words and fields by named and word, whose promises hold where output is lost too.
+fn refused<P: Print>(f: Fault, rows: &[u8], page: &mut Page<P>) {
+    page.named(b"refused ", f.number.into());
+    page.named(b" at row ", f.row as u64);
+    page.word(b": ");
+    words::put(f, rows, page);
+    page.put(b'\n');
 }

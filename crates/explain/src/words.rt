@@ -1,26 +1,25 @@
 // What is wrong, in the words of 01, "What turns a call away", and of 02, No. 1.
 use crate::row::Row;
 use crate::{fields, row};
+use console::page::Page;
 use rows::WIDTH;
 use rows::kind::{BREAK, CASE, CONTINUE, DEFAULT, ELSE, FUNCTION, IF, LOOP, SWITCH};
 use rules::answer::Fault;
 use rules::limits::{CONSTRUCTS, ROWS};
-use std::fmt;
-use std::fmt::Write;
 
 // The number is 01's: the C struct has it so. Whole lines make whole rows, so that there are none is the one way to meet 1. At the end
 // of the table there is no row.
-pub fn put(page: &mut impl Write, f: Fault, rows: &[u8]) -> fmt::Result {
+pub fn put<P: Print>(f: Fault, rows: &[u8], page: &mut Page<P>) {
     match (f.number, row::at(rows, f.row)) {
-        (1, _) => page.write_str("no rows"),
-        (2, _) => page.write_str(too_long(rows.len() / WIDTH)),
-        (3, Some(r)) => wrong(page, r),
-        (4, Some(r)) => page.write_str(misplaced(r.kind, row::inner(rows, f.row))),
-        (4, None) => page.write_str("something is left open at the end"),
-        (5, _) => page.write_str("a 33rd function"),
-        (6, Some(r)) => page.write_str(too_many(r.kind, row::open_at(rows, f.row))),
-        (11, Some(r)) => write!(page, "case {} is in this switch already", r.n),
-        _ => page.write_str("call of a function that isn't there"),
+        (1, _) => page.word(b"no rows"),
+        (2, _) => page.word(too_long(rows.len() / WIDTH).as_bytes()),
+        (3, Some(r)) => wrong(r, page),
+        (4, Some(r)) => page.word(misplaced(r.kind, row::inner(rows, f.row)).as_bytes()),
+        (4, None) => page.word(b"something is left open at the end"),
+        (5, _) => page.word(b"a 33rd function"),
+        (6, Some(r)) => page.word(too_many(r.kind, row::open_at(rows, f.row)).as_bytes()),
+        (11, Some(r)) => repeated(r.n, page),
+        _ => page.word(b"call of a function that isn't there"),
     }
 }
 
@@ -32,11 +31,16 @@ fn too_long(given: usize) -> &'static str {
     "over 1,024 rows, with its switches written as ifs"
 }
 
-fn wrong(page: &mut impl Write, r: Row) -> fmt::Result {
+fn wrong<P: Print>(r: Row, page: &mut Page<P>) {
     match r.kind {
-        FUNCTION..=DEFAULT => fields::put(page, r),
-        _ => page.write_str("unknown kind"),
+        FUNCTION..=DEFAULT => fields::put(r, page),
+        _ => page.word(b"unknown kind"),
     }
+}
+
+fn repeated<P: Print>(number: u16, page: &mut Page<P>) {
+    page.named(b"case ", number.into());
+    page.word(b" is in this switch already");
 }
 
 // A row of this kind, straight in a part that a row of the kind `inner` opened.

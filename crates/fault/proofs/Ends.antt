@@ -167,6 +167,10 @@ module _ {bs : List ℕ} {at : ℕ} {s : Standing} {ps : List ℕ} {t : Things} 
         by true e = record { leads = counted e }
         by false e = record { leads = left_open e }
 
+    -- the same, where the end was told a number `n` that is `at`
+    pub pass_ended : {r : Passed} {n : ℕ} → r ≡ end_of s t n → n ≡ at → PassedOk bs out r
+    pass_ended q e = pass_end (q ∙ ap (end_of s t) e)
+
 -- what the end answers, by how many things are open
 module _ (s : Standing) (t : Things) (at : ℕ) where
   pub some-open : (t.count ≡ 0 → ⊥) → Err (fault_at Misplaced at) ≡ end_of s t at

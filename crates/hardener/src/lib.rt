@@ -16,6 +16,7 @@ use rules::limits::{FUNCTIONS, ROWS};
 use rules::refusal::Refusal;
 use uses::{Comparing, Keeping};
 
+mod compare;
 pub mod pass;
 pub mod uses;
 

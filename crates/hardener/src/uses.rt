@@ -2,6 +2,8 @@
 ghost use Rattle.std.specs.Prelude.{◌≡◌, ◌<◌, ℕ, Bool, true, false, List, [], length};
 ghost use Rattle.hardener.specs.Pass.{fitting, agreed, Batch, Stretch};
 
+use crate::compare::are_same;
+
 // How many rows are compared at a time: so many that the comparison is wide, so few that the scratch is short.
 const BATCH: usize = 32;
 
@@ -67,9 +69,7 @@ impl Use for Comparing<'_> {
         self.lines.len() == size
     }
 
-    // The equality of slices looks at many bytes at a time.
-    #[tactic(auto, using(crate::proofs::Compares::pointwise_same))]
     fn agrees(&self, made: &[u8], first: usize, past: usize) -> bool {
-        made[..past - first] == self.lines[first..past]
+        are_same(&made[..past - first], &self.lines[first..past])
     }
 }

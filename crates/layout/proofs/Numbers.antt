@@ -191,16 +191,28 @@ sums_are : {bs spent : List ℕ} → Spent bs spent (length bs / 6) → (g : ℕ
 sums_are {bs} {spent} p g = running-sum (table_of bs) spent g (λ h l. ap suc (p.each h ∙ ap (taken (table_of bs) h) (sym (table-length bs))))
 
 pub sums-fit : {bs spent : List ℕ} {count : ℕ} {end : Scope} → Stands bs (length bs / 6) end → Spent bs spent (length bs / 6) → count ≡ end.opened
-    → (g : ℕ) → g ≤ length (take (count + 1) spent) → sums (take (count + 1) spent) g < 65536
-sums-fit {bs} {spent} {count} s p q g h =
-    let l : g ≤ count + 1 = omega (arith, length-take-le (count + 1) spent (omega (arith, s.opened_low, s.few_rows, p.room))) in
-    omega (arith, sums-take spent (count + 1) g l, sums_are p g, base-bound (table_of bs) g, table-length bs, s.opened_low, s.few_rows)
+    → (g : ℕ) → g ≤ count + 1 → sums spent g < 65536
+sums-fit {bs} s p q g h = omega (arith, sums_are p g, base-bound (table_of bs) g, table-length bs, s.opened_low, s.few_rows)
 
 pub bases-all : {bs spent bases : List ℕ} {count : ℕ} {end : Scope} → Stands bs (length bs / 6) end → Spent bs spent (length bs / 6) → count ≡ end.opened
+    → Summed spent bases (count + 1) → length bases ≡ length spent → Based bs bases
+unfolding scope_of
+bases-all {bs} {end = end} s p q u l =
+    let o : end.opened ≡ regions (table_of bs) (length bs / 6) = ap (λ x. x.opened) s.is in
+    record { room = omega (arith, p.room); each = λ g h. u.each g (omega arith) ∙ sums_are p g }
+
+-- the same of the words of these regions alone, as the code sums them
+pub sums_fit_taken : {bs spent : List ℕ} {count : ℕ} {end : Scope} → Stands bs (length bs / 6) end → Spent bs spent (length bs / 6) → count ≡ end.opened
+    → (g : ℕ) → g ≤ length (take (count + 1) spent) → sums (take (count + 1) spent) g < 65536
+sums_fit_taken {bs} {spent} {count} s p q g h =
+    let l : g ≤ count + 1 = omega (arith, length-take-le (count + 1) spent (omega (arith, s.opened_low, s.few_rows, p.room))) in
+    omega (arith, sums-take spent (count + 1) g l, sums-fit s p q g l)
+
+pub bases_all_taken : {bs spent bases : List ℕ} {count : ℕ} {end : Scope} → Stands bs (length bs / 6) end → Spent bs spent (length bs / 6) → count ≡ end.opened
     → Summed (take (count + 1) spent) bases (length (take (count + 1) spent)) → length bases ≡ length (take (count + 1) spent)
     → Based bs (bases ++ drop (count + 1) spent)
 unfolding scope_of
-bases-all {bs} {spent} {bases} {count} {end} s p q u l =
+bases_all_taken {bs} {spent} {bases} {count} {end} s p q u l =
     let o : end.opened ≡ regions (table_of bs) (length bs / 6) = ap (λ x. x.opened) s.is in
     let n : length (take (count + 1) spent) ≡ count + 1 = length-take-le (count + 1) spent (omega (arith, s.opened_low, s.few_rows, p.room)) in
     record {

@@ -113,10 +113,9 @@ module _ {bs : List ℕ} {i : ℕ} {here : Scope} {k : Kind} (s : Stands bs i he
   takes-one (inr (inl q)) = takes-break q
   takes-one (inr (inr q)) = takes-continue q
 
-  pub takes-two : (k ≡ If) ⊎ ((k ≡ Loop) ⊎ (k ≡ Call)) → 2 ≡ takes_at (table_of bs) i
+  pub takes-two : (k ≡ If) ⊎ (k ≡ Loop) → 2 ≡ takes_at (table_of bs) i
   takes-two (inl q) = takes-if q
-  takes-two (inr (inl q)) = takes-loop q
-  takes-two (inr (inr q)) = takes-call q
+  takes-two (inr q) = takes-loop q
 
   pub takes-at-end : {r : ℕ} → k ≡ End → r ≡ bool_byte (eqb here.region here.body) → (r ≡ takes_at (table_of bs) i) × (r ≤ 2)
   takes-at-end {r} q e = by (eqb here.region here.body) refl e

@@ -18,7 +18,9 @@ fn take(rows: &[u8], i: usize, here: Scope) -> u16
 {
     match row::kind(rows, i) {
         Kind::Do | Kind::Break | Kind::Continue => 1,
-        Kind::If | Kind::Loop | Kind::Call => 2,
+        Kind::If | Kind::Loop => 2,
+        // An arm of its own, so that an edit of its number leaves the others' answers as they are.
+        Kind::Call => 2,
         Kind::End => u16::from(here.region == here.body),
         Kind::Function | Kind::Else | Kind::Unknown => 0,
     }

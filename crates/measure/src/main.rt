@@ -9,8 +9,6 @@ use console::page::Page;
 use console::{input, output, start};
 use line::Line;
 use rules::answer::Measured;
-use std::fmt;
-use std::fmt::Write;
 
 fn main(rt: HostRuntime) {
     if start::is_bare(
@@ -39,13 +37,15 @@ fn answer(rt: &impl Print, m: Measured) {
         return;
     }
     let mut page = Page::new(rt);
-    let _ = tell(&mut page, m);
+    tell(m, &mut page);
     page.flush();
 }
 
-fn tell(page: &mut impl Write, m: Measured) -> fmt::Result {
-    writeln!(page, "lines {}", m.lines)?;
-    writeln!(page, "regions {}", m.regions)?;
-    writeln!(page, "value {}", m.value)?;
-    writeln!(page, "bytes {}", Line::WIDTH * usize::from(m.lines))
+// By named, whose promise holds where output is lost too.
+fn tell<P: Print>(m: Measured, page: &mut Page<P>) {
+    page.named(b"lines ", m.lines.into());
+    page.named(b"\nregions ", m.regions.into());
+    page.named(b"\nvalue ", m.value.into());
+    page.named(b"\nbytes ", Line::WIDTH as u64 * u64::from(m.lines));
+    page.put(b'\n');
 }

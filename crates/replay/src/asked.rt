@@ -4,10 +4,10 @@ ghost use Rattle.std.specs.Option.{ForSome};
 
 use crate::call::Call;
 
-#[derive(Drop)]
+#[derive(Clone, Copy)]
 pub struct Asked {
     pub call: Call,
-    // Of the first word; how many words came before this one.
+    // Of the first word, six at most; how many words came before this one.
     letters: u8,
     words: u8,
     // A number counts up to 65,535. Which one is being read; a line has fewer than there is room for.
@@ -17,6 +17,7 @@ pub struct Asked {
     bytes: [u8; 65536],
     length: usize,
     half: Option<u8>,
+    ghost letters_in: { letters ≤ 6 },
     ghost slot_in: { slot < 32 },
     ghost length_in: { length ≤ 65536 },
     ghost half_in: { ForSome half (λ d. d < 16) },
@@ -80,12 +81,14 @@ impl Asked {
     }
 
     fn name(&mut self, b: u8) {
+        if self.letters == 6 {
+            self.call = self.call.longer();
+            return;
+        }
         if self.letters == 0 {
             self.call = Call::begun(b);
-        } else if self.letters == 6 {
-            self.call = self.call.longer();
         }
-        self.letters = self.letters.saturating_add(1);
+        self.letters += 1;
     }
 
     fn count(&mut self, b: u8) {

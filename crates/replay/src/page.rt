@@ -1,5 +1,5 @@
 // Standard output by way of a buffer. Nothing more is done where it can't be written.
-ghost use Rattle.std.specs.Prelude.{◌≡◌, ◌≤◌};
+ghost use Rattle.std.specs.Prelude.{◌≡◌, ◌+◌, ◌≤◌, length};
 
 use std::fmt;
 
@@ -27,6 +27,28 @@ impl Page {
         self.held = 0;
     }
 
+    // In one piece; only a text that an empty page has no room for goes there byte by byte.
+    pub fn add(&mut self, bytes: &[u8]) {
+        if SIZE - self.held < bytes.len() {
+            self.flush();
+        }
+        if bytes.len() <= SIZE - self.held {
+            self.add_here(bytes);
+            return;
+        }
+        for b in bytes {
+            self.put(*b);
+        }
+    }
+
+    fn add_here(&mut self, bytes: &[u8])
+        requires { self.old.held + length bytes.now ≤ 65536 }
+    {
+        let past = self.held + bytes.len();
+        self.text[self.held..past].copy_from_slice(bytes);
+        self.held = past;
+    }
+
     fn put(&mut self, b: u8) {
         if self.held == SIZE {
             self.flush();
@@ -38,9 +60,7 @@ impl Page {
 
 impl fmt::Write for Page {
     fn write_str(&mut self, s: &str) -> fmt::Result {
-        for b in s.as_bytes() {
-            self.put(*b);
-        }
+        self.add(s.as_bytes());
         Ok(())
     }
 }

@@ -1,7 +1,7 @@
 // What a run answers, as four lines, or five in a source run or with a small jump; a long trace takes more.
+use console::page::Page;
 use rules::answer::Ran;
 use slip::amount::Amount;
-use std::fmt;
 
 // Numbers on a line.
 const MANY: usize = 20;
@@ -9,70 +9,75 @@ const MANY: usize = 20;
 // The words of 01 and 02 for an outcome. It comes as a number: the C struct of a run has one.
 fn outcome(number: u8) -> &'static str {
     match number {
-        0 => "budget spent",
-        1 => "finished",
-        2 => "alarm",
-        3 => "too many open functions",
-        4 => "the place is beyond m",
-        _ => "overflow",
+        0 => " budget spent",
+        1 => " finished",
+        2 => " alarm",
+        3 => " too many open functions",
+        4 => " the place is beyond m",
+        _ => " overflow",
     }
 }
 
 // A space before each number, and the end of the last line. The first number stands on a line that was begun already.
-fn list<W: fmt::Write>(words: &[u16], page: &mut W) -> fmt::Result {
+fn list<P: Print>(words: &[u16], page: &mut Page<P>) {
     for (i, word) in words.iter().enumerate() {
         if 0 < i && i % MANY == 0 {
-            page.write_str("\n")?;
+            page.put(b'\n');
         }
-        write!(page, " {word}")?;
+        page.named(b" ", u64::from(*word));
     }
-    page.write_str("\n")
+    page.put(b'\n');
 }
 
 // A trace that fits on its line stands there; a longer one is listed where that was asked.
-fn list_trace<W: fmt::Write>(rows: &[u16], whole: bool, page: &mut W) -> fmt::Result {
+fn list_trace<P: Print>(rows: &[u16], whole: bool, page: &mut Page<P>) {
     if rows.len() <= MANY {
-        page.write_str("trace")?;
+        page.word(b"\ntrace");
         return list(rows, page);
     }
-    write!(page, "trace of {} rows", rows.len())?;
+    page.named(b"\ntrace of ", rows.len() as u64);
     if whole {
-        page.write_str("\n")?;
+        page.word(b" rows\n");
         return list(rows, page);
     }
-    page.write_str(", listed with the word trace\n")
+    page.word(b" rows, listed with the word trace\n");
 }
 
 // What a small jump amounts to, in a line; of any other nothing is said.
-fn list_amount<W: fmt::Write>(amount: Amount, page: &mut W) -> fmt::Result {
+fn list_amount<P: Print>(amount: Amount, page: &mut Page<P>) {
     match amount {
-        Amount::NotSmall => Ok(()),
-        Amount::Nothing => page.write_str("jump changes nothing\n"),
-        Amount::LeavesOut(row) => writeln!(page, "jump leaves out row {row}"),
-        Amount::Twice(row) => writeln!(page, "jump does row {row} twice"),
+        Amount::NotSmall => {}
+        Amount::Nothing => page.word(b"jump changes nothing\n"),
+        Amount::LeavesOut(row) => {
+            page.named(b"jump leaves out row ", row.into());
+            page.put(b'\n');
+        }
+        Amount::Twice(row) => {
+            page.named(b"jump does row ", row.into());
+            page.word(b" twice\n");
+        }
     }
 }
 
-// The answer behind the steps, or `refused N`. Behind steps there is never a refusal. A source run's calls are counted; `whole` lists a long
-// trace too.
-pub fn tell<W: fmt::Write>(
+// The answer of an accepted run, behind the steps. A source run's calls are counted; `whole` lists a long trace too. By named, put and word,
+// whose promises hold where output is lost too.
+pub fn tell<P: Print>(
     r: Ran,
     whole: bool,
     calls: Option<u16>,
     amount: Amount,
     trace: &[u16; 65535],
-    page: &mut W,
-) -> fmt::Result {
-    if r.number != 0 {
-        return writeln!(page, "refused {}", r.number);
-    }
-    list_amount(amount, page)?;
-    writeln!(page, "outcome {} {}", r.outcome, outcome(r.outcome))?;
-    writeln!(page, "steps {}", r.steps)?;
-    list_trace(&trace[..usize::from(r.traced)], whole, page)?;
+    page: &mut Page<P>,
+) {
+    list_amount(amount, page);
+    page.named(b"outcome ", r.outcome.into());
+    page.word(outcome(r.outcome).as_bytes());
+    page.named(b"\nsteps ", r.steps.into());
+    list_trace(&trace[..usize::from(r.traced)], whole, page);
     if let Some(n) = calls {
-        writeln!(page, "calls {n}")?;
+        page.named(b"calls ", n.into());
+        page.put(b'\n');
     }
-    page.write_str("variables")?;
-    list(&r.variables, page)
+    page.word(b"variables");
+    list(&r.variables, page);
 }

@@ -90,9 +90,19 @@ fn run_table(rt: &impl Print, a: Asked, table: &[u8]) {
     let calls = list_steps(a, table, &mut trace, &mut page);
     let amount = amount(a, table, &mut trace);
     let r = ran(a, table, &mut trace);
-    // Where output is lost the page says so.
-    let _ = answer::tell(r, a.trace, calls, amount, &trace, &mut page);
+    if r.number != 0 {
+        // Behind steps there is never a refusal: the page holds nothing.
+        refused(rt, r.number);
+        return;
+    }
+    answer::tell(r, a.trace, calls, amount, &trace, &mut page);
     page.flush();
+}
+
+// By output::refused, which promises the line.
+fn refused(rt: &impl Print, number: u8) {
+    let mut text = io::large_buffer();
+    output::refused(rt, number, &mut text);
 }
 
 // What a jump amounts to, told before the run: it overwrites the slots.

@@ -7,7 +7,7 @@ ghost use Rattle.state.specs.Open.{opened};
 ghost use Rattle.source.specs.Goes.{code_of};
 ghost use Rattle.source.specs.Step.{goes_to_lem, Standing, after_do_lem, after_test, after_jump, after_return, after_end, after_call};
 
-use crate::table::Runnable;
+use crate::table::{Runnable, fields};
 use layout::row;
 use rules::limits::{DEEPEST, OPEN, VARIABLES};
 use rules::step::Step;
@@ -33,15 +33,15 @@ pub fn next_row(h: Registers) -> Moved
 // The row is done, and goes into the trace; one that overflows ends the run.
 pub fn do_row(
     op: u8,
-    table: Runnable,
+    rows: &[u8],
     h: Registers,
     variables: &mut [u16; VARIABLES],
     trace: &mut [u16],
 ) -> Moved
-    requires { (Standing table.rows.now h) × (code_of (table_of table.rows.now) h.at ≡ op + 1) × (op < 4) × (HasSlot h trace.old) }
-    ensures { done result variables.new trace.new ≡ after_do_lem (table_of table.entry.rows.now) h variables.old trace.old }
+    requires { (Standing rows.now h) × (code_of (table_of rows.now) h.at ≡ op + 1) × (op < 4) × (HasSlot h trace.old) }
+    ensures { done result variables.new trace.new ≡ after_do_lem (table_of rows.now) h variables.old trace.old }
 {
-    trace::act(table.fields(h, op), h.at, h, variables, trace)
+    trace::act(fields(rows, h, op), h.at, h, variables, trace)
 }
 
 // An if or a loop: into its part where the test holds.

@@ -15,7 +15,8 @@ pub fn run_rows(table: Runnable, start: Machine, budget: u16, trace: &mut [u16])
     let mut functions = start.functions;
     let mut variables = start.variables;
     let mut h = start.registers;
-    for _ in 0..budget {
+    // Counted in a machine word: in 16 bits the count takes two numbers (docs/SPEED.md).
+    for _ in 0..usize::from(budget) {
         let steps = h.steps + 1;
         let t = step::row(
             table,

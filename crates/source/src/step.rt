@@ -22,10 +22,10 @@ pub fn row(
 {
     match table.code_of(h) {
         goes::NEXT => kinds::next_row(h),
-        goes::SET => kinds::do_row(0, table, h, variables, trace),
-        goes::COPY => kinds::do_row(1, table, h, variables, trace),
-        goes::ADD => kinds::do_row(2, table, h, variables, trace),
-        goes::SUBTRACT => kinds::do_row(3, table, h, variables, trace),
+        goes::SET => kinds::do_row(0, table.rows, h, variables, trace),
+        goes::COPY => kinds::do_row(1, table.rows, h, variables, trace),
+        goes::ADD => kinds::do_row(2, table.rows, h, variables, trace),
+        goes::SUBTRACT => kinds::do_row(3, table.rows, h, variables, trace),
         goes::EQUAL => kinds::test_row(0, table, h, variables),
         goes::DIFFERS => kinds::test_row(1, table, h, variables),
         goes::LESS => kinds::test_row(2, table, h, variables),

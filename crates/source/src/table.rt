@@ -1,7 +1,10 @@
 // An accepted table with the word of each of its rows, as its runs need it. It goes by value, so that a step reads it from the processor's
 // registers.
+ghost use Rattle.std.specs.Prelude.{◌≡◌};
 ghost use Rattle.rules.specs.Bytes.{AreBytes};
-ghost use Rattle.source.specs.Goes.{Known};
+ghost use Rattle.rules.specs.Row.{table_of, operands_at};
+ghost use Rattle.source.specs.Goes.{Known, go_of_lem, code_of};
+ghost use Rattle.source.specs.Step.{Standing};
 
 use layout::row;
 use rules::limits::ROWS;
@@ -17,12 +20,22 @@ pub struct Runnable<'a> {
     pub ghost known: { Known rows.now goes.now },
 }
 
-impl Runnable<'_> {
-    ghost use Rattle.std.specs.Prelude.{◌≡◌};
-    ghost use Rattle.rules.specs.Row.{table_of, operands_at};
-    ghost use Rattle.source.specs.Goes.{go_of_lem, code_of};
-    ghost use Rattle.source.specs.Step.{Standing};
+// The fields of the row that the run stands at, which asks for no words. The caller knows its op and hands it on as a number that the
+// compiler sees, so that nothing is left of the tests of it.
+pub fn fields(rows: &[u8], h: Registers, op: u8) -> Operands
+    requires { (Standing rows.now h) × ((operands_at (table_of rows.now) h.at).op ≡ op) }
+    ensures { result ≡ operands_at (table_of rows.now) h.at }
+{
+    let o = row::operands_of(rows, usize::from(h.at));
+    Operands {
+        op,
+        p: o.p,
+        q: o.q,
+        n: o.n,
+    }
+}
 
+impl Runnable<'_> {
     // Where the row goes that the run stands at.
     pub fn go_of(self, h: Registers) -> u16
         requires { Standing self.rows.now h }
@@ -39,17 +52,11 @@ impl Runnable<'_> {
         self.goes[usize::from(h.at)] / 4096
     }
 
-    // Its fields. The caller knows its op and hands it on as a number that the compiler sees, so that nothing is left of the tests of it.
+    // Its fields, as above.
     pub fn fields(self, h: Registers, op: u8) -> Operands
         requires { (Standing self.rows.now h) × ((operands_at (table_of self.rows.now) h.at).op ≡ op) }
         ensures { result ≡ operands_at (table_of self.entry.rows.now) h.at }
     {
-        let o = row::operands_of(self.rows, usize::from(h.at));
-        Operands {
-            op,
-            p: o.p,
-            q: o.q,
-            n: o.n,
-        }
+        fields(self.rows, h, op)
     }
 }

@@ -6,6 +6,7 @@ ghost use Rattle.rules.specs.ReadBack.{is_hardened_lem};
 use crate::{list, map};
 use command::sweep_words::{Form, SweepAsked};
 use compare::spare::Spare;
+use console::page::Page;
 use machine::table::Runnable;
 use rules::answer::Swept;
 use rules::limits::COUNTERS;
@@ -13,21 +14,23 @@ use std::fmt;
 use sweeper::table;
 use sweeper::unstruck::Unstruck;
 
-fn tell<W: fmt::Write>(r: Swept, page: &mut W) -> fmt::Result {
-    writeln!(page, "alarm {}", r.alarms)?;
-    writeln!(page, "same {}", r.same)?;
-    writeln!(page, "other {}", r.other)?;
-    writeln!(page, "unfinished {}", r.unfinished)
+// By named, whose promise holds where output is lost too.
+fn tell<P: Print>(r: Swept, page: &mut Page<P>) {
+    page.named(b"alarm ", r.alarms.into());
+    page.named(b"\nsame ", r.same.into());
+    page.named(b"\nother ", r.other.into());
+    page.named(b"\nunfinished ", r.unfinished.into());
+    page.put(b'\n');
 }
 
 // The list and the map go over the unstruck run once more: its trace, and where the functions are.
-fn walk_again<W: fmt::Write>(
+fn walk_again<P: Print>(
     a: SweepAsked,
     r: Swept,
     lines: &[u8],
     trace: &mut [u16],
     words: &mut [u16],
-    page: &mut W,
+    page: &mut Page<P>,
 ) -> fmt::Result
     requires { (is_hardened_lem lines.now ≡ true) × (a.budget ≤ length trace.old) × (length words.old ≡ counter_words) }
 {
@@ -47,19 +50,21 @@ fn walk_again<W: fmt::Write>(
         return map::show(&run, function, r, words, &mut spare, page);
     }
     list::walk(&run, words, &mut spare, page)?;
-    tell(r, page)
+    tell(r, page);
+    Ok(())
 }
 
-pub fn answer<W: fmt::Write>(
+pub fn answer<P: Print>(
     a: SweepAsked,
     r: Swept,
     lines: &[u8],
     trace: &mut [u16; 65535],
     counters: &mut [u16; COUNTERS],
-    page: &mut W,
+    page: &mut Page<P>,
 ) -> fmt::Result {
     if matches!(a.form, Form::Counts) {
-        return tell(r, page);
+        tell(r, page);
+        return Ok(());
     }
     if reader::is_hardened(lines) {
         return walk_again(a, r, lines, trace, counters, page);

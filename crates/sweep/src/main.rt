@@ -72,11 +72,17 @@ fn sweep(rt: &impl Print, a: SweepAsked, lines: &[u8]) {
     let mut trace = [0u16; 65535];
     let mut counters = [0u16; COUNTERS];
     let r = finuraho::sweep(lines, a.variables, a.budget, &mut trace, &mut counters);
+    if r.number != 0 {
+        refused(rt, r.number);
+        return;
+    }
     // Where output is lost the page says so.
-    let _ = if r.number != 0 {
-        writeln!(page, "refused {}", r.number)
-    } else {
-        answer::answer(a, r, lines, &mut trace, &mut counters, &mut page)
-    };
+    let _ = answer::answer(a, r, lines, &mut trace, &mut counters, &mut page);
     page.flush();
+}
+
+// By output::refused, which promises the line.
+fn refused(rt: &impl Print, number: u8) {
+    let mut text = io::large_buffer();
+    output::refused(rt, number, &mut text);
 }

@@ -1,4 +1,8 @@
 // The links of a table, in one place that is lent.
+ghost use Rattle.std.specs.Prelude.{◌≡◌};
+ghost use Rattle.rules.specs.Limits.{max_rows, max_functions};
+ghost use Rattle.rules.specs.Calls.{zeros};
+
 use rules::limits::{FUNCTIONS, ROWS};
 use walk::link::RowLinks;
 
@@ -11,7 +15,11 @@ pub struct TableLinks {
 
 impl TableLinks {
     // Before a table is checked.
-    pub fn new() -> TableLinks {
+    pub fn new() -> TableLinks
+        ensures ends { result.rows.ends ≡ zeros max_rows }
+        ensures elses { result.rows.elses ≡ zeros max_rows }
+        ensures heads { result.heads ≡ zeros max_functions }
+    {
         TableLinks {
             rows: RowLinks {
                 ends: [0; ROWS],

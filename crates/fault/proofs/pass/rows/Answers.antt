@@ -1,7 +1,5 @@
-use Rattle.std.proofs.Common.{◌≡◌, ◌∙◌, ap, ◌/◌, length}
-use Rattle.fault.specs.Found.{end_of}
 use native.Mathlib.Omega.{arith}
-use Rattle.fault.proofs.Ends.{standing-none, things-nothing, pass-start, pass-stopped, pass_end}
+use Rattle.fault.proofs.Ends.{standing-none, things-nothing, pass-start, pass-stopped, pass_ended}
 use mathlib.Core.Path.{refl}
 use Rattle.fault.proofs.pass.rows.Goals as goal
 
@@ -12,6 +10,4 @@ pub returns-in-Err : goal.returns-in-Err
 returns-in-Err c = pass-stopped c.loop-at.invariant (omega arith) c.row.ensures c.in-Err.is
 
 pub returns : goal.returns
-returns c =
-    let e : length c.args.rows.now / 6 ≡ c.loop-at.at = omega arith in
-    pass_end c.loop-at.invariant (omega arith) (c.end.ensures ∙ ap (end_of c.loop-at.s c.loop-at.t) e)
+returns c = pass_ended c.loop-at.invariant (omega arith) c.end.ensures (omega arith)

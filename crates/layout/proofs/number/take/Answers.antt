@@ -1,5 +1,5 @@
 use native.Mathlib.Omega.{arith}
-use Rattle.layout.proofs.Takes.{takes-none, takes-one, takes-two, takes-at-end}
+use Rattle.layout.proofs.Takes.{takes-none, takes-one, takes-two, takes-call, takes-at-end}
 use Rattle.layout.proofs.number.take.Goals as goal
 
 pub returns-in-Do : goal.returns-in-Do
@@ -7,6 +7,9 @@ returns-in-Do c = (takes-one c.requires.0 c.requires.1 c.kind.ensures c.in-Do.is
 
 pub returns-in-If : goal.returns-in-If
 returns-in-If c = (takes-two c.requires.0 c.requires.1 c.kind.ensures c.in-If.is, omega arith)
+
+pub returns-in-Call : goal.returns-in-Call
+returns-in-Call c = (takes-call c.requires.0 c.requires.1 c.kind.ensures c.in-Call.is, omega arith)
 
 pub returns-in-End : goal.returns-in-End
 returns-in-End c = takes-at-end c.requires.0 c.requires.1 c.kind.ensures c.in-End.is c.from.ensures
