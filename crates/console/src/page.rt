@@ -48,7 +48,9 @@ impl<'a, P: Print> Page<'a, P> {
         }
     }
 
-    // In one piece where it fits, as nearly all does.
+    // In one piece where it fits, as nearly all does. Compiled into its callers: a word that they know is then a store or two, where byte by
+    // byte, with the count in memory, what `run` lists took half as long again.
+    #[inline(always)]
     pub fn word(&mut self, w: &[u8])
         ensures { Printed w.now self.old.held self.old.text self.new.text self.new.held }
     {
@@ -58,11 +60,10 @@ impl<'a, P: Print> Page<'a, P> {
                 return;
             }
         }
-        for b in w {
-            self.put(*b);
-        }
+        self.through(w);
     }
 
+    #[inline(always)]
     fn add(&mut self, at: usize, w: &[u8])
         requires { (self.old.held ≡ Some at) × (at + length w.now ≤ 65536) }
         ensures { Printed w.now self.old.held self.old.text self.new.text self.new.held }
@@ -70,6 +71,16 @@ impl<'a, P: Print> Page<'a, P> {
         let past = at + w.len();
         self.text[at..past].copy_from_slice(w);
         self.held = Some(past);
+    }
+
+    // What does not fit.
+    #[inline(never)]
+    fn through(&mut self, w: &[u8])
+        ensures { Printed w.now self.old.held self.old.text self.new.text self.new.held }
+    {
+        for b in w {
+            self.put(*b);
+        }
     }
 
     // By hand, since what write! promises of an error is nothing, and Named says what then holds.

@@ -25,7 +25,6 @@ use show::{hardened_steps, source_steps};
 use slip::amount::Amount;
 use slip::find;
 use std::env::Env;
-use std::fmt;
 use std::fmt::Write as _;
 
 fn main(rt: HostRuntime) {
@@ -121,11 +120,11 @@ fn amount(a: Asked, table: &[u8], trace: &mut [u16; 65535]) -> Amount {
 }
 
 // With the word `show`. A source run is always walked, since that counts its calls.
-fn list_steps<W: fmt::Write>(
+fn list_steps<P: Print>(
     a: Asked,
     table: &[u8],
     trace: &mut [u16; 65535],
-    page: &mut W,
+    page: &mut Page<P>,
 ) -> Option<u16> {
     let variables = a.variables_or_zero();
     let budget = a.budget_or_most();

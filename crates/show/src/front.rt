@@ -1,12 +1,10 @@
 // The front of a step's line: the number of the step, the running function, and where that is.
+use console::page::Page;
 use state::machine::Registers;
-use std::fmt;
 
 // `word` says what is counted: rows, or places.
-pub fn list<W: fmt::Write>(h: Registers, word: &str, number: u16, page: &mut W) -> fmt::Result {
-    write!(
-        page,
-        "step {} function {} {word} {number}",
-        h.steps, h.function
-    )
+pub fn list<P: Print>(h: Registers, word: &[u8], number: u16, page: &mut Page<P>) {
+    page.named(b"step ", h.steps.into());
+    page.named(b" function ", h.function.into());
+    page.named(word, number.into());
 }

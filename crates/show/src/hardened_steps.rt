@@ -11,6 +11,7 @@ ghost use Rattle.strike.specs.Struck.{struck_of};
 ghost use Rattle.show.specs.Due.{turn_of};
 
 use crate::{due, limit, line_text};
+use console::page::Page;
 use guard::counters;
 use machine::run;
 use machine::table::Runnable;
@@ -18,40 +19,39 @@ use rules::limits::{COUNTERS, VARIABLES};
 use rules::step::Step;
 use rules::strike::Jump;
 use state::machine::{Machine, Stopped, begun};
-use std::fmt;
 use strike::struck::land;
 
 // What comes next is listed, and then made: the jump that is due, with no step after it, or one step. The run goes on where it can't be
 // listed: what is lost the page knows.
-fn turn<W: fmt::Write>(
+fn turn<P: Print>(
     table: &Runnable,
     machine: Machine,
     strike: Option<Jump>,
     counters: &mut [u16],
     trace: &mut [u16],
-    page: &mut W,
+    page: &mut Page<P>,
 ) -> Stopped
     requires { Going (lines_in table.now.lines.now) 1 (parts_in machine counters.old trace.old) }
     ensures { stopped_with result counters.new trace.new ≡ turn_of table.now.lines.now (map_in table.now) strike (parts_in machine counters.old trace.old) }
 {
     if due::is_due(strike) {
         let place = due::place_of(strike);
-        let _ = line_text::list_jump(place, page);
+        line_text::list_jump(place, page);
         return land(table, machine, 0, place, counters, trace);
     }
     let h = machine.registers;
-    let _ = line_text::list(table, h, counters, page);
+    line_text::list(table, h, counters, page);
     run::step(table, machine, counters, trace)
 }
 
-fn walk<W: fmt::Write>(
+fn walk<P: Print>(
     table: &Runnable,
     start: Machine,
     budget: u16,
     strike: Option<Jump>,
     counters: &mut [u16],
     trace: &mut [u16],
-    page: &mut W,
+    page: &mut Page<P>,
 ) -> Stopped
     requires { Going (lines_in table.now.lines.now) budget (parts_in start counters.old trace.old) }
     ensures { stopped_with result counters.new trace.new ≡ struck_of table.now.lines.now (map_in table.now) budget strike (parts_in start counters.old trace.old) }
@@ -85,13 +85,13 @@ fn no_counters() -> [u16; COUNTERS]
 }
 
 // The steps of a hardened table's run. What it leaves in the trace is not looked at afterwards.
-fn list_accepted<W: fmt::Write>(
+fn list_accepted<P: Print>(
     lines: &[u8],
     variables: [u16; VARIABLES],
     budget: u16,
     strike: Option<Jump>,
     trace: &mut [u16],
-    page: &mut W,
+    page: &mut Page<P>,
 )
     requires lines_value { is_hardened_lem lines.now ≡ true }
     requires budget_in_bounds { budget ≤ length trace.old }
@@ -102,17 +102,17 @@ fn list_accepted<W: fmt::Write>(
     let start = begun(0, variables);
     let x = walk(&table, start, budget, strike, &mut counters, trace, page);
     let s = x.step;
-    let _ = limit::list(s, page);
+    limit::list(s, page);
 }
 
 // Nothing is listed where the lines are no hardened table.
-pub fn list<W: fmt::Write>(
+pub fn list<P: Print>(
     lines: &[u8],
     variables: [u16; VARIABLES],
     budget: u16,
     strike: Option<Jump>,
     trace: &mut [u16],
-    page: &mut W,
+    page: &mut Page<P>,
 )
     requires { budget ≤ length trace.old }
 {

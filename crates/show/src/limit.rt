@@ -1,12 +1,21 @@
 // The limit that a run met, or the row that overflows, as `show` lists it behind the steps.
+use console::page::Page;
 use rules::step::Step;
-use std::fmt;
 
-pub fn list<W: fmt::Write>(s: Step, page: &mut W) -> fmt::Result {
+pub fn list<P: Print>(s: Step, page: &mut Page<P>) {
     match s {
-        Step::Went(_) | Step::Finished | Step::Alarm => Ok(()),
-        Step::TooManyOpen(n) => writeln!(page, "{n} functions are open"),
-        Step::Beyond(last) => writeln!(page, "the last place is {last}"),
-        Step::Overflow(row, _) => writeln!(page, "row {row} overflows"),
+        Step::Went(_) | Step::Finished | Step::Alarm => {}
+        Step::TooManyOpen(n) => {
+            page.number(n.into());
+            page.word(b" functions are open\n");
+        }
+        Step::Beyond(last) => {
+            page.named(b"the last place is ", last.into());
+            page.put(b'\n');
+        }
+        Step::Overflow(row, _) => {
+            page.named(b"row ", row.into());
+            page.word(b" overflows\n");
+        }
     }
 }

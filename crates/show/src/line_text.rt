@@ -7,104 +7,95 @@ ghost use Rattle.machine.specs.Ready.{LineHere};
 ghost use Rattle.show.specs.Listed.{Placed};
 
 use crate::front;
+use console::page::Page;
 use guard::counters::get;
 use line::kind::LineKind;
 use line::{Line, read};
 use machine::table::Runnable;
 use state::machine::Registers;
-use std::fmt;
 
 fn name(kind: LineKind) -> &'static str {
     match kind {
-        LineKind::Do => "do",
-        LineKind::Tick => "tick",
-        LineKind::Test => "test",
-        LineKind::Leave => "leave",
-        LineKind::Out => "out",
-        LineKind::Call => "call",
-        LineKind::Back => "back",
-        LineKind::Ret => "ret",
+        LineKind::Do => " do",
+        LineKind::Tick => " tick",
+        LineKind::Test => " test",
+        LineKind::Leave => " leave",
+        LineKind::Out => " out",
+        LineKind::Call => " call",
+        LineKind::Back => " back",
+        LineKind::Ret => " ret",
     }
 }
 
 // ` counter R holds V`
-fn counter<W: fmt::Write>(r: u8, depth: u16, counters: &[u16], page: &mut W) -> fmt::Result
+fn counter<P: Print>(r: u8, depth: u16, counters: &[u16], page: &mut Page<P>)
     requires { (r < max_regions) × (Room depth counters.now) }
 {
-    write!(page, " counter {r} holds {}", get(counters, depth, r))
+    page.named(b" counter ", r.into());
+    page.named(b" holds ", get(counters, depth, r).into());
 }
 
 // The counters that a line looks at: a leave at two, a ret at region 0's, a do at none.
-fn looked<W: fmt::Write>(
-    kind: LineKind,
-    l: Line,
-    depth: u16,
-    counters: &[u16],
-    page: &mut W,
-) -> fmt::Result
+fn looked<P: Print>(kind: LineKind, l: Line, depth: u16, counters: &[u16], page: &mut Page<P>)
     requires { (FieldsIn kind l) × (Room depth counters.now) }
 {
     match kind {
-        LineKind::Do => Ok(()),
+        LineKind::Do => {}
         LineKind::Leave => {
-            counter(l.r, depth, counters, page)?;
-            counter(l.s, depth, counters, page)
+            counter(l.r, depth, counters, page);
+            counter(l.s, depth, counters, page);
         }
         LineKind::Ret => counter(0, depth, counters, page),
         LineKind::Tick | LineKind::Test | LineKind::Out | LineKind::Call | LineKind::Back => {
-            counter(l.r, depth, counters, page)
+            counter(l.r, depth, counters, page);
         }
     }
 }
 
 // A back looks also at where the function that returned last ended.
-fn ended<W: fmt::Write>(kind: LineKind, last: u16, page: &mut W) -> fmt::Result {
+fn ended<P: Print>(kind: LineKind, last: u16, page: &mut Page<P>) {
     if matches!(kind, LineKind::Back) {
-        return write!(page, " ended {last}");
+        page.named(b" ended ", last.into());
     }
-    Ok(())
 }
 
 // The return from place m: the host looks at region 0's counter of a function 0 that is the only open one.
-fn end<W: fmt::Write>(depth: u16, counters: &[u16], page: &mut W) -> fmt::Result
+fn end<P: Print>(depth: u16, counters: &[u16], page: &mut Page<P>)
     requires { Room depth counters.now }
 {
-    page.write_str(" end")?;
+    page.word(b" end");
     if depth == 0 {
-        counter(0, depth, counters, page)?;
+        counter(0, depth, counters, page);
     }
-    page.write_str("\n")
+    page.put(b'\n');
 }
 
-fn line<W: fmt::Write>(lines: &[u8], h: Registers, counters: &[u16], page: &mut W) -> fmt::Result
+fn line<P: Print>(lines: &[u8], h: Registers, counters: &[u16], page: &mut Page<P>)
     requires { (LineHere lines.now h.at) × (Room h.depth counters.now) }
 {
     let kind = read::kind_at(lines, h.at);
-    write!(page, " {}", name(kind))?;
-    looked(kind, read::line_at(lines, h.at), h.depth, counters, page)?;
-    ended(kind, h.last, page)?;
-    page.write_str("\n")
+    page.word(name(kind).as_bytes());
+    looked(kind, read::line_at(lines, h.at), h.depth, counters, page);
+    ended(kind, h.last, page);
+    page.put(b'\n');
 }
 
-pub fn list<W: fmt::Write>(
-    table: &Runnable,
-    h: Registers,
-    counters: &[u16],
-    page: &mut W,
-) -> fmt::Result
+pub fn list<P: Print>(table: &Runnable, h: Registers, counters: &[u16], page: &mut Page<P>)
     requires { Placed table.now.lines.now table.now.starts h counters.now }
 {
     let f = h.function as usize;
     let first = table.starts[f];
     let last = table.starts[f + 1];
-    front::list(h, "place", h.at - first, page)?;
+    front::list(h, b" place ", h.at - first, page);
     if h.at == last {
-        return end(h.depth, counters, page);
+        end(h.depth, counters, page);
+        return;
     }
-    line(table.lines, h, counters, page)
+    line(table.lines, h, counters, page);
 }
 
 // The jump, before its step.
-pub fn list_jump<W: fmt::Write>(place: u16, page: &mut W) -> fmt::Result {
-    writeln!(page, "jump to place {place}")
+pub fn list_jump<P: Print>(place: u16, page: &mut Page<P>) {
+    page.named(b"jump to place ", place.into());
+    page.put(b'\n');
 }

@@ -2,30 +2,30 @@
 ghost use Rattle.layout.specs.Spot.{Inside};
 
 use crate::front;
+use console::page::Page;
 use layout::row;
 use rules::kind::Kind;
 use state::machine::Registers;
-use std::fmt;
 
 fn name(kind: Kind) -> &'static str {
     match kind {
-        Kind::Function => "function",
-        Kind::Do => "do",
-        Kind::If => "if",
-        Kind::Else => "else",
-        Kind::Loop => "loop",
-        Kind::End => "end",
-        Kind::Break => "break",
-        Kind::Continue => "continue",
-        Kind::Call => "call",
-        Kind::Unknown => "unknown",
+        Kind::Function => " function\n",
+        Kind::Do => " do\n",
+        Kind::If => " if\n",
+        Kind::Else => " else\n",
+        Kind::Loop => " loop\n",
+        Kind::End => " end\n",
+        Kind::Break => " break\n",
+        Kind::Continue => " continue\n",
+        Kind::Call => " call\n",
+        Kind::Unknown => " unknown\n",
     }
 }
 
-pub fn list<W: fmt::Write>(rows: &[u8], h: Registers, page: &mut W) -> fmt::Result
+pub fn list<P: Print>(rows: &[u8], h: Registers, page: &mut Page<P>)
     requires { Inside rows.now h.at }
 {
     let kind = row::kind(rows, usize::from(h.at));
-    front::list(h, "row", h.at, page)?;
-    writeln!(page, " {}", name(kind))
+    front::list(h, b" row ", h.at, page);
+    page.word(name(kind).as_bytes());
 }

@@ -12,6 +12,7 @@ ghost use Rattle.show.specs.Calls.{call_at, WalkedTo, CallsTold, spent_at};
 
 use crate::{limit, row_text};
 use chain::{SIZE, link};
+use console::page::Page;
 use layout::row;
 use rows::kind::is_call;
 use rules::limits::{FUNCTIONS, ROWS, VARIABLES};
@@ -19,7 +20,6 @@ use rules::step::Step;
 use source::table::Runnable;
 use source::{goes, run};
 use state::machine::{Machine, Registers, Stopped, begun};
-use std::fmt;
 use table::links::TableLinks;
 
 // Where a walk stopped, and the calls on its way.
@@ -29,18 +29,18 @@ struct Walked {
     calls: u16,
 }
 
-// The run goes on where a step can't be listed: what is lost the page knows.
-fn list_step<W: fmt::Write>(rows: &[u8], h: Registers, show: bool, page: &mut W)
+// By named, word and put, whose promises hold where output is lost too: then the run goes on, and nothing is listed.
+fn list_step<P: Print>(rows: &[u8], h: Registers, show: bool, page: &mut Page<P>)
     requires { Inside rows.now h.at }
 {
     if show {
-        let _ = row_text::list(rows, h, page);
+        row_text::list(rows, h, page);
     }
 }
 
-fn list_end<W: fmt::Write>(s: Step, show: bool, page: &mut W) {
+fn list_end<P: Print>(s: Step, show: bool, page: &mut Page<P>) {
     if show {
-        let _ = limit::list(s, page);
+        limit::list(s, page);
     }
 }
 
@@ -65,13 +65,13 @@ fn spent(m: Machine) -> Stopped
     }
 }
 
-fn walk<W: fmt::Write>(
+fn walk<P: Print>(
     table: Runnable,
     start: Machine,
     budget: u16,
     trace: &mut [u16],
     show: bool,
-    page: &mut W,
+    page: &mut Page<P>,
 ) -> Walked
     requires { Going table.rows.now budget (parts_in start trace.old) }
     ensures { WalkedTo (table_of table.entry.rows.now) budget (parts_in start trace.old) (stopped_with result.stopped trace.new) result.calls }
@@ -97,7 +97,7 @@ fn walk<W: fmt::Write>(
 }
 
 // An accepted table's run.
-fn tell_accepted<W: fmt::Write>(
+fn tell_accepted<P: Print>(
     rows: &[u8],
     ends: &[u16; ROWS],
     elses: &[u16; ROWS],
@@ -106,7 +106,7 @@ fn tell_accepted<W: fmt::Write>(
     budget: u16,
     show: bool,
     trace: &mut [u16],
-    page: &mut W,
+    page: &mut Page<P>,
 ) -> u16
     requires rows_value { verdict_of rows.now ≡ Accepted }
     requires links { Links (table_of rows.now) ends.now elses.now heads.now }
@@ -124,14 +124,14 @@ fn tell_accepted<W: fmt::Write>(
 }
 
 // A table with a switch, whose rows are those of its chain. Nothing is listed where the table is refused.
-fn tell_switched<W: fmt::Write>(
+fn tell_switched<P: Print>(
     rows: &[u8],
     links: &mut TableLinks,
     variables: [u16; VARIABLES],
     budget: u16,
     show: bool,
     trace: &mut [u16],
-    page: &mut W,
+    page: &mut Page<P>,
 ) -> u16
     requires { budget ≤ length trace.old }
     ensures { CallsTold rows.now budget variables page.old page.new result }
@@ -156,13 +156,13 @@ fn tell_switched<W: fmt::Write>(
 }
 
 // How many calls the run makes.
-pub fn tell<W: fmt::Write>(
+pub fn tell<P: Print>(
     rows: &[u8],
     variables: [u16; VARIABLES],
     budget: u16,
     show: bool,
     trace: &mut [u16],
-    page: &mut W,
+    page: &mut Page<P>,
 ) -> u16
     requires { budget ≤ length trace.old }
     ensures { CallsTold rows.now budget variables page.old page.new result }
