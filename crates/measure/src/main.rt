@@ -32,13 +32,19 @@ fn measure(rt: &(impl Input + Print)) {
 fn answer(rt: &impl Print, m: Measured) {
     // The number is 01's, and 0 is none: the C struct has it so.
     if m.number != 0 {
-        let mut text = io::large_buffer();
-        output::refused(rt, m.number, &mut text);
+        refused(rt, m.number);
         return;
     }
     let mut page = Page::new(rt);
     tell(m, &mut page);
     page.flush();
+}
+
+// By output::refused, which promises the line; not compiled into its caller, whose frame has the page.
+#[inline(never)]
+fn refused(rt: &impl Print, number: u8) {
+    let mut text = io::large_buffer();
+    output::refused(rt, number, &mut text);
 }
 
 // By named, whose promise holds where output is lost too.

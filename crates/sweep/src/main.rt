@@ -81,7 +81,8 @@ fn sweep(rt: &impl Print, a: SweepAsked, lines: &[u8]) {
     page.flush();
 }
 
-// By output::refused, which promises the line.
+// By output::refused, which promises the line; not compiled into its caller, whose frame has the page.
+#[inline(never)]
 fn refused(rt: &impl Print, number: u8) {
     let mut text = io::large_buffer();
     output::refused(rt, number, &mut text);
