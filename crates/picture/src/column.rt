@@ -6,46 +6,48 @@ ghost use Rattle.rules.specs.Line.{line_width};
 use crate::label;
 use crate::runs::{Drawn, Run, piece};
 use cells::rank::Rank;
+use console::page::Page;
 use line::read;
-use std::fmt;
 
 // Runs that are drawn one by one.
 const FEW: usize = 8;
 
-fn open<W: fmt::Write>(class: char, page: &mut W) -> fmt::Result {
-    write!(page, "<path class=\"{class}\" d=\"")
+fn open<P: Print>(class: u8, page: &mut Page<P>) {
+    page.word(b"<path class=\"");
+    page.put(class);
+    page.word(b"\" d=\"");
 }
 
-fn close<W: fmt::Write>(page: &mut W) -> fmt::Result {
-    page.write_str("\"/>\n")
+fn close<P: Print>(page: &mut Page<P>) {
+    page.word(b"\"/>\n");
 }
 
 // The places where the run stood: every strike out of them to a wide place is an alarm, but for those that are drawn over it.
-pub fn stood<W: fmt::Write>(cells: &[Rank], width: u16, page: &mut W) -> fmt::Result {
-    open('a', page)?;
+pub fn stood<P: Print>(cells: &[Rank], width: u16, page: &mut Page<P>) {
+    open(b'a', page);
     for run in Drawn::Struck.runs(cells) {
-        piece(0, width, run, page)?;
+        piece(0, width, run, page);
     }
-    close(page)
+    close(page);
 }
 
 // The cells of one rank, where there are any.
-fn path<W: fmt::Write>(
-    class: char,
+fn path<P: Print>(
+    class: u8,
     r: Rank,
     cells: &[Rank],
     place: u16,
     most: usize,
-    page: &mut W,
-) -> fmt::Result {
+    page: &mut Page<P>,
+) {
     if !cells.contains(&r) {
-        return Ok(());
+        return;
     }
-    open(class, page)?;
+    open(class, page);
     for run in Drawn::Of(r).runs(cells).take(most) {
-        piece(place, 1, run, page)?;
+        piece(place, 1, run, page);
     }
-    close(page)
+    close(page);
 }
 
 // From the first run that is not drawn one by one to the last.
@@ -60,50 +62,50 @@ fn behind_few(cells: &[Rank]) -> Option<Run> {
 }
 
 // Eight runs at most, so that the picture stays small: all behind them is one piece of another class. Whether there are any.
-fn unfinished<W: fmt::Write>(cells: &[Rank], place: u16, page: &mut W) -> Result<bool, fmt::Error> {
-    path('u', Rank::Unfinished, cells, place, FEW, page)?;
+fn unfinished<P: Print>(cells: &[Rank], place: u16, page: &mut Page<P>) -> bool {
+    path(b'u', Rank::Unfinished, cells, place, FEW, page);
     let Some(behind) = behind_few(cells) else {
-        return Ok(false);
+        return false;
     };
-    open('x', page)?;
-    piece(place, 1, behind, page)?;
-    close(page)?;
-    Ok(true)
+    open(b'x', page);
+    piece(place, 1, behind, page);
+    close(page);
+    true
 }
 
 // Place m has no line.
-fn labels<W: fmt::Write>(
+fn labels<P: Print>(
     lines: &[u8],
     first: u16,
     place: u16,
     cells: &[Rank],
-    page: &mut W,
-) -> fmt::Result
+    page: &mut Page<P>,
+)
     requires { (first + length cells.now ≤ max_lines) × (line_width * (first + length cells.now) ≤ length lines.now) }
 {
     if cells.len() <= place as usize {
-        return Ok(());
+        return;
     }
     let kind = read::kind_at(lines, first + place);
-    label::line(place, kind, page)?;
-    label::narrow(lines, first, place, kind, cells, page)
+    label::line(place, kind, page);
+    label::narrow(lines, first, place, kind, cells, page);
 }
 
 // The column of this place of the function whose lines begin with `first`; a cell for each of them. Whether it had more runs than are drawn
 // one by one.
-pub fn draw<W: fmt::Write>(
+pub fn draw<P: Print>(
     lines: &[u8],
     first: u16,
     place: u16,
     cells: &[Rank],
-    page: &mut W,
-) -> Result<bool, fmt::Error>
+    page: &mut Page<P>,
+) -> bool
     requires { (first + length cells.now ≤ max_lines) × (line_width * (first + length cells.now) ≤ length lines.now) }
 {
-    let mixed = unfinished(cells, place, page)?;
-    path('s', Rank::Same, cells, place, usize::MAX, page)?;
-    path('o', Rank::Other, cells, place, usize::MAX, page)?;
-    labels(lines, first, place, cells, page)?;
-    label::number(place, page)?;
-    Ok(mixed)
+    let mixed = unfinished(cells, place, page);
+    path(b's', Rank::Same, cells, place, usize::MAX, page);
+    path(b'o', Rank::Other, cells, place, usize::MAX, page);
+    labels(lines, first, place, cells, page);
+    label::number(place, page);
+    mixed
 }

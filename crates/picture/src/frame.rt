@@ -2,32 +2,33 @@
 ghost use Rattle.std.specs.Prelude.{◌≤◌};
 ghost use Rattle.rules.specs.Limits.{max_lines};
 
+use console::page::Page;
 use rules::answer::Swept;
-use std::fmt;
 
 // The size of a function of m lines: 12 pixels a cell.
-fn open<W: fmt::Write>(m: u16, page: &mut W) -> fmt::Result
+fn open<P: Print>(m: u16, page: &mut Page<P>)
     requires { m ≤ max_lines }
 {
     let wide = m + 38;
     let high = m + 18;
-    write!(
-        page,
-        "<svg xmlns=\"http://www.w3.org/2000/svg\" width=\"{}\" height=\"{}\"",
-        12 * wide,
-        12 * high
-    )?;
-    writeln!(page, " viewBox=\"-7 -4 {wide} {high}\">")
+    page.named(
+        b"<svg xmlns=\"http://www.w3.org/2000/svg\" width=\"",
+        (12 * wide).into(),
+    );
+    page.named(b"\" height=\"", (12 * high).into());
+    page.named(b"\" viewBox=\"-7 -4 ", wide.into());
+    page.named(b" ", high.into());
+    page.word(b"\">\n");
 }
 
 // Each class differs in shape as well as in colour.
-fn looks<W: fmt::Write>(page: &mut W) -> fmt::Result {
-    page.write_str(
-        "<style>svg{background:#fff}text{font:.9px sans-serif;fill:#222}.l{text-anchor:end}.t{text-anchor:middle}.h{font-size:1.1px}.n{fill:url(#n)}.a{fill:#bfe3c6}.g{fill:url(#g)}.s{fill:url(#s)}.o{fill:url(#o)}.u{fill:url(#u)}.x{fill:url(#x)}.mo{font-weight:bold;fill:#a00}.ms{fill:#777}.mu{fill:#853}</style>
+fn looks<P: Print>(page: &mut Page<P>) {
+    page.word(
+        b"<style>svg{background:#fff}text{font:.9px sans-serif;fill:#222}.l{text-anchor:end}.t{text-anchor:middle}.h{font-size:1.1px}.n{fill:url(#n)}.a{fill:#bfe3c6}.g{fill:url(#g)}.s{fill:url(#s)}.o{fill:url(#o)}.u{fill:url(#u)}.x{fill:url(#x)}.mo{font-weight:bold;fill:#a00}.ms{fill:#777}.mu{fill:#853}</style>
 ",
-    )?;
-    page.write_str(
-        "<defs>
+    );
+    page.word(
+        b"<defs>
 <pattern id=\"n\" width=\"1\" height=\"1\" patternUnits=\"userSpaceOnUse\"><path d=\"M0 0h1v1H0z\" fill=\"#fff\"/><path d=\"M0 1L1 0\" stroke=\"#aaa\" stroke-width=\".08\"/></pattern>
 <pattern id=\"g\" width=\"5\" height=\"5\" patternUnits=\"userSpaceOnUse\"><path d=\"M0 0H5M0 0V5\" stroke=\"#fff\" stroke-width=\".12\"/></pattern>
 <pattern id=\"s\" width=\"1\" height=\"1\" patternUnits=\"userSpaceOnUse\"><path d=\"M0 0h1v1H0z\" fill=\"#fff\"/><circle cx=\".5\" cy=\".5\" r=\".2\" fill=\"#246\"/></pattern>
@@ -36,74 +37,80 @@ fn looks<W: fmt::Write>(page: &mut W) -> fmt::Result {
 <pattern id=\"x\" width=\"1\" height=\"1\" patternUnits=\"userSpaceOnUse\"><path d=\"M0 0h1v1H0z\" fill=\"#bfe3c6\"/><path d=\"M0 .5H1\" stroke=\"#c80\" stroke-width=\".3\"/></pattern>
 </defs>
 ",
-    )
+    );
 }
 
-fn grid<W: fmt::Write>(class: char, m: u16, page: &mut W) -> fmt::Result
+fn grid<P: Print>(class: u8, m: u16, page: &mut Page<P>)
     requires { m ≤ max_lines }
 {
-    writeln!(
-        page,
-        "<rect class=\"{class}\" width=\"{}\" height=\"{m}\"/>",
-        m + 1
-    )
+    page.word(b"<rect class=\"");
+    page.put(class);
+    page.named(b"\" width=\"", (m + 1).into());
+    page.named(b"\" height=\"", m.into());
+    page.word(b"\"/>\n");
 }
 
 // Up to the grid, all of it as if the run had never stood there.
-pub fn begin<W: fmt::Write>(function: u8, m: u16, page: &mut W) -> fmt::Result
+pub fn begin<P: Print>(function: u8, m: u16, page: &mut Page<P>)
     requires { m ≤ max_lines }
 {
-    open(m, page)?;
-    looks(page)?;
-    writeln!(
-        page,
-        "<text class=\"h\" y=\"-2.6\">function {function}: struck at the place on the left, to the place above</text>"
-    )?;
-    grid('n', m, page)
+    open(m, page);
+    looks(page);
+    page.named(b"<text class=\"h\" y=\"-2.6\">function ", function.into());
+    page.word(b": struck at the place on the left, to the place above</text>\n");
+    grid(b'n', m, page);
 }
 
 // A line for every five places.
-pub fn fifths<W: fmt::Write>(m: u16, page: &mut W) -> fmt::Result
+pub fn fifths<P: Print>(m: u16, page: &mut Page<P>)
     requires { m ≤ max_lines }
 {
-    grid('g', m, page)
+    grid(b'g', m, page);
 }
 
-fn entry<W: fmt::Write>(class: char, words: &str, y: u16, page: &mut W) -> fmt::Result {
-    write!(
-        page,
-        "<rect class=\"{class}\" y=\"{y}\" width=\"1\" height=\"1\"/>"
-    )?;
-    writeln!(page, "<text x=\"1.6\" y=\"{y}.8\">{words}</text>")
+fn entry<P: Print>(class: u8, words: &[u8], y: u16, page: &mut Page<P>) {
+    page.word(b"<rect class=\"");
+    page.put(class);
+    page.named(b"\" y=\"", y.into());
+    page.named(
+        b"\" width=\"1\" height=\"1\"/><text x=\"1.6\" y=\"",
+        y.into(),
+    );
+    page.word(b".8\">");
+    page.word(words);
+    page.word(b"</text>\n");
 }
 
-fn legend<W: fmt::Write>(m: u16, page: &mut W) -> fmt::Result
+fn legend<P: Print>(m: u16, page: &mut Page<P>)
     requires { m ≤ max_lines }
 {
-    entry('a', "alarm", m + 1, page)?;
-    entry('s', "finished with the same trace", m + 3, page)?;
-    entry('o', "finished with another trace", m + 5, page)?;
-    entry('u', "not finished", m + 7, page)?;
-    entry('n', "the run never stood there", m + 9, page)
+    entry(b'a', b"alarm", m + 1, page);
+    entry(b's', b"finished with the same trace", m + 3, page);
+    entry(b'o', b"finished with another trace", m + 5, page);
+    entry(b'u', b"not finished", m + 7, page);
+    entry(b'n', b"the run never stood there", m + 9, page);
 }
 
-fn counts<W: fmt::Write>(r: Swept, y: u16, page: &mut W) -> fmt::Result {
-    write!(
-        page,
-        "<text y=\"{y}.8\">whole sweep: alarm {}, same {}, other {}, unfinished {}</text>\n</svg>\n",
-        r.alarms, r.same, r.other, r.unfinished
-    )
+fn counts<P: Print>(r: Swept, y: u16, page: &mut Page<P>) {
+    page.named(b"<text y=\"", y.into());
+    page.named(b".8\">whole sweep: alarm ", r.alarms.into());
+    page.named(b", same ", r.same.into());
+    page.named(b", other ", r.other.into());
+    page.named(b", unfinished ", r.unfinished.into());
+    page.word(b"</text>\n</svg>\n");
 }
 
 // Behind the columns. The class for many runs is told only where one of them has it.
-pub fn end<W: fmt::Write>(r: Swept, m: u16, mixed: bool, page: &mut W) -> fmt::Result
+pub fn end<P: Print>(r: Swept, m: u16, mixed: bool, page: &mut Page<P>)
     requires { m ≤ max_lines }
 {
-    writeln!(page, "<text class=\"t\" x=\"{m}.5\" y=\"-1.4\">m</text>")?;
-    legend(m, page)?;
+    page.named(b"<text class=\"t\" x=\"", m.into());
+    page.word(b".5\" y=\"-1.4\">m</text>\n");
+    legend(m, page);
     if mixed {
-        entry('x', "not finished from some of these places", m + 11, page)?;
-        return counts(r, m + 13, page);
+        entry(b'x', b"not finished from some of these places", m + 11, page);
+        counts(r, m + 13, page);
+        return;
     }
-    counts(r, m + 11, page)
+    counts(r, m + 11, page);
 }

@@ -7,10 +7,10 @@ ghost use Rattle.rules.specs.Function.{function_at};
 use crate::{column, frame};
 use cells::column::cells;
 use compare::spare::Spare;
+use console::page::Page;
 use line::Line;
 use machine::table::Runnable;
 use rules::answer::Swept;
-use std::fmt;
 use sweeper::unstruck::Unstruck;
 
 // The number of the last function: that of the last line.
@@ -22,13 +22,13 @@ pub fn last_of(table: &Runnable) -> u8
 }
 
 // Up to the columns. Where the run stood is told by any of them.
-fn background<W: fmt::Write>(
+fn background<P: Print>(
     run: &Unstruck,
     function: u8,
     counters: &mut [u16],
     spare: &mut Spare,
-    page: &mut W,
-) -> fmt::Result
+    page: &mut Page<P>,
+)
     requires { (function < function_at (lines_in run.now.table.now.lines.now) (length (lines_in run.now.table.now.lines.now))) × (length counters.old ≡ counter_words) }
 {
     let f = function as usize;
@@ -36,20 +36,20 @@ fn background<W: fmt::Write>(
     let to = run.table.starts[f + 1];
     let m = to - from;
     let c = cells(run, function, 0, counters, spare);
-    frame::begin(function, m, page)?;
+    frame::begin(function, m, page);
     let own = &c[from as usize..to as usize];
-    column::stood(own, m + 1, page)?;
-    frame::fifths(m, page)
+    column::stood(own, m + 1, page);
+    frame::fifths(m, page);
 }
 
 // Whether any of them had more runs than are drawn one by one.
-fn columns<W: fmt::Write>(
+fn columns<P: Print>(
     run: &Unstruck,
     function: u8,
     counters: &mut [u16],
     spare: &mut Spare,
-    page: &mut W,
-) -> Result<bool, fmt::Error>
+    page: &mut Page<P>,
+) -> bool
     requires { (function < function_at (lines_in run.now.table.now.lines.now) (length (lines_in run.now.table.now.lines.now))) × (length counters.old ≡ counter_words) }
 {
     let f = function as usize;
@@ -59,23 +59,23 @@ fn columns<W: fmt::Write>(
     for place in 0..=to - from {
         let c = cells(run, function, place, counters, spare);
         let own = &c[from as usize..to as usize];
-        mixed |= column::draw(run.table.lines, from, place, own, page)?;
+        mixed |= column::draw(run.table.lines, from, place, own, page);
     }
-    Ok(mixed)
+    mixed
 }
 
-pub fn draw<W: fmt::Write>(
+pub fn draw<P: Print>(
     run: &Unstruck,
     function: u8,
     swept: Swept,
     counters: &mut [u16],
     spare: &mut Spare,
-    page: &mut W,
-) -> fmt::Result
+    page: &mut Page<P>,
+)
     requires { (function < function_at (lines_in run.now.table.now.lines.now) (length (lines_in run.now.table.now.lines.now))) × (length counters.old ≡ counter_words) }
 {
-    background(run, function, counters, spare, page)?;
-    let mixed = columns(run, function, counters, spare, page)?;
+    background(run, function, counters, spare, page);
+    let mixed = columns(run, function, counters, spare, page);
     let (_, m) = run.table.places_of(function);
-    frame::end(swept, m, mixed, page)
+    frame::end(swept, m, mixed, page);
 }

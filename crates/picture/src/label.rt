@@ -3,9 +3,9 @@ ghost use Rattle.std.specs.Prelude.{◌+◌, ◌*◌, ◌≤◌, ◌<◌, length
 ghost use Rattle.rules.specs.Line.{line_width};
 
 use cells::rank::Rank;
+use console::page::Page;
 use line::kind::LineKind;
 use line::read;
-use std::fmt;
 
 fn name(kind: LineKind) -> &'static str {
     match kind {
@@ -21,12 +21,12 @@ fn name(kind: LineKind) -> &'static str {
 }
 
 // The line before this place.
-pub fn line<W: fmt::Write>(place: u16, kind: LineKind, page: &mut W) -> fmt::Result {
-    writeln!(
-        page,
-        "<text class=\"l\" x=\"-.4\" y=\"{place}.8\">{place} {}</text>",
-        name(kind)
-    )
+pub fn line<P: Print>(place: u16, kind: LineKind, page: &mut Page<P>) {
+    page.named(b"<text class=\"l\" x=\"-.4\" y=\"", place.into());
+    page.named(b".8\">", place.into());
+    page.put(b' ');
+    page.word(name(kind).as_bytes());
+    page.word(b"</text>\n");
 }
 
 // The label's class, by what became of the jump.
@@ -39,57 +39,58 @@ fn class(r: Rank) -> &'static str {
 }
 
 // The do of this line is crossed by the jump out of place y; nothing where the run never stood there.
-fn crossed<W: fmt::Write>(
+fn crossed<P: Print>(
     lines: &[u8],
     line: u16,
-    words: &str,
+    words: &[u8],
     cells: &[Rank],
     y: usize,
-    page: &mut W,
-) -> fmt::Result
+    page: &mut Page<P>,
+)
     requires { line_width * line + line_width ≤ length lines.now }
 {
     let r = cells.get(y).copied().unwrap_or(Rank::Never);
     if r == Rank::Never {
-        return Ok(());
+        return;
     }
     let row = read::line_at(lines, line).e;
     let x = cells.len() as u64 + 1;
-    writeln!(
-        page,
-        "<text class=\"{}\" x=\"{x}.4\" y=\"{y}.8\">row {row} {words}</text>",
-        class(r)
-    )
+    page.word(b"<text class=\"");
+    page.word(class(r).as_bytes());
+    page.named(b"\" x=\"", x);
+    page.named(b".4\" y=\"", y as u64);
+    page.named(b".8\">row ", row.into());
+    page.word(words);
+    page.word(b"</text>\n");
 }
 
 // The narrow jump to this place comes back to a do from its tick, or past it from the do.
-pub fn narrow<W: fmt::Write>(
+pub fn narrow<P: Print>(
     lines: &[u8],
     first: u16,
     place: u16,
     kind: LineKind,
     cells: &[Rank],
-    page: &mut W,
-) -> fmt::Result
+    page: &mut Page<P>,
+)
     requires { (first + place < 65535) × (line_width * (first + place) + line_width ≤ length lines.now) }
 {
     let y = place as usize;
     match kind {
-        LineKind::Do => crossed(lines, first + place, "done twice", cells, y + 1, page),
+        LineKind::Do => crossed(lines, first + place, b" done twice", cells, y + 1, page),
         LineKind::Tick if 0 < place => {
-            crossed(lines, first + place - 1, "left out", cells, y - 1, page)
+            crossed(lines, first + place - 1, b" left out", cells, y - 1, page)
         }
-        _ => Ok(()),
+        _ => {}
     }
 }
 
 // Every fifth place is numbered.
-pub fn number<W: fmt::Write>(place: u16, page: &mut W) -> fmt::Result {
+pub fn number<P: Print>(place: u16, page: &mut Page<P>) {
     if place % 5 != 0 {
-        return Ok(());
+        return;
     }
-    writeln!(
-        page,
-        "<text class=\"t\" x=\"{place}.5\" y=\"-.4\">{place}</text>"
-    )
+    page.named(b"<text class=\"t\" x=\"", place.into());
+    page.named(b".5\" y=\"-.4\">", place.into());
+    page.word(b"</text>\n");
 }

@@ -3,7 +3,7 @@ ghost use Rattle.std.specs.Prelude.{◌-◌, ◌≤◌, length};
 ghost use Rattle.std.specs.Iterator.{at_most};
 
 use cells::rank::Rank;
-use std::fmt;
+use console::page::Page;
 
 // Which cells are drawn.
 #[derive(Clone, Copy)]
@@ -69,7 +69,12 @@ impl Iterator for Runs<'_> {
 }
 
 // A run, `width` columns from this place on.
-pub fn piece<W: fmt::Write>(place: u16, width: u16, run: Run, page: &mut W) -> fmt::Result {
+pub fn piece<P: Print>(place: u16, width: u16, run: Run, page: &mut Page<P>) {
     let height = run.to.abs_diff(run.from);
-    write!(page, "M{place} {}h{width}v{height}H{place}z", run.from)
+    page.named(b"M", place.into());
+    page.named(b" ", run.from as u64);
+    page.named(b"h", width.into());
+    page.named(b"v", height as u64);
+    page.named(b"H", place.into());
+    page.put(b'z');
 }

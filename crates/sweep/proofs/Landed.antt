@@ -1,7 +1,7 @@
 -- The lines that are told of a jump across one do. Assumes what the loop over the steps keeps.
 use mathlib.Core.Path.{ap}
 use mathlib.Core.List.{List, []}
-use Prim.Native.Nat.{ℕ, ◌-◌, ◌≤◌}
+use Prim.Native.Nat.{ℕ, ◌-◌}
 use native.Mathlib.Omega.{arith}
 use lib.ListN.{length, take, drop}
 use Rattle.rules.specs.Line.{lines_in}

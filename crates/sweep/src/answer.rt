@@ -10,7 +10,6 @@ use console::page::Page;
 use machine::table::Runnable;
 use rules::answer::Swept;
 use rules::limits::COUNTERS;
-use std::fmt;
 use sweeper::table;
 use sweeper::unstruck::Unstruck;
 
@@ -31,14 +30,14 @@ fn walk_again<P: Print>(
     trace: &mut [u16],
     words: &mut [u16],
     page: &mut Page<P>,
-) -> fmt::Result
+)
     requires { (is_hardened_lem lines.now ≡ true) × (a.budget ≤ length trace.old) × (length words.old ≡ counter_words) }
 {
     let variables = a.variables;
     let table = Runnable::of(lines);
     let mut spare = Spare::new();
     let Some(n) = table::prepare(&table, variables, a.budget, trace, words, &mut spare) else {
-        return Ok(());
+        return;
     };
     let run = Unstruck {
         table: &table,
@@ -47,11 +46,11 @@ fn walk_again<P: Print>(
         trace: &trace[..n as usize],
     };
     if let Form::Map(function) = a.form {
-        return map::show(&run, function, r, words, &mut spare, page);
+        map::show(&run, function, r, words, &mut spare, page);
+        return;
     }
-    list::walk(&run, words, &mut spare, page)?;
+    list::walk(&run, words, &mut spare, page);
     tell(r, page);
-    Ok(())
 }
 
 pub fn answer<P: Print>(
@@ -61,13 +60,12 @@ pub fn answer<P: Print>(
     trace: &mut [u16; 65535],
     counters: &mut [u16; COUNTERS],
     page: &mut Page<P>,
-) -> fmt::Result {
+) {
     if matches!(a.form, Form::Counts) {
         tell(r, page);
-        return Ok(());
+        return;
     }
     if reader::is_hardened(lines) {
-        return walk_again(a, r, lines, trace, counters, page);
+        walk_again(a, r, lines, trace, counters, page);
     }
-    Ok(())
 }

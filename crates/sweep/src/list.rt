@@ -7,41 +7,34 @@ use crate::jump;
 use compare::narrow;
 use compare::narrow::Narrow;
 use compare::spare::Spare;
+use console::page::Page;
 use machine::table::Runnable;
 use state::machine::{Machine, Registers};
-use std::fmt;
 use sweeper::steps::is_other;
 use sweeper::unstruck::Unstruck;
 use sweeper::walk;
 use sweeper::walk::Asked;
 
 // One step's jump, where it finished with another trace.
-fn tell<W: fmt::Write>(
-    table: &Runnable,
-    h: Registers,
-    n: Narrow,
-    step: u16,
-    page: &mut W,
-) -> fmt::Result
+fn tell<P: Print>(table: &Runnable, h: Registers, n: Narrow, step: u16, page: &mut Page<P>)
     requires { Lands table.now.lines.now table.now.starts h n.line }
 {
     let ending = n.ending;
     if is_other(ending) {
-        return jump::tell(table, h, n.line, step, page);
+        jump::tell(table, h, n.line, step, page);
     }
-    Ok(())
 }
 
-// The page, and whether all could be told on it.
+// The page that the list goes on.
 #[derive(Drop)]
-struct Listing<'a, W> {
-    page: &'a mut W,
-    told: fmt::Result,
+struct Listing<'a, 'b, P: Print> {
+    page: &'a mut Page<'b, P>,
 }
 
-impl<W: fmt::Write> Asked for Listing<'_, W> {
+impl<P: Print> Asked for Listing<'_, '_, P> {
     ghost struck = { λ _ _ _ _ _. ⊤ };
 
+    // The walk goes on where output is lost: that the page knows.
     fn strike(
         &mut self,
         run: &Unstruck,
@@ -53,22 +46,14 @@ impl<W: fmt::Write> Asked for Listing<'_, W> {
     ) -> bool {
         let left = run.budget - step;
         let n = narrow::across(run.table, machine, left, known, counters, spare);
-        let told = tell(run.table, machine.registers, n, step, self.page);
-        let goes_on = told.is_ok();
-        self.told = told;
-        goes_on
+        tell(run.table, machine.registers, n, step, self.page);
+        true
     }
 }
 
-pub fn walk<W: fmt::Write>(
-    run: &Unstruck,
-    counters: &mut [u16],
-    spare: &mut Spare,
-    page: &mut W,
-) -> fmt::Result
+pub fn walk<P: Print>(run: &Unstruck, counters: &mut [u16], spare: &mut Spare, page: &mut Page<P>)
     requires { length counters.old ≡ counter_words }
 {
-    let mut listing = Listing { page, told: Ok(()) };
+    let mut listing = Listing { page };
     walk::walk(run, counters, spare, &mut listing);
-    listing.told
 }

@@ -76,8 +76,7 @@ fn sweep(rt: &impl Print, a: SweepAsked, lines: &[u8]) {
         refused(rt, r.number);
         return;
     }
-    // Where output is lost the page says so.
-    let _ = answer::answer(a, r, lines, &mut trace, &mut counters, &mut page);
+    answer::answer(a, r, lines, &mut trace, &mut counters, &mut page);
     page.flush();
 }
 

@@ -3,11 +3,11 @@ ghost use Rattle.std.specs.Prelude.{◌≡◌, length};
 ghost use Rattle.rules.specs.Limits.{counter_words};
 
 use compare::spare::Spare;
+use console::page::Page;
 use console::standard_error::StandardError;
 use picture::function;
 use rules::answer::Swept;
-use std::fmt;
-use std::fmt::Write as _;
+use std::fmt::Write;
 use sweeper::unstruck::Unstruck;
 
 // On standard error: nothing is drawn.
@@ -18,20 +18,20 @@ fn tell_missing(wanted: u8, last: u8) {
     );
 }
 
-pub fn show<W: fmt::Write>(
+pub fn show<P: Print>(
     run: &Unstruck,
     wanted: u8,
     swept: Swept,
     counters: &mut [u16],
     spare: &mut Spare,
-    page: &mut W,
-) -> fmt::Result
+    page: &mut Page<P>,
+)
     requires { length counters.old ≡ counter_words }
 {
     let last = function::last_of(run.table);
     if last < wanted {
         tell_missing(wanted, last);
-        return Ok(());
+        return;
     }
-    function::draw(run, wanted, swept, counters, spare, page)
+    function::draw(run, wanted, swept, counters, spare, page);
 }

@@ -10,5 +10,5 @@ overflow_sub-left g c = omega (arith, in_steps _ _ _ _ _ _ _ _ c.requires.before
 pub across-n-requires : goal.across-n-requires
 across-n-requires g c = let w = (shown c.args.run.now.table.now.ready c.args.run.now.hardened c.args.run.now.finishes (omega (arith, c.type_inv.run)) c.requires.before) in (standing w, stands-before w)
 
-pub tell-told-requires : goal.tell-told-requires
-tell-told-requires g c = lands (shown c.args.run.now.table.now.ready c.args.run.now.hardened c.args.run.now.finishes (omega (arith, c.type_inv.run)) c.requires.before) _ (as_rest c.requires.before _ c.across-n.ensures)
+pub tell-requires : goal.tell-requires
+tell-requires g c = lands (shown c.args.run.now.table.now.ready c.args.run.now.hardened c.args.run.now.finishes (omega (arith, c.type_inv.run)) c.requires.before) _ (as_rest c.requires.before _ c.across-n.ensures)
