@@ -3,26 +3,26 @@ use crate::asked::Asked;
 use crate::call::Call;
 use crate::lent::Lent;
 use crate::page::Page;
-use crate::show::bytes;
+use crate::show::Bytes;
 use crate::{runs, sweeps};
 use rules::answer::Wrote;
 use std::fmt;
 use std::fmt::Write;
 
 pub fn answer(asked: &Asked, lent: &mut Lent, page: &mut Page) -> fmt::Result {
-    let given = asked.bytes();
+    let bytes = asked.bytes();
     let numbers = &asked.numbers;
     match asked.call {
-        Call::Check => writeln!(page, "{}", finuraho::check(given)),
-        Call::Fault => fault(given, page),
-        Call::Measure => measure(given, page),
-        Call::Harden => harden(given, lent.room(numbers[0]), page),
-        Call::Read => read_back(given, lent.room(numbers[0]), page),
-        Call::Source => runs::source(given, numbers, lent, page),
+        Call::Check => writeln!(page, "{}", finuraho::check(bytes)),
+        Call::Fault => fault(bytes, page),
+        Call::Measure => measure(bytes, page),
+        Call::Harden => harden(bytes, lent.room(numbers[0]), page),
+        Call::Read => read_back(bytes, lent.room(numbers[0]), page),
+        Call::Source => runs::source(bytes, numbers, lent, page),
         Call::Total => runs::total(numbers, page),
-        Call::Hardened => runs::hardened(given, numbers, lent, page),
-        Call::Whole => sweeps::whole(given, numbers, lent, page),
-        Call::Other => sweeps::other(given, numbers, lent, page),
+        Call::Hardened => runs::hardened(bytes, numbers, lent, page),
+        Call::Whole => sweeps::whole(bytes, numbers, lent, page),
+        Call::Other => sweeps::other(bytes, numbers, lent, page),
     }
 }
 
@@ -52,7 +52,5 @@ fn read_back(lines: &[u8], out: &mut [u8], page: &mut Page) -> fmt::Result {
 
 // The number, the length and the whole buffer.
 fn wrote(w: Wrote, out: &[u8], page: &mut Page) -> fmt::Result {
-    write!(page, "{} {} ", w.number, w.length)?;
-    bytes(out, page);
-    writeln!(page, "")
+    writeln!(page, "{} {} {}", w.number, w.length, Bytes(out))
 }

@@ -28,7 +28,7 @@ impl Page {
     }
 
     // In one piece; only a text that an empty page has no room for goes there byte by byte.
-    pub fn add(&mut self, bytes: &[u8]) {
+    fn add(&mut self, bytes: &[u8]) {
         if SIZE - self.held < bytes.len() {
             self.flush();
         }

@@ -3,7 +3,7 @@ ghost use Rattle.std.specs.Prelude.{◌+◌, ◌≤◌};
 
 use crate::lent::{Lent, WORD};
 use crate::page::Page;
-use crate::show::words;
+use crate::show::Words;
 use rules::answer::Ran;
 use std::fmt;
 use std::fmt::Write;
@@ -53,11 +53,16 @@ pub fn hardened(
 }
 
 fn ran(r: Ran, trace: &[u16], page: &mut Page) -> fmt::Result {
-    write!(page, "{} {} {} {} ", r.number, r.outcome, r.steps, r.traced)?;
-    words(&r.variables, page);
-    page.add(b" ");
-    words(trace, page);
-    Ok(())
+    write!(
+        page,
+        "{} {} {} {} {} {}",
+        r.number,
+        r.outcome,
+        r.steps,
+        r.traced,
+        Words(&r.variables),
+        Words(trace)
+    )
 }
 
 // What became of the counter words.

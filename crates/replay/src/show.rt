@@ -1,37 +1,53 @@
-// Numbers and bytes as they are printed. Their digits are made here, some hundred at a time, and put on the page as bytes: by a `write!` for each
-// of them, or by a Display of all, which is handed on as text, it takes longer (docs/DESIGN-PASS.md).
+// Numbers and bytes as they are printed. Their digits are made here, some hundred at a time, and handed on as one text: a `write!` for each
+// of them takes many times as long (docs/DESIGN-PASS.md).
 ghost use Rattle.std.specs.Prelude.{◌≡◌, ◌≤◌, ◌<◌, ◌+◌, length};
 
-use crate::page::Page;
+use std::{fmt, str};
 
 // How much text is made at a time.
 const PIECE: usize = 4096;
 
+// Digits and commas are text, so there is no error.
+fn put<W: fmt::Write>(text: &[u8], f: &mut fmt::Formatter<W>) -> fmt::Result {
+    let s = str::from_utf8(text).map_err(|_| fmt::Error)?;
+    f.write_str(s)
+}
+
 // With commas between them; `-` for none.
-pub fn words(these: &[u16], page: &mut Page) {
-    let Some((first, others)) = these.split_first() else {
-        page.add(b"-");
-        return;
-    };
-    let mut text = [0; PIECE];
-    let n = decimal(*first, &mut text, 0);
-    page.add(&text[..n]);
-    for part in others.chunks(PIECE / 6) {
-        let n = list(part, &mut text);
-        page.add(&text[..n]);
+#[derive(Clone, Copy)]
+pub struct Words<'a>(pub &'a [u16]);
+
+impl fmt::Display for Words<'_> {
+    fn fmt<W: fmt::Write>(&self, f: &mut fmt::Formatter<W>) -> fmt::Result {
+        let Some((first, others)) = self.0.split_first() else {
+            return f.write_str("-");
+        };
+        let mut text = [0; PIECE];
+        let n = decimal(*first, &mut text, 0);
+        put(&text[..n], f)?;
+        for part in others.chunks(PIECE / 6) {
+            let n = list(part, &mut text);
+            put(&text[..n], f)?;
+        }
+        Ok(())
     }
 }
 
 // In hexadecimal; `-` for none.
-pub fn bytes(these: &[u8], page: &mut Page) {
-    if these.is_empty() {
-        page.add(b"-");
-        return;
-    }
-    let mut text = [0; PIECE];
-    for part in these.chunks(PIECE / 2) {
-        let n = spell(part, &mut text);
-        page.add(&text[..n]);
+#[derive(Clone, Copy)]
+pub struct Bytes<'a>(pub &'a [u8]);
+
+impl fmt::Display for Bytes<'_> {
+    fn fmt<W: fmt::Write>(&self, f: &mut fmt::Formatter<W>) -> fmt::Result {
+        if self.0.is_empty() {
+            return f.write_str("-");
+        }
+        let mut text = [0; PIECE];
+        for part in self.0.chunks(PIECE / 2) {
+            let n = spell(part, &mut text);
+            put(&text[..n], f)?;
+        }
+        Ok(())
     }
 }
 

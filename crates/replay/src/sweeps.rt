@@ -2,7 +2,7 @@
 use crate::lent::Lent;
 use crate::page::Page;
 use crate::runs::{values, words_after};
-use crate::show::words;
+use crate::show::Words;
 use std::fmt;
 use std::fmt::Write;
 
@@ -28,7 +28,5 @@ pub fn other(lines: &[u8], numbers: &[u16; 32], lent: &mut Lent, page: &mut Page
 
 // The lent buffers.
 fn after(trace: &[u16], counters: &[u16], page: &mut Page) -> fmt::Result {
-    page.add(b" ");
-    words(trace, page);
-    writeln!(page, " {}", words_after(counters))
+    writeln!(page, " {} {}", Words(trace), words_after(counters))
 }
