@@ -23,12 +23,9 @@ pub fn run_lines(
     requires { Going (lines_in table.now.lines.now) budget (parts_in start counters.old trace.old) }
     ensures { stopped_with result counters.new trace.new ≡ run_of table.now.lines.now (map_in table.now) budget (parts_in start counters.old trace.old) }
 {
-    let Runnable {
-        lines,
-        starts,
-        owners,
-        home,
-    } = table;
+    // By value: lent with the table they are read from memory again at each step, and a run took a fifth longer.
+    let lines = table.lines;
+    let home = table.home;
     let mut resumes = start.resumes;
     let mut functions = start.functions;
     let mut variables = start.variables;
@@ -38,9 +35,9 @@ pub fn run_lines(
         let steps = h.steps + 1;
         let t = step::line(
             lines,
-            starts,
-            owners,
-            *home,
+            &table.starts,
+            &table.owners,
+            home,
             h,
             &mut resumes,
             &mut functions,

@@ -32,14 +32,7 @@ pub fn stood<P: Print>(cells: &[Rank], width: u16, page: &mut Page<P>) {
 }
 
 // The cells of one rank, where there are any.
-fn path<P: Print>(
-    class: u8,
-    r: Rank,
-    cells: &[Rank],
-    place: u16,
-    most: usize,
-    page: &mut Page<P>,
-) {
+fn path<P: Print>(class: u8, r: Rank, cells: &[Rank], place: u16, most: usize, page: &mut Page<P>) {
     if !cells.contains(&r) {
         return;
     }
@@ -74,13 +67,7 @@ fn unfinished<P: Print>(cells: &[Rank], place: u16, page: &mut Page<P>) -> bool 
 }
 
 // Place m has no line.
-fn labels<P: Print>(
-    lines: &[u8],
-    first: u16,
-    place: u16,
-    cells: &[Rank],
-    page: &mut Page<P>,
-)
+fn labels<P: Print>(lines: &[u8], first: u16, place: u16, cells: &[Rank], page: &mut Page<P>)
     requires { (first + length cells.now ≤ max_lines) × (line_width * (first + length cells.now) ≤ length lines.now) }
 {
     if cells.len() <= place as usize {

@@ -108,7 +108,12 @@ pub fn end<P: Print>(r: Swept, m: u16, mixed: bool, page: &mut Page<P>)
     page.word(b".5\" y=\"-1.4\">m</text>\n");
     legend(m, page);
     if mixed {
-        entry(b'x', b"not finished from some of these places", m + 11, page);
+        entry(
+            b'x',
+            b"not finished from some of these places",
+            m + 11,
+            page,
+        );
         counts(r, m + 13, page);
         return;
     }

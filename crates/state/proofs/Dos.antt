@@ -47,5 +47,8 @@ module _ (o : Operands) (row : ℕ) (h : Registers) (vs tr : List ℕ) {c : Comp
   pub did-fits : {d : Done} {to x : ℕ} → c ≡ Fits to x → d ≡ put_of to x row h vs tr → d ≡ did_of o row h vs tr
   did-fits e m = m ∙ sym (did-is ∙ ap (λ y. did_by y o.p row h vs tr) e)
 
+  pub did-own : {d : Done} {to x : ℕ} → c ≡ Fits to x → d ≡ put_of o.p x row h vs tr → d ≡ did_of o row h vs tr
+  did-own {x = x} e m = did-fits e (m ∙ ap (λ p. put_of p x row h vs tr) (sym (fits-own o vs q e)))
+
   pub did-overflows : {r : Moved} → c ≡ Overflows → r ≡ moved (Overflow row (variable vs o.p)) h → done r vs tr ≡ did_of o row h vs tr
   did-overflows e m = ap (λ y. done y vs tr) m ∙ sym (did-is ∙ ap (λ y. did_by y o.p row h vs tr) e)

@@ -58,7 +58,8 @@ pub fn act(
 {
     let c = variables::compute(o, variables);
     match c {
-        Some((p, x)) => put(p, x, row, h, variables, trace),
+        // The variable is the do's own. Taken from the pair it would be kept in one word with the number (docs/SPEED.md).
+        Some((_, x)) => put(o.p as u16, x, row, h, variables, trace),
         None => {
             let held = variables[o.p as usize];
             over(row, held, h)

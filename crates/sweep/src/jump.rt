@@ -8,7 +8,11 @@ use state::machine::Registers;
 
 // Where a line is past the do, the do is left out; where it is the do itself, that is done twice.
 fn outcome(from: u16, to: u16) -> &'static str {
-    if from < to { " left out\n" } else { " done twice\n" }
+    if from < to {
+        " left out\n"
+    } else {
+        " done twice\n"
+    }
 }
 
 // The do's line is the lower of the two; its e is its row.
