@@ -4,3 +4,4 @@ pub mod Malformed
 pub mod Page
 pub mod Input
 pub mod Cases
+pub mod Sheet

@@ -8,6 +8,7 @@ mod malformed;
 pub mod number;
 pub mod output;
 pub mod page;
+pub mod sheet;
 pub mod standard_error;
 pub mod start;
 pub mod word;
