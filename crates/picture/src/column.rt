@@ -6,24 +6,25 @@ ghost use Rattle.rules.specs.Line.{line_width};
 use crate::label;
 use crate::runs::{Drawn, Run, piece};
 use cells::rank::Rank;
-use console::page::Page;
+use console::sheet::{Sheet, Written};
 use line::read;
+use std::fmt;
 
 // Runs that are drawn one by one.
 const FEW: usize = 8;
 
-fn open<P: Print>(class: u8, page: &mut Page<P>) {
+fn open<S: Sheet>(class: u8, page: &mut S) {
     page.word(b"<path class=\"");
     page.put(class);
     page.word(b"\" d=\"");
 }
 
-fn close<P: Print>(page: &mut Page<P>) {
+fn close<S: Sheet>(page: &mut S) {
     page.word(b"\"/>\n");
 }
 
 // The places where the run stood: every strike out of them to a wide place is an alarm, but for those that are drawn over it.
-pub fn stood<P: Print>(cells: &[Rank], width: u16, page: &mut Page<P>) {
+pub fn stood_on<S: Sheet>(cells: &[Rank], width: u16, page: &mut S) {
     open(b'a', page);
     for run in Drawn::Struck.runs(cells) {
         piece(0, width, run, page);
@@ -31,8 +32,14 @@ pub fn stood<P: Print>(cells: &[Rank], width: u16, page: &mut Page<P>) {
     close(page);
 }
 
+pub fn stood<W: fmt::Write>(cells: &[Rank], width: u16, page: &mut W) -> fmt::Result {
+    let mut written = Written::new(page);
+    stood_on(cells, width, &mut written);
+    written.result
+}
+
 // The cells of one rank, where there are any.
-fn path<P: Print>(class: u8, r: Rank, cells: &[Rank], place: u16, most: usize, page: &mut Page<P>) {
+fn path<S: Sheet>(class: u8, r: Rank, cells: &[Rank], place: u16, most: usize, page: &mut S) {
     if !cells.contains(&r) {
         return;
     }
@@ -55,7 +62,7 @@ fn behind_few(cells: &[Rank]) -> Option<Run> {
 }
 
 // Eight runs at most, so that the picture stays small: all behind them is one piece of another class. Whether there are any.
-fn unfinished<P: Print>(cells: &[Rank], place: u16, page: &mut Page<P>) -> bool {
+fn unfinished<S: Sheet>(cells: &[Rank], place: u16, page: &mut S) -> bool {
     path(b'u', Rank::Unfinished, cells, place, FEW, page);
     let Some(behind) = behind_few(cells) else {
         return false;
@@ -67,7 +74,7 @@ fn unfinished<P: Print>(cells: &[Rank], place: u16, page: &mut Page<P>) -> bool 
 }
 
 // Place m has no line.
-fn labels<P: Print>(lines: &[u8], first: u16, place: u16, cells: &[Rank], page: &mut Page<P>)
+fn labels<S: Sheet>(lines: &[u8], first: u16, place: u16, cells: &[Rank], page: &mut S)
     requires { (first + length cells.now ≤ max_lines) × (line_width * (first + length cells.now) ≤ length lines.now) }
 {
     if cells.len() <= place as usize {
@@ -80,13 +87,7 @@ fn labels<P: Print>(lines: &[u8], first: u16, place: u16, cells: &[Rank], page: 
 
 // The column of this place of the function whose lines begin with `first`; a cell for each of them. Whether it had more runs than are drawn
 // one by one.
-pub fn draw<P: Print>(
-    lines: &[u8],
-    first: u16,
-    place: u16,
-    cells: &[Rank],
-    page: &mut Page<P>,
-) -> bool
+pub fn draw_on<S: Sheet>(lines: &[u8], first: u16, place: u16, cells: &[Rank], page: &mut S) -> bool
     requires { (first + length cells.now ≤ max_lines) × (line_width * (first + length cells.now) ≤ length lines.now) }
 {
     let mixed = unfinished(cells, place, page);
@@ -95,4 +96,19 @@ pub fn draw<P: Print>(
     labels(lines, first, place, cells, page);
     label::number(place, page);
     mixed
+}
+
+pub fn draw<W: fmt::Write>(
+    lines: &[u8],
+    first: u16,
+    place: u16,
+    cells: &[Rank],
+    page: &mut W,
+) -> Result<bool, fmt::Error>
+    requires { (first + length cells.now ≤ max_lines) × (line_width * (first + length cells.now) ≤ length lines.now) }
+{
+    let mut written = Written::new(page);
+    let mixed = draw_on(lines, first, place, cells, &mut written);
+    written.result?;
+    Ok(mixed)
 }

@@ -2,11 +2,12 @@
 ghost use Rattle.std.specs.Prelude.{◌≤◌};
 ghost use Rattle.rules.specs.Limits.{max_lines};
 
-use console::page::Page;
+use console::sheet::{Sheet, Written};
 use rules::answer::Swept;
+use std::fmt;
 
 // The size of a function of m lines: 12 pixels a cell.
-fn open<P: Print>(m: u16, page: &mut Page<P>)
+fn open<S: Sheet>(m: u16, page: &mut S)
     requires { m ≤ max_lines }
 {
     let wide = m + 38;
@@ -22,7 +23,7 @@ fn open<P: Print>(m: u16, page: &mut Page<P>)
 }
 
 // Each class differs in shape as well as in colour.
-fn looks<P: Print>(page: &mut Page<P>) {
+fn looks<S: Sheet>(page: &mut S) {
     page.word(
         b"<style>svg{background:#fff}text{font:.9px sans-serif;fill:#222}.l{text-anchor:end}.t{text-anchor:middle}.h{font-size:1.1px}.n{fill:url(#n)}.a{fill:#bfe3c6}.g{fill:url(#g)}.s{fill:url(#s)}.o{fill:url(#o)}.u{fill:url(#u)}.x{fill:url(#x)}.mo{font-weight:bold;fill:#a00}.ms{fill:#777}.mu{fill:#853}</style>
 ",
@@ -40,7 +41,7 @@ fn looks<P: Print>(page: &mut Page<P>) {
     );
 }
 
-fn grid<P: Print>(class: u8, m: u16, page: &mut Page<P>)
+fn grid<S: Sheet>(class: u8, m: u16, page: &mut S)
     requires { m ≤ max_lines }
 {
     page.word(b"<rect class=\"");
@@ -51,7 +52,7 @@ fn grid<P: Print>(class: u8, m: u16, page: &mut Page<P>)
 }
 
 // Up to the grid, all of it as if the run had never stood there.
-pub fn begin<P: Print>(function: u8, m: u16, page: &mut Page<P>)
+pub fn begin_on<S: Sheet>(function: u8, m: u16, page: &mut S)
     requires { m ≤ max_lines }
 {
     open(m, page);
@@ -61,14 +62,30 @@ pub fn begin<P: Print>(function: u8, m: u16, page: &mut Page<P>)
     grid(b'n', m, page);
 }
 
+pub fn begin<W: fmt::Write>(function: u8, m: u16, page: &mut W) -> fmt::Result
+    requires { m ≤ max_lines }
+{
+    let mut written = Written::new(page);
+    begin_on(function, m, &mut written);
+    written.result
+}
+
 // A line for every five places.
-pub fn fifths<P: Print>(m: u16, page: &mut Page<P>)
+pub fn fifths_on<S: Sheet>(m: u16, page: &mut S)
     requires { m ≤ max_lines }
 {
     grid(b'g', m, page);
 }
 
-fn entry<P: Print>(class: u8, words: &[u8], y: u16, page: &mut Page<P>) {
+pub fn fifths<W: fmt::Write>(m: u16, page: &mut W) -> fmt::Result
+    requires { m ≤ max_lines }
+{
+    let mut written = Written::new(page);
+    fifths_on(m, &mut written);
+    written.result
+}
+
+fn entry<S: Sheet>(class: u8, words: &[u8], y: u16, page: &mut S) {
     page.word(b"<rect class=\"");
     page.put(class);
     page.named(b"\" y=\"", y.into());
@@ -81,7 +98,7 @@ fn entry<P: Print>(class: u8, words: &[u8], y: u16, page: &mut Page<P>) {
     page.word(b"</text>\n");
 }
 
-fn legend<P: Print>(m: u16, page: &mut Page<P>)
+fn legend<S: Sheet>(m: u16, page: &mut S)
     requires { m ≤ max_lines }
 {
     entry(b'a', b"alarm", m + 1, page);
@@ -91,7 +108,7 @@ fn legend<P: Print>(m: u16, page: &mut Page<P>)
     entry(b'n', b"the run never stood there", m + 9, page);
 }
 
-fn counts<P: Print>(r: Swept, y: u16, page: &mut Page<P>) {
+fn counts<S: Sheet>(r: Swept, y: u16, page: &mut S) {
     page.named(b"<text y=\"", y.into());
     page.named(b".8\">whole sweep: alarm ", r.alarms.into());
     page.named(b", same ", r.same.into());
@@ -101,7 +118,7 @@ fn counts<P: Print>(r: Swept, y: u16, page: &mut Page<P>) {
 }
 
 // Behind the columns. The class for many runs is told only where one of them has it.
-pub fn end<P: Print>(r: Swept, m: u16, mixed: bool, page: &mut Page<P>)
+pub fn end_on<S: Sheet>(r: Swept, m: u16, mixed: bool, page: &mut S)
     requires { m ≤ max_lines }
 {
     page.named(b"<text class=\"t\" x=\"", m.into());
@@ -118,4 +135,12 @@ pub fn end<P: Print>(r: Swept, m: u16, mixed: bool, page: &mut Page<P>)
         return;
     }
     counts(r, m + 11, page);
+}
+
+pub fn end<W: fmt::Write>(r: Swept, m: u16, mixed: bool, page: &mut W) -> fmt::Result
+    requires { m ≤ max_lines }
+{
+    let mut written = Written::new(page);
+    end_on(r, m, mixed, &mut written);
+    written.result
 }

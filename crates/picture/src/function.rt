@@ -7,10 +7,11 @@ ghost use Rattle.rules.specs.Function.{function_at};
 use crate::{column, frame};
 use cells::column::cells;
 use compare::spare::Spare;
-use console::page::Page;
+use console::sheet::{Sheet, Written};
 use line::Line;
 use machine::table::Runnable;
 use rules::answer::Swept;
+use std::fmt;
 use sweeper::unstruck::Unstruck;
 
 // The number of the last function: that of the last line.
@@ -22,12 +23,12 @@ pub fn last_of(table: &Runnable) -> u8
 }
 
 // Up to the columns. Where the run stood is told by any of them.
-fn background<P: Print>(
+fn background<S: Sheet>(
     run: &Unstruck,
     function: u8,
     counters: &mut [u16],
     spare: &mut Spare,
-    page: &mut Page<P>,
+    page: &mut S,
 )
     requires { (function < function_at (lines_in run.now.table.now.lines.now) (length (lines_in run.now.table.now.lines.now))) × (length counters.old ≡ counter_words) }
 {
@@ -36,19 +37,19 @@ fn background<P: Print>(
     let to = run.table.starts[f + 1];
     let m = to - from;
     let c = cells(run, function, 0, counters, spare);
-    frame::begin(function, m, page);
+    frame::begin_on(function, m, page);
     let own = &c[from as usize..to as usize];
-    column::stood(own, m + 1, page);
-    frame::fifths(m, page);
+    column::stood_on(own, m + 1, page);
+    frame::fifths_on(m, page);
 }
 
 // Whether any of them had more runs than are drawn one by one.
-fn columns<P: Print>(
+fn columns<S: Sheet>(
     run: &Unstruck,
     function: u8,
     counters: &mut [u16],
     spare: &mut Spare,
-    page: &mut Page<P>,
+    page: &mut S,
 ) -> bool
     requires { (function < function_at (lines_in run.now.table.now.lines.now) (length (lines_in run.now.table.now.lines.now))) × (length counters.old ≡ counter_words) }
 {
@@ -59,23 +60,38 @@ fn columns<P: Print>(
     for place in 0..=to - from {
         let c = cells(run, function, place, counters, spare);
         let own = &c[from as usize..to as usize];
-        mixed |= column::draw(run.table.lines, from, place, own, page);
+        mixed |= column::draw_on(run.table.lines, from, place, own, page);
     }
     mixed
 }
 
-pub fn draw<P: Print>(
+pub fn draw_on<S: Sheet>(
     run: &Unstruck,
     function: u8,
     swept: Swept,
     counters: &mut [u16],
     spare: &mut Spare,
-    page: &mut Page<P>,
+    page: &mut S,
 )
     requires { (function < function_at (lines_in run.now.table.now.lines.now) (length (lines_in run.now.table.now.lines.now))) × (length counters.old ≡ counter_words) }
 {
     background(run, function, counters, spare, page);
     let mixed = columns(run, function, counters, spare, page);
     let (_, m) = run.table.places_of(function);
-    frame::end(swept, m, mixed, page);
+    frame::end_on(swept, m, mixed, page);
+}
+
+pub fn draw<W: fmt::Write>(
+    run: &Unstruck,
+    function: u8,
+    swept: Swept,
+    counters: &mut [u16],
+    spare: &mut Spare,
+    page: &mut W,
+) -> fmt::Result
+    requires { (function < function_at (lines_in run.now.table.now.lines.now) (length (lines_in run.now.table.now.lines.now))) × (length counters.old ≡ counter_words) }
+{
+    let mut written = Written::new(page);
+    draw_on(run, function, swept, counters, spare, &mut written);
+    written.result
 }

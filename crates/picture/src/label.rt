@@ -3,7 +3,7 @@ ghost use Rattle.std.specs.Prelude.{◌+◌, ◌*◌, ◌≤◌, ◌<◌, length
 ghost use Rattle.rules.specs.Line.{line_width};
 
 use cells::rank::Rank;
-use console::page::Page;
+use console::sheet::Sheet;
 use line::kind::LineKind;
 use line::read;
 
@@ -21,7 +21,7 @@ fn name(kind: LineKind) -> &'static str {
 }
 
 // The line before this place.
-pub fn line<P: Print>(place: u16, kind: LineKind, page: &mut Page<P>) {
+pub fn line<S: Sheet>(place: u16, kind: LineKind, page: &mut S) {
     page.named(b"<text class=\"l\" x=\"-.4\" y=\"", place.into());
     page.named(b".8\">", place.into());
     page.put(b' ');
@@ -39,14 +39,7 @@ fn class(r: Rank) -> &'static str {
 }
 
 // The do of this line is crossed by the jump out of place y; nothing where the run never stood there.
-fn crossed<P: Print>(
-    lines: &[u8],
-    line: u16,
-    words: &[u8],
-    cells: &[Rank],
-    y: usize,
-    page: &mut Page<P>,
-)
+fn crossed<S: Sheet>(lines: &[u8], line: u16, words: &[u8], cells: &[Rank], y: usize, page: &mut S)
     requires { line_width * line + line_width ≤ length lines.now }
 {
     let r = cells.get(y).copied().unwrap_or(Rank::Never);
@@ -65,13 +58,13 @@ fn crossed<P: Print>(
 }
 
 // The narrow jump to this place comes back to a do from its tick, or past it from the do.
-pub fn narrow<P: Print>(
+pub fn narrow<S: Sheet>(
     lines: &[u8],
     first: u16,
     place: u16,
     kind: LineKind,
     cells: &[Rank],
-    page: &mut Page<P>,
+    page: &mut S,
 )
     requires { (first + place < 65535) × (line_width * (first + place) + line_width ≤ length lines.now) }
 {
@@ -86,7 +79,7 @@ pub fn narrow<P: Print>(
 }
 
 // Every fifth place is numbered.
-pub fn number<P: Print>(place: u16, page: &mut Page<P>) {
+pub fn number<S: Sheet>(place: u16, page: &mut S) {
     if place % 5 != 0 {
         return;
     }

@@ -3,7 +3,7 @@ ghost use Rattle.std.specs.Prelude.{◌-◌, ◌≤◌, length};
 ghost use Rattle.std.specs.Iterator.{at_most};
 
 use cells::rank::Rank;
-use console::page::Page;
+use console::sheet::Sheet;
 
 // Which cells are drawn.
 #[derive(Clone, Copy)]
@@ -69,7 +69,7 @@ impl Iterator for Runs<'_> {
 }
 
 // A run, `width` columns from this place on.
-pub fn piece<P: Print>(place: u16, width: u16, run: Run, page: &mut Page<P>) {
+pub fn piece<S: Sheet>(place: u16, width: u16, run: Run, page: &mut S) {
     let height = run.to.abs_diff(run.from);
     page.named(b"M", place.into());
     page.named(b" ", run.from as u64);

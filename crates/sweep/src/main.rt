@@ -15,6 +15,8 @@ mod answer;
 mod jump;
 mod list;
 mod map;
+#[cfg(test)]
+mod tests;
 
 use command::sweep_words::{SweepAsked, SweepFault};
 use command::{sweep_words, wrong};

@@ -33,5 +33,5 @@ pub fn show<P: Print>(
         tell_missing(wanted, last);
         return;
     }
-    function::draw(run, wanted, swept, counters, spare, page);
+    function::draw_on(run, wanted, swept, counters, spare, page);
 }
