@@ -12,6 +12,8 @@
 ghost use Rattle.std.specs.Prelude.{◌≡◌, length};
 
 mod answer;
+#[cfg(test)]
+mod tests;
 
 use command::arguments::{Asked, Jump, Mode};
 use command::{arguments, wrong};
@@ -130,11 +132,11 @@ fn list_steps<P: Print>(
     let variables = a.variables_or_zero();
     let budget = a.budget_or_most();
     if a.mode == Mode::Source {
-        return Some(source_steps::tell(table, variables, budget, a.show, trace, page));
+        return Some(source_steps::tell_on(table, variables, budget, a.show, trace, page));
     }
     if a.show {
         let strike = a.jump.and_then(|jump| strike_by(jump.step, jump.place));
-        hardened_steps::list(table, variables, budget, strike, trace, page);
+        hardened_steps::list_on(table, variables, budget, strike, trace, page);
     }
     None
 }

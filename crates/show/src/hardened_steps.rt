@@ -10,8 +10,9 @@ ghost use Rattle.machine.specs.Stands.{Going};
 ghost use Rattle.strike.specs.Struck.{struck_of};
 ghost use Rattle.show.specs.Due.{turn_of};
 
+use crate::writer::Lines;
 use crate::{due, limit, line_text};
-use console::page::Page;
+use console::sheet::Sheet;
 use guard::counters;
 use machine::run;
 use machine::table::Runnable;
@@ -19,17 +20,18 @@ use rules::limits::{COUNTERS, VARIABLES};
 use rules::step::Step;
 use rules::strike::Jump;
 use state::machine::{Machine, Stopped, begun};
+use std::fmt;
 use strike::struck::land;
 
 // What comes next is listed, and then made: the jump that is due, with no step after it, or one step. The run goes on where it can't be
 // listed: what is lost the page knows.
-fn turn<P: Print>(
+fn turn<S: Sheet>(
     table: &Runnable,
     machine: Machine,
     strike: Option<Jump>,
     counters: &mut [u16],
     trace: &mut [u16],
-    page: &mut Page<P>,
+    page: &mut S,
 ) -> Stopped
     requires { Going (lines_in table.now.lines.now) 1 (parts_in machine counters.old trace.old) }
     ensures { stopped_with result counters.new trace.new ≡ turn_of table.now.lines.now (map_in table.now) strike (parts_in machine counters.old trace.old) }
@@ -44,14 +46,14 @@ fn turn<P: Print>(
     run::step(table, machine, counters, trace)
 }
 
-fn walk<P: Print>(
+fn walk<S: Sheet>(
     table: &Runnable,
     start: Machine,
     budget: u16,
     strike: Option<Jump>,
     counters: &mut [u16],
     trace: &mut [u16],
-    page: &mut Page<P>,
+    page: &mut S,
 ) -> Stopped
     requires { Going (lines_in table.now.lines.now) budget (parts_in start counters.old trace.old) }
     ensures { stopped_with result counters.new trace.new ≡ struck_of table.now.lines.now (map_in table.now) budget strike (parts_in start counters.old trace.old) }
@@ -85,13 +87,13 @@ fn no_counters() -> [u16; COUNTERS]
 }
 
 // The steps of a hardened table's run. What it leaves in the trace is not looked at afterwards.
-fn list_accepted<P: Print>(
+fn list_accepted<S: Sheet>(
     lines: &[u8],
     variables: [u16; VARIABLES],
     budget: u16,
     strike: Option<Jump>,
     trace: &mut [u16],
-    page: &mut Page<P>,
+    page: &mut S,
 )
     requires lines_value { is_hardened_lem lines.now ≡ true }
     requires budget_in_bounds { budget ≤ length trace.old }
@@ -106,17 +108,31 @@ fn list_accepted<P: Print>(
 }
 
 // Nothing is listed where the lines are no hardened table.
-pub fn list<P: Print>(
+pub fn list_on<S: Sheet>(
     lines: &[u8],
     variables: [u16; VARIABLES],
     budget: u16,
     strike: Option<Jump>,
     trace: &mut [u16],
-    page: &mut Page<P>,
+    page: &mut S,
 )
     requires { budget ≤ length trace.old }
 {
     if reader::is_hardened(lines) {
         list_accepted(lines, variables, budget, strike, trace, page);
     }
+}
+
+pub fn list<W: fmt::Write>(
+    lines: &[u8],
+    variables: [u16; VARIABLES],
+    budget: u16,
+    strike: Option<Jump>,
+    trace: &mut [u16],
+    page: &mut W,
+)
+    requires { budget ≤ length trace.old }
+{
+    let mut written = Lines::new(page);
+    list_on(lines, variables, budget, strike, trace, &mut written);
 }

@@ -1,4 +1,5 @@
-// The steps of a run as a text: each is listed before it is made.
+// The steps of a run as a text: each is listed before it is made, by `.._on` on a sheet, such as the page of standard output, by the other
+// public function into any writer.
 #![tactic(auto)]
 
 mod due;
@@ -8,3 +9,4 @@ mod limit;
 mod line_text;
 mod row_text;
 pub mod source_steps;
+mod writer;

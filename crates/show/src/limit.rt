@@ -1,8 +1,8 @@
 // The limit that a run met, or the row that overflows, as `show` lists it behind the steps.
-use console::page::Page;
+use console::sheet::Sheet;
 use rules::step::Step;
 
-pub fn list<P: Print>(s: Step, page: &mut Page<P>) {
+pub fn list<S: Sheet>(s: Step, page: &mut S) {
     match s {
         Step::Went(_) | Step::Finished | Step::Alarm => {}
         Step::TooManyOpen(n) => {

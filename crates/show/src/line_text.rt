@@ -7,7 +7,7 @@ ghost use Rattle.machine.specs.Ready.{LineHere};
 ghost use Rattle.show.specs.Listed.{Placed};
 
 use crate::front;
-use console::page::Page;
+use console::sheet::Sheet;
 use guard::counters::get;
 use line::kind::LineKind;
 use line::{Line, read};
@@ -28,7 +28,7 @@ fn name(kind: LineKind) -> &'static str {
 }
 
 // ` counter R holds V`
-fn counter<P: Print>(r: u8, depth: u16, counters: &[u16], page: &mut Page<P>)
+fn counter<S: Sheet>(r: u8, depth: u16, counters: &[u16], page: &mut S)
     requires { (r < max_regions) × (Room depth counters.now) }
 {
     page.named(b" counter ", r.into());
@@ -36,7 +36,7 @@ fn counter<P: Print>(r: u8, depth: u16, counters: &[u16], page: &mut Page<P>)
 }
 
 // The counters that a line looks at: a leave at two, a ret at region 0's, a do at none.
-fn looked<P: Print>(kind: LineKind, l: Line, depth: u16, counters: &[u16], page: &mut Page<P>)
+fn looked<S: Sheet>(kind: LineKind, l: Line, depth: u16, counters: &[u16], page: &mut S)
     requires { (FieldsIn kind l) × (Room depth counters.now) }
 {
     match kind {
@@ -53,14 +53,14 @@ fn looked<P: Print>(kind: LineKind, l: Line, depth: u16, counters: &[u16], page:
 }
 
 // A back looks also at where the function that returned last ended.
-fn ended<P: Print>(kind: LineKind, last: u16, page: &mut Page<P>) {
+fn ended<S: Sheet>(kind: LineKind, last: u16, page: &mut S) {
     if matches!(kind, LineKind::Back) {
         page.named(b" ended ", last.into());
     }
 }
 
 // The return from place m: the host looks at region 0's counter of a function 0 that is the only open one.
-fn end<P: Print>(depth: u16, counters: &[u16], page: &mut Page<P>)
+fn end<S: Sheet>(depth: u16, counters: &[u16], page: &mut S)
     requires { Room depth counters.now }
 {
     page.word(b" end");
@@ -70,7 +70,7 @@ fn end<P: Print>(depth: u16, counters: &[u16], page: &mut Page<P>)
     page.put(b'\n');
 }
 
-fn line<P: Print>(lines: &[u8], h: Registers, counters: &[u16], page: &mut Page<P>)
+fn line<S: Sheet>(lines: &[u8], h: Registers, counters: &[u16], page: &mut S)
     requires { (LineHere lines.now h.at) × (Room h.depth counters.now) }
 {
     let kind = read::kind_at(lines, h.at);
@@ -80,7 +80,7 @@ fn line<P: Print>(lines: &[u8], h: Registers, counters: &[u16], page: &mut Page<
     page.put(b'\n');
 }
 
-pub fn list<P: Print>(table: &Runnable, h: Registers, counters: &[u16], page: &mut Page<P>)
+pub fn list<S: Sheet>(table: &Runnable, h: Registers, counters: &[u16], page: &mut S)
     requires { Placed table.now.lines.now table.now.starts h counters.now }
 {
     let f = h.function as usize;
@@ -95,7 +95,7 @@ pub fn list<P: Print>(table: &Runnable, h: Registers, counters: &[u16], page: &m
 }
 
 // The jump, before its step.
-pub fn list_jump<P: Print>(place: u16, page: &mut Page<P>) {
+pub fn list_jump<S: Sheet>(place: u16, page: &mut S) {
     page.named(b"jump to place ", place.into());
     page.put(b'\n');
 }

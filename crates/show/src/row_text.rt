@@ -2,7 +2,7 @@
 ghost use Rattle.layout.specs.Spot.{Inside};
 
 use crate::front;
-use console::page::Page;
+use console::sheet::Sheet;
 use layout::row;
 use rules::kind::Kind;
 use state::machine::Registers;
@@ -22,7 +22,7 @@ fn name(kind: Kind) -> &'static str {
     }
 }
 
-pub fn list<P: Print>(rows: &[u8], h: Registers, page: &mut Page<P>)
+pub fn list<S: Sheet>(rows: &[u8], h: Registers, page: &mut S)
     requires { Inside rows.now h.at }
 {
     let kind = row::kind(rows, usize::from(h.at));

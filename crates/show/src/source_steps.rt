@@ -10,9 +10,10 @@ ghost use Rattle.layout.specs.Spot.{Inside};
 ghost use Rattle.source.specs.Run.{parts_in, stopped_with, Going};
 ghost use Rattle.show.specs.Calls.{call_at, WalkedTo, CallsTold, spent_at};
 
+use crate::writer::Lines;
 use crate::{limit, row_text};
 use chain::{SIZE, link};
-use console::page::Page;
+use console::sheet::Sheet;
 use layout::row;
 use rows::kind::is_call;
 use rules::limits::{FUNCTIONS, ROWS, VARIABLES};
@@ -20,6 +21,7 @@ use rules::step::Step;
 use source::table::Runnable;
 use source::{goes, run};
 use state::machine::{Machine, Registers, Stopped, begun};
+use std::fmt;
 use table::links::TableLinks;
 
 // Where a walk stopped, and the calls on its way.
@@ -29,8 +31,8 @@ struct Walked {
     calls: u16,
 }
 
-// By named, word and put, whose promises hold where output is lost too: then the run goes on, and nothing is listed.
-fn list_step<P: Print>(rows: &[u8], h: Registers, show: bool, page: &mut Page<P>)
+// The run goes on where a step can't be listed. On a page that is by its named, word and put, whose promises hold where output is lost too.
+fn list_step<S: Sheet>(rows: &[u8], h: Registers, show: bool, page: &mut S)
     requires { Inside rows.now h.at }
 {
     if show {
@@ -38,7 +40,7 @@ fn list_step<P: Print>(rows: &[u8], h: Registers, show: bool, page: &mut Page<P>
     }
 }
 
-fn list_end<P: Print>(s: Step, show: bool, page: &mut Page<P>) {
+fn list_end<S: Sheet>(s: Step, show: bool, page: &mut S) {
     if show {
         limit::list(s, page);
     }
@@ -65,13 +67,13 @@ fn spent(m: Machine) -> Stopped
     }
 }
 
-fn walk<P: Print>(
+fn walk<S: Sheet>(
     table: Runnable,
     start: Machine,
     budget: u16,
     trace: &mut [u16],
     show: bool,
-    page: &mut Page<P>,
+    page: &mut S,
 ) -> Walked
     requires { Going table.rows.now budget (parts_in start trace.old) }
     ensures { WalkedTo (table_of table.entry.rows.now) budget (parts_in start trace.old) (stopped_with result.stopped trace.new) result.calls }
@@ -97,7 +99,7 @@ fn walk<P: Print>(
 }
 
 // An accepted table's run.
-fn tell_accepted<P: Print>(
+fn tell_accepted<S: Sheet>(
     rows: &[u8],
     ends: &[u16; ROWS],
     elses: &[u16; ROWS],
@@ -106,7 +108,7 @@ fn tell_accepted<P: Print>(
     budget: u16,
     show: bool,
     trace: &mut [u16],
-    page: &mut Page<P>,
+    page: &mut S,
 ) -> u16
     requires rows_value { verdict_of rows.now ≡ Accepted }
     requires links { Links (table_of rows.now) ends.now elses.now heads.now }
@@ -124,14 +126,14 @@ fn tell_accepted<P: Print>(
 }
 
 // A table with a switch, whose rows are those of its chain. Nothing is listed where the table is refused.
-fn tell_switched<P: Print>(
+fn tell_switched<S: Sheet>(
     rows: &[u8],
     links: &mut TableLinks,
     variables: [u16; VARIABLES],
     budget: u16,
     show: bool,
     trace: &mut [u16],
-    page: &mut Page<P>,
+    page: &mut S,
 ) -> u16
     requires { budget ≤ length trace.old }
     ensures { CallsTold rows.now budget variables page.old page.new result }
@@ -156,13 +158,13 @@ fn tell_switched<P: Print>(
 }
 
 // How many calls the run makes.
-pub fn tell<P: Print>(
+pub fn tell_on<S: Sheet>(
     rows: &[u8],
     variables: [u16; VARIABLES],
     budget: u16,
     show: bool,
     trace: &mut [u16],
-    page: &mut Page<P>,
+    page: &mut S,
 ) -> u16
     requires { budget ≤ length trace.old }
     ensures { CallsTold rows.now budget variables page.old page.new result }
@@ -182,4 +184,22 @@ pub fn tell<P: Print>(
             page,
         ),
     }
+}
+
+pub fn tell<W: fmt::Write>(
+    rows: &[u8],
+    variables: [u16; VARIABLES],
+    budget: u16,
+    show: bool,
+    trace: &mut [u16],
+    page: &mut W,
+) -> u16
+    requires { budget ≤ length trace.old }
+    ensures { CallsTold rows.now budget variables page.old page.new result }
+{
+    let mut written = Lines::new(page);
+    let calls = tell_on(rows, variables, budget, show, trace, &mut written);
+    // No effect at run time: the proof reads what the writer holds from the reference that comes back.
+    written.into_inner();
+    calls
 }

@@ -1,6 +1,6 @@
 use Rattle.std.proofs.Common.{arith}
 use Rattle.show.proofs.Told.{told-own}
-use Rattle.show.proofs.source_steps.tell.Goals as goal
+use Rattle.show.proofs.source_steps.tell_on.Goals as goal
 
 pub returns-in-Ok : goal.returns-in-Ok
 returns-in-Ok g c =
