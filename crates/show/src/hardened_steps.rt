@@ -10,7 +10,7 @@ ghost use Rattle.machine.specs.Stands.{Going};
 ghost use Rattle.strike.specs.Struck.{struck_of};
 ghost use Rattle.show.specs.Due.{turn_of};
 
-use crate::writer::Lines;
+use crate::line_writer::LineWriter;
 use crate::{due, limit, line_text};
 use console::sheet::Sheet;
 use guard::counters;
@@ -24,7 +24,7 @@ use std::fmt;
 use strike::struck::land;
 
 // What comes next is listed, and then made: the jump that is due, with no step after it, or one step. The run goes on where it can't be
-// listed: what is lost the page knows.
+// listed: what is lost the sheet knows.
 fn turn<S: Sheet>(
     table: &Runnable,
     machine: Machine,
@@ -133,6 +133,6 @@ pub fn list<W: fmt::Write>(
 )
     requires { budget ≤ length trace.old }
 {
-    let mut written = Lines::new(page);
+    let mut written = LineWriter::new(page);
     list_on(lines, variables, budget, strike, trace, &mut written);
 }

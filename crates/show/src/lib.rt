@@ -7,6 +7,6 @@ mod front;
 pub mod hardened_steps;
 mod limit;
 mod line_text;
+mod line_writer;
 mod row_text;
 pub mod source_steps;
-mod writer;

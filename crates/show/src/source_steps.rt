@@ -10,7 +10,7 @@ ghost use Rattle.layout.specs.Spot.{Inside};
 ghost use Rattle.source.specs.Run.{parts_in, stopped_with, Going};
 ghost use Rattle.show.specs.Calls.{call_at, WalkedTo, CallsTold, spent_at};
 
-use crate::writer::Lines;
+use crate::line_writer::LineWriter;
 use crate::{limit, row_text};
 use chain::{SIZE, link};
 use console::sheet::Sheet;
@@ -31,7 +31,7 @@ struct Walked {
     calls: u16,
 }
 
-// The run goes on where a step can't be listed. On a page that is by its named, word and put, whose promises hold where output is lost too.
+// The run goes on where a step can't be listed: what is lost the sheet knows.
 fn list_step<S: Sheet>(rows: &[u8], h: Registers, show: bool, page: &mut S)
     requires { Inside rows.now h.at }
 {
@@ -197,7 +197,7 @@ pub fn tell<W: fmt::Write>(
     requires { budget ≤ length trace.old }
     ensures { CallsTold rows.now budget variables page.old page.new result }
 {
-    let mut written = Lines::new(page);
+    let mut written = LineWriter::new(page);
     let calls = tell_on(rows, variables, budget, show, trace, &mut written);
     // No effect at run time: the proof reads what the writer holds from the reference that comes back.
     written.into_inner();

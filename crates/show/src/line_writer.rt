@@ -1,19 +1,19 @@
-// Any writer as the sheet of a list of steps: where a line can't be written the rest of it is left out, and the next one is tried.
+// Any writer as a sheet on which each line is tried: where one can't be written the rest of it is left out, and the next one begins anew.
 ghost use Rattle.std.specs.Prelude.{◌≡◌};
 
 use console::sheet::{Sheet, Written};
 use std::fmt;
 
 #[derive(Drop)]
-pub struct Lines<W: fmt::Write> {
+pub struct LineWriter<W: fmt::Write> {
     on: Written<W>,
 }
 
-impl<W: fmt::Write> Lines<W> {
+impl<W: fmt::Write> LineWriter<W> {
     pub fn new(to: W) -> Self
         ensures { result.on.to ≡ to }
     {
-        Lines {
+        LineWriter {
             on: Written::new(to),
         }
     }
@@ -25,7 +25,7 @@ impl<W: fmt::Write> Lines<W> {
     }
 }
 
-impl<W: fmt::Write> Sheet for Lines<W> {
+impl<W: fmt::Write> Sheet for LineWriter<W> {
     fn put(&mut self, b: u8) {
         self.word(&[b]);
     }
